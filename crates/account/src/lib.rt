@@ -1,0 +1,311 @@
+use terms::Terms;
+ghost use mathlib.Core.Path.{_≡_};
+ghost use Rattle.account.specs.Account.{noAccount, accountSound, accountZero, Posts, depositOf, payoutOf, approveOf, offerOf, reofferOf, debitOf, creditOf, acceptOf, lenderRepaidOf, blacklistOf};
+
+pub const COUNT_LIMIT: u32 = 1000000;
+
+// What the book holds of one account: what it has, what it lets the desk take, and its totals as a lender.
+pub struct Account {
+    pub balance: i64,
+    pub allowance: i64,
+    pub offered: i64,
+    pub accepted: i64,
+    pub pending: u32,
+    pub repaid: u32,
+    pub blacklisted: bool,
+}
+
+// A row looked up: whether it is there, and the row, which is zero where it is not.
+pub struct SeenAccount {
+    pub here: bool,
+    pub row: Account,
+}
+
+// An answer's number, 0 where the row was changed, and the row.
+pub struct AccountPosted {
+    pub answer: u64,
+    pub row: Account,
+}
+
+impl Account {
+    pub fn none() -> Account
+        ensures { λ r. ⌜ r ≡ noAccount ⌝ }
+    {
+        Account {
+            balance: 0,
+            allowance: 0,
+            offered: 0,
+            accepted: 0,
+            pending: 0,
+            repaid: 0,
+            blacklisted: false,
+        }
+    }
+
+    pub fn sound(self) -> bool
+        ensures { λ r. ⌜ r ≡ accountSound self ⌝ }
+    {
+        let a = money::in_total_range(self.balance);
+        let b = money::in_total_range(self.allowance);
+        let c = money::in_total_range(self.offered);
+        let d = money::in_total_range(self.accepted);
+        let p = self.pending;
+        let q = self.repaid;
+        a & b & c & d & (p <= COUNT_LIMIT) & (q <= COUNT_LIMIT)
+    }
+
+    pub fn zero(self) -> bool
+        ensures { λ r. ⌜ r ≡ accountZero self ⌝ }
+    {
+        let a = money::is_zero(self.balance);
+        let b = money::is_zero(self.allowance);
+        let c = money::is_zero(self.offered);
+        let d = money::is_zero(self.accepted);
+        let p = self.pending;
+        let q = self.repaid;
+        let x = self.blacklisted;
+        a & b & c & d & (p == 0) & (q == 0) & !x
+    }
+
+    pub fn deposit(mut self, amount: i64) -> AccountPosted
+        ensures { λ r. ⌜ Posts self (depositOf self amount) r ⌝ }
+    {
+        if !money::in_amount_range(amount) {
+            return AccountPosted {
+                answer: refusal::INVALID_INPUT,
+                row: self,
+            };
+        }
+        let m = money::shift(self.balance, amount);
+        if !m.ok {
+            return AccountPosted {
+                answer: refusal::OUT_OF_RANGE,
+                row: self,
+            };
+        }
+        self.balance = m.total;
+        AccountPosted {
+            answer: 0,
+            row: self,
+        }
+    }
+
+    pub fn payout(mut self, amount: i64) -> AccountPosted
+        ensures { λ r. ⌜ Posts self (payoutOf self amount) r ⌝ }
+    {
+        if !money::in_amount_range(amount) {
+            return AccountPosted {
+                answer: refusal::INVALID_INPUT,
+                row: self,
+            };
+        }
+        let m = money::lower(self.balance, amount);
+        if !m.ok {
+            return AccountPosted {
+                answer: refusal::BALANCE_SHORT,
+                row: self,
+            };
+        }
+        self.balance = m.total;
+        AccountPosted {
+            answer: 0,
+            row: self,
+        }
+    }
+
+    pub fn approve(mut self, amount: i64) -> AccountPosted
+        ensures { λ r. ⌜ Posts self (approveOf self amount) r ⌝ }
+    {
+        if !money::in_total_range(amount) {
+            return AccountPosted {
+                answer: refusal::INVALID_INPUT,
+                row: self,
+            };
+        }
+        self.allowance = amount;
+        AccountPosted {
+            answer: 0,
+            row: self,
+        }
+    }
+
+    // A new offer: the offered total grows by its amount, the count of offers by one.
+    pub fn offer(mut self, t: Terms) -> AccountPosted
+        ensures { λ r. ⌜ Posts self (offerOf self t) r ⌝ }
+    {
+        let m = money::shift(self.offered, t.amount);
+        if !m.ok {
+            return AccountPosted {
+                answer: refusal::OUT_OF_RANGE,
+                row: self,
+            };
+        }
+        let n = self.pending;
+        if COUNT_LIMIT <= n {
+            return AccountPosted {
+                answer: refusal::OUT_OF_RANGE,
+                row: self,
+            };
+        }
+        self.offered = m.total;
+        self.pending = n + 1;
+        AccountPosted {
+            answer: 0,
+            row: self,
+        }
+    }
+
+    // An amended offer: the offered total moves by the new amount minus the old.
+    pub fn reoffer(mut self, old: Terms, new: Terms) -> AccountPosted
+        ensures { λ r. ⌜ Posts self (reofferOf self old new) r ⌝ }
+    {
+        let m = money::change(self.offered, old.amount, new.amount);
+        if !m.ok {
+            return AccountPosted {
+                answer: refusal::OUT_OF_RANGE,
+                row: self,
+            };
+        }
+        self.offered = m.total;
+        AccountPosted {
+            answer: 0,
+            row: self,
+        }
+    }
+
+    // A settled amount leaves the lender: its allowance and its balance fall.
+    pub fn debit(mut self, t: Terms) -> AccountPosted
+        ensures { λ r. ⌜ Posts self (debitOf self t) r ⌝ }
+    {
+        let a = money::lower(self.allowance, t.amount);
+        if !a.ok {
+            return AccountPosted {
+                answer: refusal::ALLOWANCE_SHORT,
+                row: self,
+            };
+        }
+        let m = money::lower(self.balance, t.amount);
+        if !m.ok {
+            return AccountPosted {
+                answer: refusal::BALANCE_SHORT,
+                row: self,
+            };
+        }
+        self.allowance = a.total;
+        self.balance = m.total;
+        AccountPosted {
+            answer: 0,
+            row: self,
+        }
+    }
+
+    // A settled amount reaches the originator.
+    pub fn credit(mut self, t: Terms) -> AccountPosted
+        ensures { λ r. ⌜ Posts self (creditOf self t) r ⌝ }
+    {
+        let m = money::shift(self.balance, t.amount);
+        if !m.ok {
+            return AccountPosted {
+                answer: refusal::OUT_OF_RANGE,
+                row: self,
+            };
+        }
+        self.balance = m.total;
+        AccountPosted {
+            answer: 0,
+            row: self,
+        }
+    }
+
+    // A settled amount grows the lender's accepted total.
+    pub fn accept(mut self, t: Terms) -> AccountPosted
+        ensures { λ r. ⌜ Posts self (acceptOf self t) r ⌝ }
+    {
+        let m = money::shift(self.accepted, t.amount);
+        if !m.ok {
+            return AccountPosted {
+                answer: refusal::OUT_OF_RANGE,
+                row: self,
+            };
+        }
+        self.accepted = m.total;
+        AccountPosted {
+            answer: 0,
+            row: self,
+        }
+    }
+}
+
+impl SeenAccount {
+    // Repayment adds its flag to the count of repaid offers.
+    pub fn lender_repaid(self, allowed: bool, flag: u32) -> AccountPosted
+        ensures { λ r. ⌜ Posts (self .row) (lenderRepaidOf self allowed flag) r ⌝ }
+    {
+        let mut row = self.row;
+        if !allowed {
+            return AccountPosted {
+                answer: refusal::UNAUTHORIZED,
+                row: row,
+            };
+        }
+        if 1 < flag {
+            return AccountPosted {
+                answer: refusal::INVALID_INPUT,
+                row: row,
+            };
+        }
+        if !self.here {
+            return AccountPosted {
+                answer: refusal::NOT_FOUND,
+                row: row,
+            };
+        }
+        let n = row.repaid;
+        if COUNT_LIMIT < n {
+            return AccountPosted {
+                answer: refusal::OUT_OF_RANGE,
+                row: row,
+            };
+        }
+        if COUNT_LIMIT < n + flag {
+            return AccountPosted {
+                answer: refusal::OUT_OF_RANGE,
+                row: row,
+            };
+        }
+        row.repaid = n + flag;
+        AccountPosted {
+            answer: 0,
+            row: row,
+        }
+    }
+
+    pub fn blacklist(self, allowed: bool, code: u32) -> AccountPosted
+        ensures { λ r. ⌜ Posts (self .row) (blacklistOf self allowed code) r ⌝ }
+    {
+        let mut row = self.row;
+        if !allowed {
+            return AccountPosted {
+                answer: refusal::UNAUTHORIZED,
+                row: row,
+            };
+        }
+        if 1 < code {
+            return AccountPosted {
+                answer: refusal::INVALID_INPUT,
+                row: row,
+            };
+        }
+        if !self.here {
+            return AccountPosted {
+                answer: refusal::NOT_FOUND,
+                row: row,
+            };
+        }
+        row.blacklisted = code == 1;
+        AccountPosted {
+            answer: 0,
+            row: row,
+        }
+    }
+}
