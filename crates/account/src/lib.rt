@@ -1,6 +1,8 @@
 use terms::Terms;
 ghost use mathlib.Core.Path.{_≡_};
-ghost use Rattle.account.specs.Account.{noAccount, accountSound, accountZero, Posts, depositOf, payoutOf, approveOf, offerOf, reofferOf, debitOf, creditOf, acceptOf, lenderRepaidOf, blacklistOf};
+ghost use Rattle.refusal.specs.Rule.{answered};
+ghost use Rattle.account.specs.Account.{noAccount, accountSound, accountZero};
+ghost use Rattle.account.specs.Rules.{posted, depositOf, payoutOf, approveOf, offerOf, reofferOf, debitOf, creditOf, acceptOf, lenderRepaidOf, blacklistOf};
 
 pub const COUNT_LIMIT: u32 = 1000000;
 
@@ -68,7 +70,7 @@ impl Account {
     }
 
     pub fn deposit(mut self, amount: i64) -> AccountPosted
-        ensures { λ r. ⌜ Posts self (depositOf self amount) r ⌝ }
+        ensures { λ r. ⌜ r ≡ answered posted self (depositOf self amount) ⌝ }
     {
         if !money::in_amount_range(amount) {
             return AccountPosted {
@@ -91,7 +93,7 @@ impl Account {
     }
 
     pub fn payout(mut self, amount: i64) -> AccountPosted
-        ensures { λ r. ⌜ Posts self (payoutOf self amount) r ⌝ }
+        ensures { λ r. ⌜ r ≡ answered posted self (payoutOf self amount) ⌝ }
     {
         if !money::in_amount_range(amount) {
             return AccountPosted {
@@ -114,7 +116,7 @@ impl Account {
     }
 
     pub fn approve(mut self, amount: i64) -> AccountPosted
-        ensures { λ r. ⌜ Posts self (approveOf self amount) r ⌝ }
+        ensures { λ r. ⌜ r ≡ answered posted self (approveOf self amount) ⌝ }
     {
         if !money::in_total_range(amount) {
             return AccountPosted {
@@ -131,7 +133,7 @@ impl Account {
 
     // A new offer: the offered total grows by its amount, the count of offers by one.
     pub fn offer(mut self, t: Terms) -> AccountPosted
-        ensures { λ r. ⌜ Posts self (offerOf self t) r ⌝ }
+        ensures { λ r. ⌜ r ≡ answered posted self (offerOf self t) ⌝ }
     {
         let m = money::shift(self.offered, t.amount);
         if !m.ok {
@@ -157,7 +159,7 @@ impl Account {
 
     // An amended offer: the offered total moves by the new amount minus the old.
     pub fn reoffer(mut self, old: Terms, new: Terms) -> AccountPosted
-        ensures { λ r. ⌜ Posts self (reofferOf self old new) r ⌝ }
+        ensures { λ r. ⌜ r ≡ answered posted self (reofferOf self old new) ⌝ }
     {
         let m = money::change(self.offered, old.amount, new.amount);
         if !m.ok {
@@ -175,7 +177,7 @@ impl Account {
 
     // A settled amount leaves the lender: its allowance and its balance fall.
     pub fn debit(mut self, t: Terms) -> AccountPosted
-        ensures { λ r. ⌜ Posts self (debitOf self t) r ⌝ }
+        ensures { λ r. ⌜ r ≡ answered posted self (debitOf self t) ⌝ }
     {
         let a = money::lower(self.allowance, t.amount);
         if !a.ok {
@@ -201,7 +203,7 @@ impl Account {
 
     // A settled amount reaches the originator.
     pub fn credit(mut self, t: Terms) -> AccountPosted
-        ensures { λ r. ⌜ Posts self (creditOf self t) r ⌝ }
+        ensures { λ r. ⌜ r ≡ answered posted self (creditOf self t) ⌝ }
     {
         let m = money::shift(self.balance, t.amount);
         if !m.ok {
@@ -219,7 +221,7 @@ impl Account {
 
     // A settled amount grows the lender's accepted total.
     pub fn accept(mut self, t: Terms) -> AccountPosted
-        ensures { λ r. ⌜ Posts self (acceptOf self t) r ⌝ }
+        ensures { λ r. ⌜ r ≡ answered posted self (acceptOf self t) ⌝ }
     {
         let m = money::shift(self.accepted, t.amount);
         if !m.ok {
@@ -239,7 +241,7 @@ impl Account {
 impl SeenAccount {
     // Repayment adds its flag to the count of repaid offers.
     pub fn lender_repaid(self, allowed: bool, flag: u32) -> AccountPosted
-        ensures { λ r. ⌜ Posts (self .row) (lenderRepaidOf self allowed flag) r ⌝ }
+        ensures { λ r. ⌜ r ≡ answered posted (self .row) (lenderRepaidOf self allowed flag) ⌝ }
     {
         let mut row = self.row;
         if !allowed {
@@ -281,7 +283,7 @@ impl SeenAccount {
     }
 
     pub fn blacklist(self, allowed: bool, code: u32) -> AccountPosted
-        ensures { λ r. ⌜ Posts (self .row) (blacklistOf self allowed code) r ⌝ }
+        ensures { λ r. ⌜ r ≡ answered posted (self .row) (blacklistOf self allowed code) ⌝ }
     {
         let mut row = self.row;
         if !allowed {
