@@ -8,7 +8,7 @@ use lib.Signed.{leZ}
 use lib.Dec.{ltb}
 use borrow.Author.Tests.{ltb-true, ltb-false}
 use Rattle.money.specs.declared.Moved.{Moved}
-use Rattle.money.specs.Range.{inAmount, inTotal, moveBy, movedOf}
+use Rattle.money.specs.Range.{inAmount, inTotal, moveBy, movable, movedOf}
 use Rattle.money.specs.Facts.{both, never, total-pos, amount-total}
 
 move-ok : (b : Bool) (t d : ℤ) → moveBy b t d .ok ≡ b
@@ -67,3 +67,12 @@ changed (pos a) (pos b) (pos n) h k m = rw (← +ℤ-assoc (pos a) (pos n) (neg�
 changed (pos a) (pos b) (negsuc n) h k m = absurd (never m)
 changed (pos a) (negsuc b) new h k m = absurd (never k)
 changed (negsuc a) old new h k m = absurd (never h)
+
+-- what a caller learns of the move it asked for
+pub move-tells : {m : Moved} (t d : ℤ) → m ≡ movedOf t d → m .ok ≡ movable t d
+unfolding movedOf
+move-tells t d e = ap (λ (z : Moved). z .ok) e ∙ move-ok (movable t d) t d
+
+pub move-makes : {m : Moved} (t d : ℤ) → m ≡ movedOf t d → m .ok ≡ true → m .total ≡ t +ℤ d
+unfolding movedOf
+move-makes {m} t d e h = ap (λ (z : Moved). z .total) e ∙ ap (λ (b : Bool). moveBy b t d .total) (sym (move-tells t d e) ∙ h)

@@ -1,0 +1,36 @@
+use borrow.Author.Needs.{needs}
+use Rattle.account.proofs.Account.sound.Statement.{statement}
+use Rattle.account.proofs.Account.sound.Tie as tie
+use Rattle.account.proofs.Account.sound.Reads as reads
+use Rattle.account.proofs.Account.sound.Lts as lts
+use Rattle.money.proofs.in_total_range.Reads as in-total-range-reads
+
+-- src/lib.rt:50:13
+in-total-range-requires : tie.Need-in-total-range-requires
+in-total-range-requires c κs = search needs
+
+-- src/lib.rt:51:13
+in-total-range-requires-2 : tie.Need-in-total-range-requires-2
+in-total-range-requires-2 c κs = search needs
+
+-- src/lib.rt:52:13
+in-total-range-requires-3 : tie.Need-in-total-range-requires-3
+in-total-range-requires-3 c κs = search needs
+
+-- src/lib.rt:53:13
+in-total-range-requires-4 : tie.Need-in-total-range-requires-4
+in-total-range-requires-4 c κs = search needs
+
+-- src/lib.rt:47:5
+returns : tie.Need-returns
+returns c = ?
+
+pub sound-spec : {M : Type 1} → statement M
+sound-spec =
+    tie.close
+    (tie.spec
+    in-total-range-requires
+    in-total-range-requires-2
+    in-total-range-requires-3
+    in-total-range-requires-4
+    returns)
