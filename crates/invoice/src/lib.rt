@@ -1,0 +1,130 @@
+use terms::Terms;
+ghost use mathlib.Core.Path.{_≡_};
+ghost use Rattle.refusal.specs.Refusal.{first};
+ghost use Rattle.refusal.specs.Rule.{answered};
+ghost use Rattle.invoice.specs.Invoice.{noInvoice, invoiceOf, invoiceSound, invoiceZero, financed, covers, posted, cancelOf, registerChecks};
+
+// An invoice leaves Pending for good: as Financed by settlement, as Cancelled by its originator.
+pub const PENDING: u32 = 0;
+pub const FINANCED: u32 = 1;
+pub const CANCELLED: u32 = 2;
+
+pub struct Invoice {
+    pub originator: u64,
+    pub amount: i64,
+    pub status: u32,
+}
+
+// A row looked up: whether it is there, and the row, which is zero where it is not.
+pub struct SeenInvoice {
+    pub here: bool,
+    pub row: Invoice,
+}
+
+// An answer's number, 0 where the row was changed, and the row.
+pub struct InvoicePosted {
+    pub answer: u64,
+    pub row: Invoice,
+}
+
+impl Invoice {
+    pub fn none() -> Invoice
+        ensures { λ r. ⌜ r ≡ noInvoice ⌝ }
+    {
+        Invoice {
+            originator: 0,
+            amount: 0,
+            status: PENDING,
+        }
+    }
+
+    pub fn new(originator: u64, amount: i64) -> Invoice
+        ensures { λ r. ⌜ r ≡ invoiceOf originator amount ⌝ }
+    {
+        Invoice {
+            originator: originator,
+            amount: amount,
+            status: PENDING,
+        }
+    }
+
+    pub fn sound(self) -> bool
+        ensures { λ r. ⌜ r ≡ invoiceSound self ⌝ }
+    {
+        let a = money::in_amount_range(self.amount);
+        let s = self.status;
+        a & (s <= CANCELLED)
+    }
+
+    pub fn zero(self) -> bool
+        ensures { λ r. ⌜ r ≡ invoiceZero self ⌝ }
+    {
+        let o = self.originator;
+        let a = money::is_zero(self.amount);
+        let s = self.status;
+        (o == 0) & a & (s == 0)
+    }
+
+    pub fn financed(mut self) -> Invoice
+        ensures { λ r. ⌜ r ≡ financed self ⌝ }
+    {
+        self.status = FINANCED;
+        self
+    }
+
+    // Whether the amount of the terms is within the invoice's.
+    pub fn covers(self, t: Terms) -> bool
+        ensures { λ r. ⌜ r ≡ covers self t ⌝ }
+    {
+        money::at_most(t.amount, self.amount)
+    }
+}
+
+impl SeenInvoice {
+    pub fn cancel(self, caller: u64) -> InvoicePosted
+        ensures { λ r. ⌜ r ≡ answered posted (self .row) (cancelOf self caller) ⌝ }
+    {
+        let mut row = self.row;
+        if !self.here {
+            return InvoicePosted {
+                answer: refusal::NOT_FOUND,
+                row: row,
+            };
+        }
+        let o = row.originator;
+        if o != caller {
+            return InvoicePosted {
+                answer: refusal::UNAUTHORIZED,
+                row: row,
+            };
+        }
+        let s = row.status;
+        if s != PENDING {
+            return InvoicePosted {
+                answer: refusal::INVALID_TRANSITION,
+                row: row,
+            };
+        }
+        row.status = CANCELLED;
+        InvoicePosted {
+            answer: 0,
+            row: row,
+        }
+    }
+}
+
+// The number of what stands against a new invoice, 0 where nothing does.
+pub fn register_refusal(amount: i64, exists: bool, full: bool) -> u64
+    ensures { λ r. ⌜ r ≡ first (registerChecks amount exists full) ⌝ }
+{
+    if !money::in_amount_range(amount) {
+        return refusal::INVALID_INPUT;
+    }
+    if exists {
+        return refusal::ALREADY_EXISTS;
+    }
+    if full {
+        return refusal::NO_ROOM;
+    }
+    0
+}

@@ -1,0 +1,249 @@
+use terms::Terms;
+ghost use mathlib.Core.Path.{_≡_};
+ghost use Rattle.refusal.specs.Refusal.{first};
+ghost use Rattle.negotiation.specs.Rounds.{termsOf, roundOf, deadlineOf, statusOf, negotiable, addedOf, acceptedOf, closedAs, agreesOf, roundLimit, roundSound, roundZero, noNegotiation, negotiationSound, negotiationZero};
+ghost use Rattle.negotiation.specs.Whole.{Whole};
+
+pub const ROUND_LIMIT: u32 = 12;
+
+// Who put a round down.
+pub const LENDER: u32 = 0;
+pub const ORIGINATOR: u32 = 1;
+
+// Where a negotiation stands. Closed, Accepted and Expired can be stored as its outcome; 0 is no outcome.
+pub const NONE: u32 = 0;
+pub const OPEN: u32 = 1;
+pub const CLOSED: u32 = 2;
+pub const ACCEPTED: u32 = 3;
+pub const EXPIRED: u32 = 4;
+
+// 32 bytes, so that a book of sixteen rounds an offer stays small.
+pub struct Round {
+    pub amount: i64,
+    pub duration: u64,
+    pub time: u64,
+    pub rate: u32,
+    pub party: u32,
+}
+
+pub struct Negotiation {
+    pub rounds: [Round; 12],
+    pub deadline: u64,
+    pub len: u32,
+    pub outcome: u32,
+}
+
+impl Round {
+    pub fn new(now: u64, t: Terms, party: u32) -> Round
+        ensures { λ r. ⌜ r ≡ roundOf now t party ⌝ }
+    {
+        Round {
+            amount: t.amount,
+            duration: t.duration,
+            time: now,
+            rate: t.rate,
+            party: party,
+        }
+    }
+
+    pub fn terms(self) -> Terms
+        ensures { λ r. ⌜ r ≡ termsOf self ⌝ }
+    {
+        Terms {
+            amount: self.amount,
+            rate: self.rate,
+            duration: self.duration,
+        }
+    }
+
+    pub fn sound(self) -> bool
+        ensures { λ r. ⌜ r ≡ roundSound self ⌝ }
+    {
+        let t = self.terms();
+        let p = self.party;
+        terms::terms_valid(t) & (p <= ORIGINATOR)
+    }
+
+    pub fn zero(self) -> bool
+        ensures { λ r. ⌜ r ≡ roundZero self ⌝ }
+    {
+        let a = money::is_zero(self.amount);
+        let d = self.duration;
+        let t = self.time;
+        let p = self.rate;
+        let q = self.party;
+        a & (d == 0) & (t == 0) & (p == 0) & (q == 0)
+    }
+}
+
+// The end of the window that the first round opens; later rounds leave it.
+pub fn deadline_after(len: u32, now: u64, window: u64, old: u64) -> u64
+    ensures { λ r. ⌜ r ≡ deadlineOf len now window old ⌝ }
+{
+    if len != 0 {
+        return old;
+    }
+    if 18446744073709551615 - window < now {
+        return 18446744073709551615;
+    }
+    now + window
+}
+
+impl Negotiation {
+    pub fn none() -> Negotiation
+        ensures { λ r. ⌜ r ≡ noNegotiation ⌝ }
+    {
+        let r = Round {
+            amount: 0,
+            duration: 0,
+            time: 0,
+            rate: 0,
+            party: 0,
+        };
+        let rs = [r; 12];
+        Negotiation {
+            rounds: rs,
+            deadline: 0,
+            len: 0,
+            outcome: 0,
+        }
+    }
+
+    pub fn status(self, pending: bool, now: u64) -> u32
+        ensures { λ r. ⌜ r ≡ statusOf self pending now ⌝ }
+    {
+        let o = self.outcome;
+        if o != 0 {
+            return o;
+        }
+        let n = self.len;
+        if n == 0 {
+            return NONE;
+        }
+        if !pending {
+            return CLOSED;
+        }
+        let d = self.deadline;
+        if d < now {
+            return EXPIRED;
+        }
+        OPEN
+    }
+
+    // The number of what stands against one more round, 0 where nothing does.
+    pub fn refusal(self, pending: bool, now: u64, round: u32) -> u64
+        ensures { λ r. ⌜ r ≡ first (negotiable roundLimit self pending now round) ⌝ }
+    {
+        if !pending {
+            return refusal::INVALID_TRANSITION;
+        }
+        let s = self.status(pending, now);
+        if OPEN < s {
+            return refusal::INVALID_TRANSITION;
+        }
+        let n = self.len;
+        if n != round {
+            return refusal::INVALID_INPUT;
+        }
+        if ROUND_LIMIT <= n {
+            return refusal::INVALID_TRANSITION;
+        }
+        0
+    }
+
+    pub fn added(mut self, r: Round, window: u64) -> Negotiation
+        ensures { λ s. ⌜ s ≡ addedOf roundLimit self r window ⌝ }
+    {
+        let n = self.len;
+        if ROUND_LIMIT <= n {
+            return self;
+        }
+        let i = n as usize;
+        let t = r.time;
+        let old = self.deadline;
+        let d = deadline_after(n, t, window, old);
+        self.rounds[i] = r;
+        self.len = n + 1;
+        self.deadline = d;
+        self
+    }
+
+    // Accepted is stored where there are rounds and no outcome.
+    pub fn accepted(mut self) -> Negotiation
+        ensures { λ r. ⌜ r ≡ acceptedOf self ⌝ }
+    {
+        let n = self.len;
+        if n == 0 {
+            return self;
+        }
+        let o = self.outcome;
+        if o != 0 {
+            return self;
+        }
+        self.outcome = ACCEPTED;
+        self
+    }
+
+    pub fn closed(mut self, outcome: u32) -> Negotiation
+        ensures { λ r. ⌜ r ≡ closedAs outcome self ⌝ }
+    {
+        self.outcome = outcome;
+        self
+    }
+
+    // Whether the originator's latest round has these terms.
+    pub fn agrees(self, t: Terms) -> bool
+        ensures { λ r. ⌜ r ≡ agreesOf roundLimit self t ⌝ }
+    {
+        let n = self.len;
+        if ROUND_LIMIT < n {
+            return false;
+        }
+        let mut i = n as usize;
+        while 0 < i {
+            i -= 1;
+            let r = self.rounds[i];
+            let p = r.party;
+            if p == ORIGINATOR {
+                let u = r.terms();
+                return terms::same_terms(u, t);
+            }
+        }
+        false
+    }
+
+    pub fn sound(self) -> bool
+        ensures { λ r. ⌜ r ≡ negotiationSound roundLimit self ⌝ }
+    {
+        let n = self.len as usize;
+        let mut ok = true;
+        let mut i = 0;
+        while i < 12 {
+            let r = self.rounds[i];
+            let s = r.sound();
+            let z = r.zero();
+            ok = ok & (((i < n) & s) | ((n <= i) & z));
+            i += 1;
+        }
+        let o = self.outcome;
+        (n <= 12) & ok & ((o == 0) | ((2 <= o) & (o <= 4)))
+    }
+
+    pub fn zero(self) -> bool
+        ensures tested { λ r. ⌜ r ≡ negotiationZero roundLimit self ⌝ }
+        ensures whole { λ r. ⌜ Whole roundLimit self ⌝ }
+    {
+        let mut ok = true;
+        let mut i = 0;
+        while i < 12 {
+            let r = self.rounds[i];
+            let z = r.zero();
+            ok = ok & z;
+            i += 1;
+        }
+        let d = self.deadline;
+        let n = self.len;
+        let o = self.outcome;
+        ok & (d == 0) & (n == 0) & (o == 0)
+    }
+}

@@ -1,0 +1,154 @@
+-- Document 01, module 5: the checks of each command on an offer, in order, and the row after it.
+use Prim.Native.Nat.{ℕ}
+use mathlib.Core.Bool.{Bool, not, _&&_, _||_}
+use mathlib.Core.List.{List, [], _∷_, _++_}
+use lib.Dec.{leb, ltb, eqb}
+use lib.IntN.{ℤ}
+use Rattle.money.specs.Range.{inTotal, isZero}
+use Rattle.refusal.specs.Choice.{pick}
+use Rattle.refusal.specs.Refusal.{Check, _gives_, blacklisted, invalidInput, notFound, alreadyExists, unauthorized, invalidTransition, offerExpired, outOfRange, noRoom}
+use Rattle.refusal.specs.Rule.{Rule}
+use Rattle.terms.specs.Terms.{termsOk, countOk}
+use Rattle.terms.specs.Schedule.{listed}
+use Rattle.terms.specs.Installment.{installmentOf}
+use Rattle.terms.specs.declared.Terms.{Terms}
+use Rattle.negotiation.specs.Rounds.{roundLimit, statusOf, negotiable, closedAs}
+use Rattle.account.specs.declared.Account.{Account}
+use Rattle.account.specs.declared.SeenAccount.{SeenAccount}
+use Rattle.invoice.specs.Invoice.{covers}
+use Rattle.invoice.specs.declared.SeenInvoice.{SeenInvoice}
+use Rattle.offer.specs.declared.Deal.{Deal}
+use Rattle.offer.specs.declared.SeenDeal.{SeenDeal}
+use Rattle.offer.specs.Offer.{pending, expired, withOffer, withStatus, withRepaid, withNegotiation, withSchedule}
+
+-- Create: lender blacklisted 2; terms 3; invoice 4; invoice not Pending 7; lender is originator 3; amount above invoice 3; offer id 5; 12
+abbrev pub createChecks : ℕ → Account → Terms → SeenInvoice → Bool → Bool → List Check
+createChecks caller lender t paper exists full =
+    (lender .blacklisted gives blacklisted)
+    ∷ (not (termsOk t) gives invalidInput)
+    ∷ (not (paper .here) gives notFound)
+    ∷ (not (eqb (paper .row .status) 0) gives invalidTransition)
+    ∷ (eqb (paper .row .originator) caller gives invalidInput)
+    ∷ (not (covers (paper .row) t) gives invalidInput)
+    ∷ (exists gives alreadyExists)
+    ∷ (full gives noRoom)
+    ∷ []
+
+-- Withdraw: 4; not lender 6; not Pending 7
+abbrev pub withdrawOf : SeenDeal → ℕ → Rule Deal
+withdrawOf s caller = record {
+  checks =
+    (not (s .here) gives notFound)
+    ∷ (not (eqb (s .row .offer .lender) caller) gives unauthorized)
+    ∷ (not (pending (s .row)) gives invalidTransition)
+    ∷ [];
+  done = withOffer (withStatus 2 (s .row .offer)) (s .row);
+}
+
+-- Reject: 4; 7; invoice 4; not originator 6
+abbrev pub rejectOf : SeenDeal → ℕ → SeenInvoice → Rule Deal
+rejectOf s caller paper = record {
+  checks =
+    (not (s .here) gives notFound)
+    ∷ (not (pending (s .row)) gives invalidTransition)
+    ∷ (not (paper .here) gives notFound)
+    ∷ (not (eqb (paper .row .originator) caller) gives unauthorized)
+    ∷ [];
+  done = withOffer (withStatus 2 (s .row .offer)) (s .row);
+}
+
+-- Accept: 4; not Pending 7; expiry 8; invoice 4; 6; invoice not Pending 7; then settle
+abbrev pub acceptChecks : SeenDeal → ℕ → ℕ → SeenInvoice → List Check
+acceptChecks s now caller paper =
+    (not (s .here) gives notFound)
+    ∷ (not (pending (s .row)) gives invalidTransition)
+    ∷ (expired (s .row .offer) now gives offerExpired)
+    ∷ (not (paper .here) gives notFound)
+    ∷ (not (eqb (paper .row .originator) caller) gives unauthorized)
+    ∷ (not (eqb (paper .row .status) 0) gives invalidTransition)
+    ∷ []
+
+-- Amend: caller blacklisted 2; terms 3; 4; not lender 6; negotiable
+abbrev pub amendChecks : SeenDeal → ℕ → ℕ → Account → Terms → ℕ → List Check
+amendChecks s now caller lender t round =
+    (lender .blacklisted gives blacklisted)
+    ∷ (not (termsOk t) gives invalidInput)
+    ∷ (not (s .here) gives notFound)
+    ∷ (not (eqb (s .row .offer .lender) caller) gives unauthorized)
+    ∷ negotiable roundLimit (s .row .negotiation) (pending (s .row)) now round
+
+-- Counter: 2; 3; 4; invoice 4; not originator 6; negotiable
+abbrev pub counterChecks : SeenDeal → ℕ → ℕ → Account → Terms → ℕ → SeenInvoice → List Check
+counterChecks s now caller originator t round paper =
+    (originator .blacklisted gives blacklisted)
+    ∷ (not (termsOk t) gives invalidInput)
+    ∷ (not (s .here) gives notFound)
+    ∷ (not (paper .here) gives notFound)
+    ∷ (not (eqb (paper .row .originator) caller) gives unauthorized)
+    ∷ negotiable roundLimit (s .row .negotiation) (pending (s .row)) now round
+
+-- Agreement: invoice 4, not Pending 7; expiry 8; lender blacklisted 2; originator blacklisted 2 (each after its row 4); then settle
+abbrev pub agreementChecks : Deal → ℕ → SeenInvoice → SeenAccount → SeenAccount → List Check
+agreementChecks d now paper lender originator =
+    (not (paper .here) gives notFound)
+    ∷ (not (eqb (paper .row .status) 0) gives invalidTransition)
+    ∷ (expired (d .offer) now gives offerExpired)
+    ∷ (not (lender .here) gives notFound)
+    ∷ (lender .row .blacklisted gives blacklisted)
+    ∷ (not (originator .here) gives notFound)
+    ∷ (originator .row .blacklisted gives blacklisted)
+    ∷ []
+
+-- Close: outcome stored 7; None 4; Closed 7; Expired: anyone, as Expired; Open: lender or originator, else 6, as Closed
+abbrev pub standing : SeenDeal → ℕ → ℕ
+standing s now = statusOf (s .row .negotiation) (pending (s .row)) now
+
+abbrev pub outsider : SeenDeal → ℕ → ℕ → Bool
+outsider s now caller = eqb (standing s now) 1 && not (eqb (s .row .offer .lender) caller)
+
+unfoldable pub outcomeAt : ℕ → ℕ
+outcomeAt status = pick (eqb status 4) 4 2
+
+abbrev pub closeOf : SeenDeal → ℕ → ℕ → SeenInvoice → Rule Deal
+closeOf s now caller paper = record {
+  checks =
+    (not (eqb (s .row .negotiation .outcome) 0) gives invalidTransition)
+    ∷ (eqb (standing s now) 0 gives notFound)
+    ∷ (eqb (standing s now) 2 gives invalidTransition)
+    ∷ (outsider s now caller && not (paper .here) gives notFound)
+    ∷ (outsider s now caller && not (eqb (paper .row .originator) caller) gives unauthorized)
+    ∷ [];
+  done = withNegotiation (closedAs (outcomeAt (standing s now)) (s .row .negotiation)) (s .row);
+}
+
+-- Schedule: count 3; first_due ≤ now 3; code 3; 4; Rejected, Repaid or Defaulted 7; invoice 4; not lender or originator 6; installment 0 gives 3
+abbrev pub scheduleChecks : SeenDeal → ℕ → ℕ → ℕ → ℕ → ℕ → SeenInvoice → List Check
+scheduleChecks s now caller count code first paper =
+    (not (countOk count) gives invalidInput)
+    ∷ (leb first now gives invalidInput)
+    ∷ (not (listed code) gives invalidInput)
+    ∷ (not (s .here) gives notFound)
+    ∷ ((eqb (s .row .offer .status) 2 || eqb (s .row .offer .status) 4) || eqb (s .row .offer .status) 5 gives invalidTransition)
+    ∷ (not (paper .here) gives notFound)
+    ∷ (not (eqb (s .row .offer .lender) caller || eqb (paper .row .originator) caller) gives unauthorized)
+    ∷ []
+
+abbrev pub scheduleOf : SeenDeal → ℕ → ℕ → ℕ → ℕ → ℕ → SeenInvoice → Rule Deal
+scheduleOf s now caller count code first paper = record {
+  checks = scheduleChecks s now caller count code first paper ++ ((isZero (installmentOf (s .row .offer .terms) count .1) gives invalidInput) ∷ []);
+  done = withSchedule (record { count = count; code = code; installment = installmentOf (s .row .offer .terms) count .1; first = first }) (s .row);
+}
+
+-- Repayment's first update: caller 6; unlisted code 3; row 4. It sets the status
+abbrev pub statusUpdateOf : SeenDeal → Bool → ℕ → Rule Deal
+statusUpdateOf s allowed code = record {
+  checks = (not allowed gives unauthorized) ∷ (ltb 5 code gives invalidInput) ∷ (not (s .here) gives notFound) ∷ [];
+  done = withOffer (withStatus code (s .row .offer)) (s .row);
+}
+
+-- Repayment's second update: caller 6; row 4; out of range 11. It sets the amount repaid
+abbrev pub repaidUpdateOf : SeenDeal → Bool → ℤ → Rule Deal
+repaidUpdateOf s allowed x = record {
+  checks = (not allowed gives unauthorized) ∷ (not (s .here) gives notFound) ∷ (not (inTotal x) gives outOfRange) ∷ [];
+  done = withOffer (withRepaid x (s .row .offer)) (s .row);
+}

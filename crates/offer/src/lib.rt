@@ -1,0 +1,608 @@
+use account::Account;
+use account::SeenAccount;
+use invoice::SeenInvoice;
+use negotiation::Negotiation;
+use negotiation::Round;
+use terms::InstallmentAnswer;
+use terms::Schedule;
+use terms::Terms;
+ghost use mathlib.Core.Path.{_≡_};
+ghost use Rattle.refusal.specs.Refusal.{first};
+ghost use Rattle.refusal.specs.Refusal as Refusal;
+ghost use Rattle.refusal.specs.Rule.{answered};
+ghost use Rattle.terms.specs.Installment.{installmentOf};
+ghost use Rattle.negotiation.specs.Rounds.{roundLimit};
+ghost use Rattle.negotiation.specs.Whole.{Whole};
+ghost use Rattle.offer.specs.Offer.{noOffer, offerZero, noDeal, newDeal, dealSound, dealZero, expired, posted, settledDeal, amendedDeal, counteredDeal};
+ghost use Rattle.offer.specs.Rules.{createChecks, withdrawOf, rejectOf, acceptChecks, amendChecks, counterChecks, agreementChecks, outcomeAt, closeOf, scheduleChecks, scheduleOf, statusUpdateOf, repaidUpdateOf};
+
+// Where an offer stands.
+pub const PENDING: u32 = 0;
+pub const ACCEPTED: u32 = 1;
+pub const REJECTED: u32 = 2;
+pub const FINANCED: u32 = 3;
+pub const REPAID: u32 = 4;
+pub const DEFAULTED: u32 = 5;
+
+pub struct Offer {
+    pub terms: Terms,
+    pub invoice: u64,
+    pub lender: u64,
+    pub expires: u64,
+    pub funded: u64,
+    pub repaid: i64,
+    pub status: u32,
+}
+
+// An offer with its negotiation and its schedule: one row of the offers' table.
+pub struct Deal {
+    pub offer: Offer,
+    pub negotiation: Negotiation,
+    pub schedule: Schedule,
+}
+
+// A row looked up: whether it is there, and the row, which is zero where it is not.
+pub struct SeenDeal {
+    pub here: bool,
+    pub row: Deal,
+}
+
+// An answer's number, 0 where the row was changed, and the row.
+pub struct DealPosted {
+    pub answer: u64,
+    pub row: Deal,
+}
+
+fn refused(row: Deal, answer: u64) -> DealPosted
+    ensures { λ r. ⌜ r ≡ posted answer row ⌝ }
+{
+    DealPosted {
+        answer: answer,
+        row: row,
+    }
+}
+
+impl Offer {
+    pub fn none() -> Offer
+        ensures { λ r. ⌜ r ≡ noOffer ⌝ }
+    {
+        Offer {
+            terms: Terms {
+                amount: 0,
+                rate: 0,
+                duration: 0,
+            },
+            invoice: 0,
+            lender: 0,
+            expires: 0,
+            funded: 0,
+            repaid: 0,
+            status: PENDING,
+        }
+    }
+
+    pub fn expired(self, now: u64) -> bool
+        ensures { λ r. ⌜ r ≡ expired self now ⌝ }
+    {
+        let e = self.expires;
+        !(e == 0) & (e <= now)
+    }
+
+    pub fn zero(self) -> bool
+        ensures { λ r. ⌜ r ≡ offerZero self ⌝ }
+    {
+        let t = self.terms;
+        let a = money::is_zero(t.amount);
+        let p = t.rate;
+        let q = t.duration;
+        let i = self.invoice;
+        let l = self.lender;
+        let e = self.expires;
+        let f = self.funded;
+        let b = money::is_zero(self.repaid);
+        let s = self.status;
+        a & (p == 0) & (q == 0) & (i == 0) & (l == 0) & (e == 0) & (f == 0) & b & (s == 0)
+    }
+}
+
+impl Deal {
+    pub fn none() -> Deal
+        ensures { λ r. ⌜ r ≡ noDeal ⌝ }
+    {
+        let o = Offer::none();
+        let n = Negotiation::none();
+        Deal {
+            offer: o,
+            negotiation: n,
+            schedule: Schedule {
+                count: 0,
+                code: 0,
+                installment: 0,
+                first: 0,
+            },
+        }
+    }
+
+    pub fn new(lender: u64, invoice: u64, t: Terms, expires: u64) -> Deal
+        ensures { λ r. ⌜ r ≡ newDeal lender invoice t expires ⌝ }
+    {
+        let n = Negotiation::none();
+        Deal {
+            offer: Offer {
+                terms: t,
+                invoice: invoice,
+                lender: lender,
+                expires: expires,
+                funded: 0,
+                repaid: 0,
+                status: PENDING,
+            },
+            negotiation: n,
+            schedule: Schedule {
+                count: 0,
+                code: 0,
+                installment: 0,
+                first: 0,
+            },
+        }
+    }
+
+    pub fn sound(self) -> bool
+        ensures { λ r. ⌜ r ≡ dealSound self ⌝ }
+    {
+        let o = self.offer;
+        let t = o.terms;
+        let a = terms::terms_valid(t);
+        let b = money::in_total_range(o.repaid);
+        let s = o.status;
+        let n = self.negotiation;
+        let c = n.sound();
+        let p = self.schedule;
+        let d = terms::schedule_zero(p);
+        let e = terms::schedule_ok(p);
+        a & b & (s <= DEFAULTED) & c & (d | e)
+    }
+
+    pub fn zero(self) -> bool
+        ensures tested { λ r. ⌜ r ≡ dealZero self ⌝ }
+        ensures whole { λ r. ⌜ Whole roundLimit (self .negotiation) ⌝ }
+    {
+        let o = self.offer;
+        let a = o.zero();
+        let n = self.negotiation;
+        let b = n.zero();
+        let p = self.schedule;
+        let c = terms::schedule_zero(p);
+        a & b & c
+    }
+
+    // Settlement's part: the offer is Accepted and funded now, and so is its negotiation if it still runs.
+    pub fn settled(mut self, now: u64) -> Deal
+        ensures { λ r. ⌜ r ≡ settledDeal now self ⌝ }
+    {
+        let n = self.negotiation;
+        let next = n.accepted();
+        self.offer.status = ACCEPTED;
+        self.offer.funded = now;
+        self.negotiation = next;
+        self
+    }
+
+    // The lender's round: the offer takes its terms.
+    pub fn amended(mut self, now: u64, window: u64, t: Terms) -> Deal
+        ensures { λ r. ⌜ r ≡ amendedDeal now window t self ⌝ }
+    {
+        let n = self.negotiation;
+        let r = Round::new(now, t, negotiation::LENDER);
+        let next = n.added(r, window);
+        self.offer.terms = t;
+        self.negotiation = next;
+        self
+    }
+
+    // The originator's round: the offer keeps the lender's terms.
+    pub fn countered(mut self, now: u64, window: u64, t: Terms) -> Deal
+        ensures { λ r. ⌜ r ≡ counteredDeal now window t self ⌝ }
+    {
+        let n = self.negotiation;
+        let r = Round::new(now, t, negotiation::ORIGINATOR);
+        let next = n.added(r, window);
+        self.negotiation = next;
+        self
+    }
+
+    // The number of what stands against an agreement, 0 where nothing does.
+    pub fn agreement_refusal(
+        self,
+        now: u64,
+        paper: SeenInvoice,
+        lender: SeenAccount,
+        originator: SeenAccount,
+    ) -> u64
+        ensures { λ r. ⌜ r ≡ first (agreementChecks self now paper lender originator) ⌝ }
+    {
+        if !paper.here {
+            return refusal::NOT_FOUND;
+        }
+        let i = paper.row;
+        let s = i.status;
+        if !(s == invoice::PENDING) {
+            return refusal::INVALID_TRANSITION;
+        }
+        let o = self.offer;
+        if o.expired(now) {
+            return refusal::OFFER_EXPIRED;
+        }
+        if !lender.here {
+            return refusal::NOT_FOUND;
+        }
+        let l = lender.row;
+        if l.blacklisted {
+            return refusal::BLACKLISTED;
+        }
+        if !originator.here {
+            return refusal::NOT_FOUND;
+        }
+        let g = originator.row;
+        if g.blacklisted {
+            return refusal::BLACKLISTED;
+        }
+        0
+    }
+}
+
+// The number of what stands against a new offer, 0 where nothing does.
+pub fn create_refusal(
+    caller: u64,
+    lender: Account,
+    t: Terms,
+    paper: SeenInvoice,
+    exists: bool,
+    full: bool,
+) -> u64
+    ensures { λ r. ⌜ r ≡ first (createChecks caller lender t paper exists full) ⌝ }
+{
+    if lender.blacklisted {
+        return refusal::BLACKLISTED;
+    }
+    if !terms::terms_valid(t) {
+        return refusal::INVALID_INPUT;
+    }
+    if !paper.here {
+        return refusal::NOT_FOUND;
+    }
+    let i = paper.row;
+    let s = i.status;
+    if !(s == invoice::PENDING) {
+        return refusal::INVALID_TRANSITION;
+    }
+    let g = i.originator;
+    if g == caller {
+        return refusal::INVALID_INPUT;
+    }
+    if !i.covers(t) {
+        return refusal::INVALID_INPUT;
+    }
+    if exists {
+        return refusal::ALREADY_EXISTS;
+    }
+    if full {
+        return refusal::NO_ROOM;
+    }
+    0
+}
+
+// The installment, 0 where the terms or the count are out of range.
+fn installment_of(t: Terms, count: u32) -> i64
+    ensures { λ r. ⌜ r ≡ installmentOf t count .1 ⌝ }
+{
+    let InstallmentAnswer::Of(x) = terms::installment(t, count) else {
+        return 0;
+    };
+    x
+}
+
+// What a close stores of a negotiation that is Expired or Open.
+fn outcome_at(status: u32) -> u32
+    ensures { λ r. ⌜ r ≡ outcomeAt status ⌝ }
+{
+    if status == negotiation::EXPIRED {
+        return negotiation::EXPIRED;
+    }
+    negotiation::CLOSED
+}
+
+impl SeenDeal {
+    pub fn withdraw(self, caller: u64) -> DealPosted
+        ensures { λ r. ⌜ r ≡ answered posted (self .row) (withdrawOf self caller) ⌝ }
+    {
+        let mut row = self.row;
+        if !self.here {
+            return refused(row, refusal::NOT_FOUND);
+        }
+        let o = row.offer;
+        let l = o.lender;
+        if !(l == caller) {
+            return refused(row, refusal::UNAUTHORIZED);
+        }
+        let s = o.status;
+        if !(s == PENDING) {
+            return refused(row, refusal::INVALID_TRANSITION);
+        }
+        row.offer.status = REJECTED;
+        DealPosted {
+            answer: 0,
+            row: row,
+        }
+    }
+
+    pub fn reject(self, caller: u64, paper: SeenInvoice) -> DealPosted
+        ensures { λ r. ⌜ r ≡ answered posted (self .row) (rejectOf self caller paper) ⌝ }
+    {
+        let mut row = self.row;
+        if !self.here {
+            return refused(row, refusal::NOT_FOUND);
+        }
+        let o = row.offer;
+        let s = o.status;
+        if !(s == PENDING) {
+            return refused(row, refusal::INVALID_TRANSITION);
+        }
+        if !paper.here {
+            return refused(row, refusal::NOT_FOUND);
+        }
+        let i = paper.row;
+        let g = i.originator;
+        if !(g == caller) {
+            return refused(row, refusal::UNAUTHORIZED);
+        }
+        row.offer.status = REJECTED;
+        DealPosted {
+            answer: 0,
+            row: row,
+        }
+    }
+
+    // The number of what stands against an acceptance before it is settled, 0 where nothing does.
+    pub fn accept_refusal(self, now: u64, caller: u64, paper: SeenInvoice) -> u64
+        ensures { λ r. ⌜ r ≡ first (acceptChecks self now caller paper) ⌝ }
+    {
+        if !self.here {
+            return refusal::NOT_FOUND;
+        }
+        let d = self.row;
+        let o = d.offer;
+        let s = o.status;
+        if !(s == PENDING) {
+            return refusal::INVALID_TRANSITION;
+        }
+        if o.expired(now) {
+            return refusal::OFFER_EXPIRED;
+        }
+        if !paper.here {
+            return refusal::NOT_FOUND;
+        }
+        let i = paper.row;
+        let g = i.originator;
+        if !(g == caller) {
+            return refusal::UNAUTHORIZED;
+        }
+        let p = i.status;
+        if !(p == invoice::PENDING) {
+            return refusal::INVALID_TRANSITION;
+        }
+        0
+    }
+
+    // The number of what stands against the lender's round, 0 where nothing does.
+    pub fn amend_refusal(self, now: u64, caller: u64, lender: Account, t: Terms, round: u32) -> u64
+        ensures { λ r. ⌜ r ≡ first (amendChecks self now caller lender t round) ⌝ }
+    {
+        if lender.blacklisted {
+            return refusal::BLACKLISTED;
+        }
+        if !terms::terms_valid(t) {
+            return refusal::INVALID_INPUT;
+        }
+        if !self.here {
+            return refusal::NOT_FOUND;
+        }
+        let d = self.row;
+        let o = d.offer;
+        let l = o.lender;
+        if !(l == caller) {
+            return refusal::UNAUTHORIZED;
+        }
+        let s = o.status;
+        let n = d.negotiation;
+        n.refusal(s == PENDING, now, round)
+    }
+
+    // The number of what stands against the originator's round, 0 where nothing does.
+    pub fn counter_refusal(
+        self,
+        now: u64,
+        caller: u64,
+        originator: Account,
+        t: Terms,
+        round: u32,
+        paper: SeenInvoice,
+    ) -> u64
+        ensures { λ r. ⌜ r ≡ first (counterChecks self now caller originator t round paper) ⌝ }
+    {
+        if originator.blacklisted {
+            return refusal::BLACKLISTED;
+        }
+        if !terms::terms_valid(t) {
+            return refusal::INVALID_INPUT;
+        }
+        if !self.here {
+            return refusal::NOT_FOUND;
+        }
+        if !paper.here {
+            return refusal::NOT_FOUND;
+        }
+        let i = paper.row;
+        let g = i.originator;
+        if !(g == caller) {
+            return refusal::UNAUTHORIZED;
+        }
+        let d = self.row;
+        let o = d.offer;
+        let s = o.status;
+        let n = d.negotiation;
+        n.refusal(s == PENDING, now, round)
+    }
+
+    pub fn close(self, now: u64, caller: u64, paper: SeenInvoice) -> DealPosted
+        ensures { λ r. ⌜ r ≡ answered posted (self .row) (closeOf self now caller paper) ⌝ }
+    {
+        let mut row = self.row;
+        let o = row.offer;
+        let n = row.negotiation;
+        let stored = n.outcome;
+        if !(stored == 0) {
+            return refused(row, refusal::INVALID_TRANSITION);
+        }
+        let p = o.status;
+        let s = n.status(p == PENDING, now);
+        if s == negotiation::NONE {
+            return refused(row, refusal::NOT_FOUND);
+        }
+        if s == negotiation::CLOSED {
+            return refused(row, refusal::INVALID_TRANSITION);
+        }
+        let l = o.lender;
+        let outsider = (s == negotiation::OPEN) & !(l == caller);
+        if outsider & !paper.here {
+            return refused(row, refusal::NOT_FOUND);
+        }
+        let i = paper.row;
+        let g = i.originator;
+        if outsider & !(g == caller) {
+            return refused(row, refusal::UNAUTHORIZED);
+        }
+        let end = outcome_at(s);
+        let next = n.closed(end);
+        row.negotiation = next;
+        DealPosted {
+            answer: 0,
+            row: row,
+        }
+    }
+
+    fn schedule_refusal(
+        self,
+        now: u64,
+        caller: u64,
+        count: u32,
+        code: u32,
+        first: u64,
+        paper: SeenInvoice,
+    ) -> u64
+        ensures { λ r. ⌜ r ≡ Refusal.first (scheduleChecks self now caller count code first paper) ⌝ }
+    {
+        if !terms::count_valid(count) {
+            return refusal::INVALID_INPUT;
+        }
+        if first <= now {
+            return refusal::INVALID_INPUT;
+        }
+        if !terms::code_listed(code) {
+            return refusal::INVALID_INPUT;
+        }
+        if !self.here {
+            return refusal::NOT_FOUND;
+        }
+        let d = self.row;
+        let o = d.offer;
+        let s = o.status;
+        if (s == REJECTED) | (s == REPAID) | (s == DEFAULTED) {
+            return refusal::INVALID_TRANSITION;
+        }
+        if !paper.here {
+            return refusal::NOT_FOUND;
+        }
+        let i = paper.row;
+        let g = i.originator;
+        let l = o.lender;
+        if !((l == caller) | (g == caller)) {
+            return refusal::UNAUTHORIZED;
+        }
+        0
+    }
+
+    pub fn schedule(
+        self,
+        now: u64,
+        caller: u64,
+        count: u32,
+        code: u32,
+        first: u64,
+        paper: SeenInvoice,
+    ) -> DealPosted
+        ensures { λ r. ⌜ r ≡ answered posted (self .row) (scheduleOf self now caller count code first paper) ⌝ }
+    {
+        let mut row = self.row;
+        let o = row.offer;
+        let n = self.schedule_refusal(now, caller, count, code, first, paper);
+        if !(n == 0) {
+            return refused(row, n);
+        }
+        let t = o.terms;
+        let x = installment_of(t, count);
+        if money::is_zero(x) {
+            return refused(row, refusal::INVALID_INPUT);
+        }
+        row.schedule = Schedule {
+            count: count,
+            code: code,
+            installment: x,
+            first: first,
+        };
+        DealPosted {
+            answer: 0,
+            row: row,
+        }
+    }
+
+    pub fn update_status(self, allowed: bool, code: u32) -> DealPosted
+        ensures { λ r. ⌜ r ≡ answered posted (self .row) (statusUpdateOf self allowed code) ⌝ }
+    {
+        let mut row = self.row;
+        if !allowed {
+            return refused(row, refusal::UNAUTHORIZED);
+        }
+        if DEFAULTED < code {
+            return refused(row, refusal::INVALID_INPUT);
+        }
+        if !self.here {
+            return refused(row, refusal::NOT_FOUND);
+        }
+        row.offer.status = code;
+        DealPosted {
+            answer: 0,
+            row: row,
+        }
+    }
+
+    pub fn update_repaid(self, allowed: bool, amount: i64) -> DealPosted
+        ensures { λ r. ⌜ r ≡ answered posted (self .row) (repaidUpdateOf self allowed amount) ⌝ }
+    {
+        let mut row = self.row;
+        if !allowed {
+            return refused(row, refusal::UNAUTHORIZED);
+        }
+        if !self.here {
+            return refused(row, refusal::NOT_FOUND);
+        }
+        if !money::in_total_range(amount) {
+            return refused(row, refusal::OUT_OF_RANGE);
+        }
+        row.offer.repaid = amount;
+        DealPosted {
+            answer: 0,
+            row: row,
+        }
+    }
+}
