@@ -1,2 +1,3 @@
 pub mod Account
 pub mod Rules
+pub mod Laws

@@ -67,11 +67,11 @@ acceptOf r t = record { checks = (not (movable (r .accepted) (t .amount)) gives 
 abbrev pub lenderRepaidOf : SeenAccount → Bool → ℕ → Rule Account
 lenderRepaidOf s allowed flag = record {
   checks =
-    (not allowed gives unauthorized)
-    ∷ (ltb 1 flag gives invalidInput)
-    ∷ (not (s .here) gives notFound)
-    ∷ (ltb countLimit (s .row .repaid + flag) gives outOfRange)
-    ∷ [];
+      (not allowed gives unauthorized)
+      ∷ (ltb 1 flag gives invalidInput)
+      ∷ (not (s .here) gives notFound)
+      ∷ (ltb countLimit (s .row .repaid + flag) gives outOfRange)
+      ∷ [];
   done = repays flag (s .row);
 }
 

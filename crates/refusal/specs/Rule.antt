@@ -52,6 +52,12 @@ module _ {A S : Type 0} (mk : ℕ → A → S) where
 number-not-0 : (n : Refusal) → number n ≡ 0 → ⊥
 number-not-0 n e = let z : false ≡ true = sym (refusal-not-0 n) ∙ eq-eqb (number n) 0 e in let y : _≡_ {A = ℕ} 0 1 = cc in omega arith
 
+-- where a list of checks passes, its first check does and so do the others
+pub passed : (t : Bool) (n : Refusal) (l : List Check) → first ((t gives n) ∷ l) ≡ 0 → (t ≡ false) × (first l ≡ 0)
+unfolding first pick
+passed true n l e = absurd (number-not-0 n e)
+passed false n l e = (refl, e)
+
 -- the checks of two parts, one after the other
 pub first-pass : (a b : List Check) → first a ≡ 0 → first (a ++ b) ≡ first b
 unfolding first

@@ -1,3 +1,10 @@
+use mathlib.Core.Path.{_≡_, refl, sym, ap, _∙_}
+use mathlib.Core.Bool.{not}
+use mir.Facts.{toZ-ofZ}
+use Rattle.money.specs.Range.{inTotal}
+use Rattle.account.specs.Rules.{posted}
+use Rattle.refusal.specs.Refusal.{invalidInput}
+use Rattle.refusal.specs.Rule.{refuses, goes-on, does}
 use borrow.Author.Needs.{needs}
 use Rattle.account.proofs.Account.approve.Statement.{statement}
 use Rattle.account.proofs.Account.approve.Tie as tie
@@ -5,17 +12,20 @@ use Rattle.account.proofs.Account.approve.Reads as reads
 use Rattle.account.proofs.Account.approve.Lts as lts
 use Rattle.money.proofs.in_total_range.Reads as in-total-range-reads
 
+amount-in : (c : tie.After-in-total-range) → c .in-total-range .result ≡ inTotal (c .before .args .amount)
+amount-in c = simp (toZ-ofZ (c .before .fits .amount)) at (c .in-total-range .ensures)
+
 -- src/lib.rt:121:13
 in-total-range-requires : tie.Need-in-total-range-requires
 in-total-range-requires c κs = search needs
 
 -- src/lib.rt:122:13
 returns : tie.Need-returns
-returns c = ?
+returns c = refuses posted invalidInput _ _ _ (ap not (sym (amount-in (c .before))) ∙ c .if1 .taken)
 
 -- src/lib.rt:118:5
 returns-2 : tie.Need-returns-2
-returns-2 c = ?
+returns-2 c = goes-on posted invalidInput _ _ _ (ap not (sym (amount-in (c .before))) ∙ c .if1 .left) (does posted _ _ (rw (toZ-ofZ (c .before .before .fits .amount))))
 
 pub approve-spec : {M : Type 1} → statement M
 approve-spec = tie.close (tie.spec in-total-range-requires returns returns-2)

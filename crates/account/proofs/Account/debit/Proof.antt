@@ -1,3 +1,13 @@
+use mathlib.Core.Path.{_≡_, refl, sym, ap, _∙_}
+use mathlib.Core.Bool.{not}
+use lib.IntN.{negℤ}
+use borrow.Author.Tests.{not-false}
+use Rattle.money.specs.Range.{movedOf}
+use Rattle.money.specs.Moves.{move-tells, move-makes}
+use Rattle.money.specs.Facts.{back}
+use Rattle.account.specs.Rules.{posted}
+use Rattle.refusal.specs.Refusal.{allowanceShort, balanceShort}
+use Rattle.refusal.specs.Rule.{refuses, goes-on, does}
 use borrow.Author.Needs.{needs}
 use Rattle.account.proofs.Account.debit.Statement.{statement}
 use Rattle.account.proofs.Account.debit.Tie as tie
@@ -5,13 +15,19 @@ use Rattle.account.proofs.Account.debit.Reads as reads
 use Rattle.account.proofs.Account.debit.Lts as lts
 use Rattle.money.proofs.lower.Reads as lower-reads
 
+allowed : (c : tie.After-lower) → c .lower .result ≡ movedOf (c .before .before .before .args .self .allowance) (negℤ (c .before .before .before .args .t .amount))
+allowed c = simp (back (c .before .before .before .args .self .allowance) (c .before .before .struct-told .given .1 .0 .1), back (c .before .before .before .args .t .amount) (c .before .struct-told2 .given .0 .1)) at (c .lower .ensures)
+
+moved : (c : tie.After-lower2) → c .lower2 .result ≡ movedOf (c .before .before .before .before .before .before .before .before .args .self .balance) (negℤ (c .before .before .before .before .before .before .before .before .args .t .amount))
+moved c = simp (back (c .before .before .before .before .before .before .before .before .args .self .balance) (c .before .before .struct-told3 .given .0 .1), back (c .before .before .before .before .before .before .before .before .args .t .amount) (c .before .struct-told4 .given .0 .1)) at (c .lower2 .ensures)
+
 -- src/lib.rt:182:13
 lower-requires : tie.Need-lower-requires
 lower-requires c κs = search needs
 
 -- src/lib.rt:184:13
 returns : tie.Need-returns
-returns c = ?
+returns c = refuses posted allowanceShort _ _ _ (ap not (sym (move-tells _ _ (allowed (c .before .before)))) ∙ c .if1 .taken)
 
 -- src/lib.rt:189:13
 lower-requires-2 : tie.Need-lower-requires-2
@@ -19,11 +35,11 @@ lower-requires-2 c κs = search needs
 
 -- src/lib.rt:191:13
 returns-2 : tie.Need-returns-2
-returns-2 c = ?
+returns-2 c = goes-on posted allowanceShort _ _ _ (ap not (sym (move-tells _ _ (allowed (c .before .before .before .before .before .before .before)))) ∙ c .before .before .before .before .before .if1 .left) (refuses posted balanceShort _ _ _ (ap not (sym (move-tells _ _ (moved (c .before .before)))) ∙ c .if2 .taken))
 
 -- src/lib.rt:179:5
 returns-3 : tie.Need-returns-3
-returns-3 c = ?
+returns-3 c = goes-on posted allowanceShort _ _ _ (ap not (sym (move-tells _ _ (allowed (c .before .before .before .before .before .before .before .before .before)))) ∙ c .before .before .before .before .before .before .before .if1 .left) (goes-on posted balanceShort _ _ _ (ap not (sym (move-tells _ _ (moved (c .before .before .before .before)))) ∙ c .before .before .if2 .left) (does posted _ _ (rw (back (c .before .before .before .before .before .before .before .before .before .lower .result .total) (c .before .struct-told5 .given .1 .0 .1), back (c .before .before .before .before .lower2 .result .total) (c .struct-told6 .given .1 .0 .1), move-makes _ _ (allowed (c .before .before .before .before .before .before .before .before .before)) (not-false _ (c .before .before .before .before .before .before .before .if1 .left)), move-makes _ _ (moved (c .before .before .before .before)) (not-false _ (c .before .before .if2 .left))))))
 
 pub debit-spec : {M : Type 1} → statement M
 debit-spec = tie.close (tie.spec lower-requires returns lower-requires-2 returns-2 returns-3)

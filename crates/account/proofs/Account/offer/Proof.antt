@@ -1,3 +1,12 @@
+use mathlib.Core.Path.{_≡_, refl, sym, ap, _∙_}
+use mathlib.Core.Bool.{not}
+use borrow.Author.Tests.{not-false, le-leb, lt-leb}
+use Rattle.money.specs.Range.{movedOf}
+use Rattle.money.specs.Moves.{move-tells, move-makes}
+use Rattle.money.specs.Facts.{back}
+use Rattle.account.specs.Rules.{posted}
+use Rattle.refusal.specs.Refusal.{outOfRange}
+use Rattle.refusal.specs.Rule.{refuses, goes-on, does}
 use borrow.Author.Needs.{needs}
 use Rattle.account.proofs.Account.offer.Statement.{statement}
 use Rattle.account.proofs.Account.offer.Tie as tie
@@ -5,17 +14,20 @@ use Rattle.account.proofs.Account.offer.Reads as reads
 use Rattle.account.proofs.Account.offer.Lts as lts
 use Rattle.money.proofs.shift.Reads as shift-reads
 
+moved : (c : tie.After-shift) → c .shift .result ≡ movedOf (c .before .before .before .args .self .offered) (c .before .before .before .args .t .amount)
+moved c = simp (back (c .before .before .before .args .self .offered) (c .before .before .struct-told .given .1 .1 .0 .1), back (c .before .before .before .args .t .amount) (c .before .struct-told2 .given .0 .1)) at (c .shift .ensures)
+
 -- src/lib.rt:138:13
 shift-requires : tie.Need-shift-requires
 shift-requires c κs = search needs
 
 -- src/lib.rt:140:13
 returns : tie.Need-returns
-returns c = ?
+returns c = refuses posted outOfRange _ _ _ (ap not (sym (move-tells _ _ (moved (c .before .before)))) ∙ c .if1 .taken)
 
 -- src/lib.rt:147:13
 returns-2 : tie.Need-returns-2
-returns-2 c = ?
+returns-2 c = goes-on posted outOfRange _ _ _ (ap not (sym (move-tells _ _ (moved (c .before .before .before)))) ∙ c .before .if1 .left) (refuses posted outOfRange _ _ _ (le-leb _ _ (c .if2 .taken)))
 
 -- src/lib.rt:153:24
 add-self : tie.Need-add-self
@@ -23,7 +35,7 @@ add-self c = search needs
 
 -- src/lib.rt:135:5
 returns-3 : tie.Need-returns-3
-returns-3 c = ?
+returns-3 c = goes-on posted outOfRange _ _ _ (ap not (sym (move-tells _ _ (moved (c .before .before .before .before)))) ∙ c .before .before .if1 .left) (goes-on posted outOfRange _ _ _ (lt-leb _ _ (c .before .if2 .left)) (does posted _ _ (rw (back (c .before .before .before .before .shift .result .total) (c .struct-told3 .given .1 .0 .1), move-makes _ _ (moved (c .before .before .before .before)) (not-false _ (c .before .before .if1 .left))))))
 
 pub offer-spec : {M : Type 1} → statement M
 offer-spec = tie.close (tie.spec shift-requires returns returns-2 add-self returns-3)

@@ -1,0 +1,135 @@
+-- What the crates above need of the rows: which row is zero, and that every rule leaves a sound row sound.
+use Prim.Native.Nat.{ℕ, _+_}
+use native.Mathlib.Omega.{arith}
+use mathlib.Core.Path.{_≡_, refl}
+use mathlib.Core.Bool.{Bool, true, false, not}
+use lib.Dec.{leb}
+use lib.IntN.{ℤ, pos, negℤ, _-ℤ_, _+ℤ_}
+use borrow.Author.Needs.{needs}
+use borrow.Author.Tests.{eqb-true, leb-false, ltb-false, le-leb, not-true, not-false}
+use Rattle.money.specs.Range.{inTotal, movable}
+use Rattle.money.specs.Facts.{both, zero-is}
+use Rattle.refusal.specs.Refusal.{first}
+use Rattle.refusal.specs.Rule.{Rule, passed}
+use Rattle.terms.specs.declared.Terms.{Terms}
+use Rattle.account.specs.declared.Account.{Account}
+use Rattle.account.specs.declared.SeenAccount.{SeenAccount}
+use Rattle.account.specs.Account.{noAccount, countLimit, gains, accountSound, accountZero}
+use Rattle.account.specs.Rules.{depositOf, payoutOf, approveOf, offerOf, reofferOf, debitOf, creditOf, acceptOf, lenderRepaidOf, blacklistOf}
+
+zeros : {a b c d : ℤ} {p q : ℕ} {x : Bool} → a ≡ pos 0 → b ≡ pos 0 → c ≡ pos 0 → d ≡ pos 0 → p ≡ 0 → q ≡ 0 → x ≡ false
+    → _≡_ {A = Account} (record { balance = a; allowance = b; offered = c; accepted = d; pending = p; repaid = q; blacklisted = x }) noAccount
+zeros e f g h i j k = cc
+
+-- a zero row is the row of a new account, and that one is zero and sound
+pub account-zero : (r : Account) → accountZero r ≡ true → r ≡ noAccount
+unfolding accountZero
+account-zero r e =
+    let g = both _ _ e in
+    let f = both _ _ (g .0) in
+    let d = both _ _ (f .0) in
+    let c = both _ _ (d .0) in
+    let b = both _ _ (c .0) in
+    let a = both _ _ (b .0) in
+    zeros (zero-is _ (a .0)) (zero-is _ (a .1)) (zero-is _ (b .1)) (zero-is _ (c .1)) (eqb-true _ _ (d .1)) (eqb-true _ _ (f .1)) (not-true _ (g .1))
+
+pub no-account-zero : accountZero noAccount ≡ true
+unfolding accountZero
+no-account-zero = refl
+
+pub no-account-sound : accountSound noAccount ≡ true
+unfolding accountSound
+no-account-sound = refl
+
+-- what soundness says of each number of a row
+pub record Ranges (r : Account) : Type 0 where
+  pub balance-in : inTotal (r .balance) ≡ true
+  pub allowance-in : inTotal (r .allowance) ≡ true
+  pub offered-in : inTotal (r .offered) ≡ true
+  pub accepted-in : inTotal (r .accepted) ≡ true
+  pub pending-in : leb (r .pending) countLimit ≡ true
+  pub repaid-in : leb (r .repaid) countLimit ≡ true
+
+pub sound-ranges : {r : Account} → accountSound r ≡ true → Ranges r
+unfolding accountSound
+sound-ranges {r} e =
+    let f = both _ _ e in
+    let d = both _ _ (f .0) in
+    let c = both _ _ (d .0) in
+    let b = both _ _ (c .0) in
+    let a = both _ _ (b .0) in
+    record { balance-in = a .0; allowance-in = a .1; offered-in = b .1; accepted-in = c .1; pending-in = d .1; repaid-in = f .1 }
+
+pub ranges-sound : {r : Account} → Ranges r → accountSound r ≡ true
+unfolding accountSound
+ranges-sound {r} s = rw (s .balance-in, s .allowance-in, s .offered-in, s .accepted-in, s .pending-in, s .repaid-in)
+
+-- a rule keeps a row sound where its checks pass
+abbrev pub Keeps : Account → Rule Account → Type 0
+Keeps r u = accountSound r ≡ true → first (u .checks) ≡ 0 → accountSound (u .done) ≡ true
+
+moves-in : (t x : ℤ) → not (movable t x) ≡ false → inTotal (t +ℤ x) ≡ true
+moves-in t x e = both (inTotal t) (inTotal (t +ℤ x)) (not-false (movable t x) e) .1
+
+gains-kept : (r : Account) (x : ℤ) → accountSound r ≡ true → not (movable (r .balance) x) ≡ false → accountSound (gains x r) ≡ true
+gains-kept r x h e =
+    let s = sound-ranges h in
+    let a = moves-in (r .balance) x e in
+    ranges-sound (search needs)
+
+pub deposit-keeps : (r : Account) (x : ℤ) → Keeps r (depositOf r x)
+deposit-keeps r x h e = gains-kept r x h (passed _ _ _ (passed _ _ _ e .1) .0)
+
+pub payout-keeps : (r : Account) (x : ℤ) → Keeps r (payoutOf r x)
+payout-keeps r x h e = gains-kept r (negℤ x) h (passed _ _ _ (passed _ _ _ e .1) .0)
+
+pub credit-keeps : (r : Account) (t : Terms) → Keeps r (creditOf r t)
+credit-keeps r t h e = gains-kept r (t .amount) h (passed _ _ _ e .0)
+
+pub approve-keeps : (r : Account) (x : ℤ) → Keeps r (approveOf r x)
+approve-keeps r x h e =
+    let s = sound-ranges h in
+    let a = not-false (inTotal x) (passed _ _ _ e .0) in
+    ranges-sound (search needs)
+
+pub offer-keeps : (r : Account) (t : Terms) → Keeps r (offerOf r t)
+offer-keeps r t h e =
+    let s = sound-ranges h in
+    let p = passed _ _ _ e in
+    let a = moves-in (r .offered) (t .amount) (p .0) in
+    let l = leb-false countLimit (r .pending) (passed _ _ _ (p .1) .0) in
+    let b = le-leb (r .pending + 1) countLimit (omega arith) in
+    ranges-sound (search needs)
+
+pub reoffer-keeps : (r : Account) (old new : Terms) → Keeps r (reofferOf r old new)
+reoffer-keeps r old new h e =
+    let s = sound-ranges h in
+    let a = moves-in (r .offered) (new .amount -ℤ old .amount) (passed _ _ _ e .0) in
+    ranges-sound (search needs)
+
+pub debit-keeps : (r : Account) (t : Terms) → Keeps r (debitOf r t)
+debit-keeps r t h e =
+    let s = sound-ranges h in
+    let p = passed _ _ _ e in
+    let a = moves-in (r .allowance) (negℤ (t .amount)) (p .0) in
+    let b = moves-in (r .balance) (negℤ (t .amount)) (passed _ _ _ (p .1) .0) in
+    ranges-sound (search needs)
+
+pub accept-keeps : (r : Account) (t : Terms) → Keeps r (acceptOf r t)
+accept-keeps r t h e =
+    let s = sound-ranges h in
+    let a = moves-in (r .accepted) (t .amount) (passed _ _ _ e .0) in
+    ranges-sound (search needs)
+
+pub lender-repaid-keeps : (s : SeenAccount) (allowed : Bool) (flag : ℕ) → Keeps (s .row) (lenderRepaidOf s allowed flag)
+lender-repaid-keeps s allowed flag h e =
+    let k = sound-ranges h in
+    let p = passed _ _ _ (passed _ _ _ (passed _ _ _ e .1) .1) in
+    let n = s .row .repaid + flag in
+    let a = le-leb n countLimit (ltb-false countLimit n (passed _ _ _ (p .1) .0)) in
+    ranges-sound (search needs)
+
+-- only the mark changes, and soundness does not speak of it
+pub blacklist-keeps : (s : SeenAccount) (allowed : Bool) (code : ℕ) → Keeps (s .row) (blacklistOf s allowed code)
+unfolding accountSound
+blacklist-keeps s allowed code h e = h
