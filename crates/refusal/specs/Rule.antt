@@ -18,6 +18,14 @@ module _ {A : Type 0} where
   unfoldable pub after : A → Rule A → A
   after old u = pick (eqb (first (u .checks)) 0) (u .done) old
 
+  -- a second rule, which sees what the first has done
+  abbrev pub next : Rule A → (A → Rule A) → Rule A
+  next u f = record { checks = u .checks ++ f (u .done) .checks; done = f (u .done) .done }
+
+  -- nothing to check
+  abbrev pub sure : A → Rule A
+  sure x = record { checks = []; done = x }
+
 module _ {A S : Type 0} (mk : ℕ → A → S) where
   -- the answer's number and what is there after it, as mk puts them
   unfoldable pub answered : A → Rule A → S
