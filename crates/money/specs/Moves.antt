@@ -1,12 +1,11 @@
 -- What a move of a total comes to, and its sums as unsigned numbers. Assumes nothing.
-use Prim.Native.Nat.{ℕ, zero, suc, _+_, _-_, _<_, _≤_}
+use Prim.Native.Nat.{ℕ, zero, suc, _+_, _-_}
 use native.Mathlib.Omega.{arith}
 use mathlib.Core.Path.{_≡_, refl, sym, ap, _∙_}
 use mathlib.Core.Bool.{Bool, true, false, cond, _&&_}
-use lib.IntN.{ℤ, pos, negsuc, _+ℤ_, _-ℤ_, negℤ, natAbs, subℕ, +ℤ-assoc}
-use lib.Signed.{leZ}
+use lib.IntN.{ℤ, pos, negsuc, _+ℤ_, _-ℤ_, negℤ, natAbs, +ℤ-assoc}
 use lib.Dec.{ltb}
-use borrow.Author.Tests.{ltb-true, ltb-false}
+use borrow.Author.Tests.{ltb-false}
 use Rattle.money.specs.declared.Moved.{Moved}
 use Rattle.money.specs.Range.{inAmount, inTotal, moveBy, movable, movedOf}
 use Rattle.money.specs.Facts.{both, never, total-pos, amount-total}

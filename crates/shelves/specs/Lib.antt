@@ -1,4 +1,0 @@
-pub mod Sized
-pub mod Accounts
-pub mod Invoices
-pub mod Offers

@@ -1,0 +1,7 @@
+pub mod Terms
+pub mod Installment
+pub mod Schedule
+pub mod Due
+pub mod Answers
+pub mod Laws
+pub mod Edges
