@@ -1,0 +1,121 @@
+-- The tests of a shelf say just what a shelf is, with rows that all pass
+use Prim.Native.Nat.{ℕ, zero, suc, _+_, _≤_, _<_}
+use native.Mathlib.Omega.{arith}
+use mathlib.Core.Path.{_≡_, refl, sym, ap, _∙_}
+use mathlib.Core.Bool.{Bool, true, false, _&&_, _||_}
+use mathlib.Core.List.{List, [], _∷_}
+use lib.ListN.{length, getD}
+use lib.Dec.{ltb, leb, eqb}
+use borrow.Author.Tests.{lt-ltb, le-ltb, le-leb, lt-leb, eq-eqb, ne-eqb, ltb-true, ltb-false, leb-true, eqb-true}
+use Rattle.table.specs.All.{allBelow, all-at, all-make, both-true}
+use Rattle.table.specs.Rising.{Above, Rises}
+use Rattle.table.specs.Padded.{pad-rest}
+use Rattle.table.specs.Shelf.{key, held, keys, tableOf, Shelf}
+use Rattle.table.specs.ShelfBack.{ids-back, rows-back, length-table}
+use Rattle.table.specs.Sound.{All}
+use Rattle.table.specs.Test.{either, above, idTest, idsTest, rowTest, rowsTest}
+
+or-false : (b : Bool) → b || false ≡ true → b ≡ true
+or-false true e = refl
+or-false false e = e
+
+module _ (n i : ℕ) (a b : Bool) where
+  used : either n i a b ≡ true → i < n → a ≡ true
+  used e h = or-false a (simp (lt-ltb i n h, lt-leb n i h) at e)
+
+  free : either n i a b ≡ true → n ≤ i → b ≡ true
+  free e h = simp (le-ltb i n h, le-leb n i h) at e
+
+  make : (i < n → a ≡ true) → (n ≤ i → b ≡ true) → either n i a b ≡ true
+  make f g = go (ltb i n) refl
+    where
+      go : (t : Bool) → ltb i n ≡ t → either n i a b ≡ true
+      go true q = rw (q, f (ltb-true i n q))
+      go false q = rw (q, le-leb n i (ltb-false i n q), g (ltb-false i n q))
+
+later : (m : ℕ) → eqb (suc m) 0 ≡ false
+later m = ne-eqb (suc m) 0 (λ e. omega arith)
+
+module _ {A : Type 0} where
+  above-of : (i : ℕ) (ids : List ℕ) (rows : List A) (n : ℕ) → n ≤ length ids → ((m : ℕ) → m < n → getD (i ∷ ids) m 0 < getD ids m 0) → Above i (keys (tableOf ids rows n))
+  unfolding keys tableOf
+  above-of i [] rows n h f = tt
+  above-of i (j ∷ ids) [] n h f = tt
+  above-of i (j ∷ ids) (r ∷ rows) zero h f = tt
+  above-of i (j ∷ ids) (r ∷ rows) (suc n) h f = (f 0 (omega arith), above-of j ids rows n (omega arith) (λ m l. f (suc m) (omega arith)))
+
+  rises-of : (ids : List ℕ) (rows : List A) (n : ℕ) → n ≤ length ids → ((m : ℕ) → suc m < n → getD ids m 0 < getD ids (suc m) 0) → Rises (keys (tableOf ids rows n))
+  unfolding keys tableOf
+  rises-of [] rows n h f = tt
+  rises-of (j ∷ ids) [] n h f = tt
+  rises-of (j ∷ ids) (r ∷ rows) zero h f = tt
+  rises-of (j ∷ ids) (r ∷ rows) (suc n) h f = above-of j ids rows n (omega arith) (λ m l. f m (omega arith))
+
+  above-at : (i : ℕ) (ids : List ℕ) (rows : List A) (n m : ℕ) → Above i (keys (tableOf ids rows n)) → m < length (tableOf ids rows n) → getD (i ∷ ids) m 0 < getD ids m 0
+  unfolding keys tableOf
+  above-at i [] rows n m a h = absurd (omega arith)
+  above-at i (j ∷ ids) [] n m a h = absurd (omega arith)
+  above-at i (j ∷ ids) (r ∷ rows) zero m a h = absurd (omega arith)
+  above-at i (j ∷ ids) (r ∷ rows) (suc n) zero a h = a .0
+  above-at i (j ∷ ids) (r ∷ rows) (suc n) (suc m) a h = above-at j ids rows n m (a .1) (omega arith)
+
+  rises-at : (ids : List ℕ) (rows : List A) (n m : ℕ) → Rises (keys (tableOf ids rows n)) → suc m < length (tableOf ids rows n) → getD ids m 0 < getD ids (suc m) 0
+  unfolding keys tableOf
+  rises-at [] rows n m a h = absurd (omega arith)
+  rises-at (j ∷ ids) [] n m a h = absurd (omega arith)
+  rises-at (j ∷ ids) (r ∷ rows) zero m a h = absurd (omega arith)
+  rises-at (j ∷ ids) (r ∷ rows) (suc n) m a h = above-at j ids rows n m a (omega arith)
+
+  all-of : (p : A → Type 0) (d : A) (ids : List ℕ) (rows : List A) (n : ℕ) → ((i : ℕ) → i < n → p (getD rows i d)) → All p (tableOf ids rows n)
+  unfolding tableOf
+  all-of p d [] rows n f = tt
+  all-of p d (j ∷ ids) [] n f = tt
+  all-of p d (j ∷ ids) (r ∷ rows) zero f = tt
+  all-of p d (j ∷ ids) (r ∷ rows) (suc n) f = (f 0 (omega arith), all-of p d ids rows n (λ i l. f (suc i) (omega arith)))
+
+  row-at : (p : A → Type 0) (d : A) (ids : List ℕ) (rows : List A) (n i : ℕ) → All p (tableOf ids rows n) → i < length (tableOf ids rows n) → p (getD rows i d)
+  unfolding tableOf
+  row-at p d [] rows n i a h = absurd (omega arith)
+  row-at p d (j ∷ ids) [] n i a h = absurd (omega arith)
+  row-at p d (j ∷ ids) (r ∷ rows) zero i a h = absurd (omega arith)
+  row-at p d (j ∷ ids) (r ∷ rows) (suc n) zero a h = a .0
+  row-at p d (j ∷ ids) (r ∷ rows) (suc n) (suc i) a h = row-at p d ids rows n i (a .1) (omega arith)
+
+-- the tests make a shelf whose rows all pass
+module _ {A : Type 0} (q z : A → Bool) (d : A) (zero-is : (r : A) → z r ≡ true → r ≡ d) (size n : ℕ) (ids : List ℕ) (rows : List A)
+    (a : length ids ≡ size) (b : length rows ≡ size) (x : idsTest size n ids ≡ true) (y : rowsTest q z d size n rows ≡ true) where
+  few : n ≤ size
+  few = leb-true n size (both-true (leb n size) (allBelow size (idTest n ids)) x .0)
+
+  id-at : (i : ℕ) → i < size → idTest n ids i ≡ true
+  id-at = all-at (idTest n ids) size (both-true (leb n size) (allBelow size (idTest n ids)) x .1)
+
+  row-is : (i : ℕ) → i < size → rowTest q z d n rows i ≡ true
+  row-is = all-at (rowTest q z d n rows) size y
+
+  pub shelf-of : Shelf d size ids rows n
+  shelf-of = record {
+    ids-kept = ids-back ids rows n size a b (λ i h l. eqb-true (getD ids i 0) 0 (free n i (above ids i) (eqb (getD ids i 0) 0) (id-at i l) h));
+    rows-kept = rows-back d ids rows n size a b (λ i h l. zero-is (getD rows i d) (free n i (q (getD rows i d)) (z (getD rows i d)) (row-is i l) h));
+    counted = length-table ids rows n (omega (arith, few)) (omega (arith, few));
+    few = few;
+    rising = rises-of ids rows n (omega (arith, few)) (λ m h. ltb-true (getD ids m 0) (getD ids (suc m) 0) (rw (later m) at (used n (suc m) (above ids (suc m)) (eqb (getD ids (suc m) 0) 0) (id-at (suc m) (omega (arith, few))) h)));
+  }
+
+  pub rows-of : All (λ r. q r ≡ true) (tableOf ids rows n)
+  rows-of = all-of (λ r. q r ≡ true) d ids rows n (λ i h. used n i (q (getD rows i d)) (z (getD rows i d)) (row-is i (omega (arith, few))) h)
+
+-- a shelf whose rows all pass passes the tests
+module _ {A : Type 0} (q z : A → Bool) (d : A) (zero-yes : z d ≡ true) {size n : ℕ} {ids : List ℕ} {rows : List A} (s : Shelf d size ids rows n) (o : All (λ r. q r ≡ true) (tableOf ids rows n)) where
+  above-yes : (i : ℕ) → i < n → above ids i ≡ true
+  above-yes zero h = refl
+  above-yes (suc m) h = rw (later m) (lt-ltb (getD ids m 0) (getD ids (suc m) 0) (rises-at ids rows n m (s .rising) (omega (arith, s .counted))))
+
+  pub ids-pass : idsTest size n ids ≡ true
+  ids-pass = rw (le-leb n size (s .few)) (all-make (idTest n ids) size (λ i l. make n i (above ids i) (eqb (getD ids i 0) 0) (above-yes i)
+      (λ h. eq-eqb (getD ids i 0) 0 (ap (λ u. getD u i 0) (sym (s .ids-kept)) ∙ pad-rest 0 key size (tableOf ids rows n) i (omega (arith, s .counted))))))
+
+  pub rows-pass : rowsTest q z d size n rows ≡ true
+  rows-pass = all-make (rowTest q z d n rows) size (λ i l. make n i (q (getD rows i d)) (z (getD rows i d))
+      (λ h. row-at (λ r. q r ≡ true) d ids rows n i o (omega (arith, s .counted)))
+      (λ h. ap z (ap (λ u. getD u i d) (sym (s .rows-kept)) ∙ pad-rest d held size (tableOf ids rows n) i (omega (arith, s .counted))) ∙ zero-yes))
