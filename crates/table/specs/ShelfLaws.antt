@@ -9,12 +9,12 @@ use Rattle.table.specs.declared.Found.the-variants.{At, Absent}
 use Rattle.table.specs.Find.{findIn}
 use Rattle.table.specs.Seek.{Stands, Place, found-stands, absent-place}
 use Rattle.table.specs.Shift.{insertAt}
-use Rattle.table.specs.Tables.{absent, here, find, adjust, insert, full, Room}
-use Rattle.table.specs.TableLaws.{adjust-absent, length-adjust, length-insert}
+use Rattle.table.specs.Tables.{absent, here, find, adjust, insert, key, held, keys, full, Room}
+use Rattle.table.specs.TableLaws.{adjust-absent, length-keys, length-adjust, length-insert}
 use Rattle.table.specs.Rising.{Rises}
 use Rattle.table.specs.Padded.{padded}
-use Rattle.table.specs.Shelf.{key, held, keys, tableOf, Shelf, shelve}
-use Rattle.table.specs.ShelfBack.{take-keys, length-keys, ids-adjust}
+use Rattle.table.specs.Shelf.{tableOf, Shelf, shelve}
+use Rattle.table.specs.ShelfBack.{take-keys, ids-adjust}
 use Rattle.table.specs.ShelfPlaces.{find-there, put-there, find-gone, insert-there}
 use borrow.Author.Tests.{le-leb, lt-leb}
 

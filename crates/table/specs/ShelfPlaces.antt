@@ -7,12 +7,11 @@ use native.Mathlib.Omega.{arith}
 use lib.ListN.{length, getD, set}
 use lib.Dec.{leb, eqb}
 use borrow.Author.Tests.{eq-eqb, ne-eqb, le-leb, lt-leb}
-use Rattle.table.specs.Tables.{Found, absent, here, Table, find, adjust, insert}
+use Rattle.table.specs.Tables.{Found, absent, here, Table, find, adjust, insert, keys, held}
 use Rattle.table.specs.Shift.{insertAt}
 use Rattle.table.specs.Rising.{Above, Rises, above-rises}
 use Rattle.table.specs.Padded.{padded, push}
 use Rattle.table.specs.Seek.{Stands, Place}
-use Rattle.table.specs.Shelf.{keys, key, held}
 
 module _ {A : Type 0} where
   -- the row that stands at k, found and put anew
