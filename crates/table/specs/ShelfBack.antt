@@ -1,11 +1,9 @@
 -- A table stored and read back, and a shelf read and stored back
 use mathlib.Core.Path.{_≡_, refl, sym, ap, _∙_}
-use mathlib.Core.Bool.{Bool, true, false, cond}
 use mathlib.Core.List.{List, [], _∷_}
-use Prim.Native.Nat.{ℕ, zero, suc, _+_, _≤_, _<_}
+use Prim.Native.Nat.{ℕ, zero, suc, _≤_, _<_}
 use native.Mathlib.Omega.{arith}
 use lib.ListN.{length, getD, take}
-use lib.Dec.{eqb}
 use Rattle.table.specs.Tables.{Table, adjust, key, held, keys}
 use Rattle.table.specs.TableLaws.{keys-adjust}
 use Rattle.table.specs.Rising.{Rises}

@@ -1,13 +1,13 @@
 -- What a search of the ids says of the table: a row that stands at k, and the place for a row to come
-use mathlib.Core.Path.{_≡_, refl, sym, ap, _∙_}
+use mathlib.Core.Path.{_≡_, refl, ap}
 use mathlib.Core.Bool.{false}
-use mathlib.Core.List.{List, [], _∷_}
-use Prim.Native.Nat.{ℕ, zero, suc, _+_, _≤_, _<_}
+use mathlib.Core.List.{[], _∷_}
+use Prim.Native.Nat.{ℕ, zero, suc, _≤_, _<_}
 use native.Mathlib.Omega.{arith}
 use lib.ListN.{length, getD, set}
-use lib.Dec.{leb, eqb}
+use lib.Dec.{eqb}
 use borrow.Author.Tests.{eq-eqb, ne-eqb, le-leb, lt-leb}
-use Rattle.table.specs.Tables.{Found, absent, here, Table, find, adjust, insert, keys, held}
+use Rattle.table.specs.Tables.{absent, here, Table, find, adjust, insert, keys, held}
 use Rattle.table.specs.Shift.{insertAt}
 use Rattle.table.specs.Rising.{Above, Rises, above-rises}
 use Rattle.table.specs.Padded.{padded, push}
