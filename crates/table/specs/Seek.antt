@@ -24,6 +24,12 @@ pub record Place (xs : List ℕ) (id k : ℕ) : Type 0 where
   pub below : (m : ℕ) → m < k → getD xs m 0 < id
   pub above : k < length xs → id < getD xs k 0
 
+pub stands-tail : {x : ℕ} {xs : List ℕ} {id k : ℕ} → Stands (x ∷ xs) id (suc k) → Stands xs id k
+stands-tail s = record { within = omega (arith, s .within); same = s .same; below = λ m l. s .below (suc m) (omega arith) }
+
+pub place-tail : {x : ℕ} {xs : List ℕ} {id k : ℕ} → Place (x ∷ xs) id (suc k) → Place xs id k
+place-tail p = record { within = omega (arith, p .within); below = λ m l. p .below (suc m) (omega arith); above = λ l. p .above (omega arith) }
+
 -- the same for a walk that starts at the place j
 record Off (P : ℕ → Type 0) (j k : ℕ) : Type 0 where
   step : ℕ
@@ -40,8 +46,18 @@ module _ (x : ℕ) (xs : List ℕ) (id j : ℕ) (h : x < id) where
   more-below k f (suc m) l = f m (omega arith)
 
   says-suc : (a : Found) → Says (suc j) xs id a → Says j (x ∷ xs) id a
-  says-suc (At k) o = record { step = suc (o .step); at = omega (arith, o .at); holds = record { within = omega (arith, o .holds .within); same = o .holds .same; below = more-below (o .step) (o .holds .below) } }
-  says-suc (Absent k) o = record { step = suc (o .step); at = omega (arith, o .at); holds = record { within = omega (arith, o .holds .within); below = more-below (o .step) (o .holds .below); above = λ l. o .holds .above (omega arith) } }
+  says-suc (At k) o =
+      record {
+        step = suc (o .step);
+        at = omega (arith, o .at);
+        holds = record { within = omega (arith, o .holds .within); same = o .holds .same; below = more-below (o .step) (o .holds .below) };
+      }
+  says-suc (Absent k) o =
+      record {
+        step = suc (o .step);
+        at = omega (arith, o .at);
+        holds = record { within = omega (arith, o .holds .within); below = more-below (o .step) (o .holds .below); above = λ l. o .holds .above (omega arith) };
+      }
 
 says : (j : ℕ) (xs : List ℕ) (id : ℕ) → Says j xs id (findFrom j xs id)
 says j [] id = record { step = 0; at = omega arith; holds = record { within = omega arith; below = λ m l. absurd (omega arith); above = λ l. absurd (omega arith) } }
@@ -65,7 +81,7 @@ stands-from j [] id k s = absurd (omega (arith, s .within))
 stands-from j (x ∷ xs) id zero s = simp (le-leb id x (omega (arith, s .same)), eq-eqb x id (s .same)) (ap At (omega arith))
 stands-from j (x ∷ xs) id (suc k) s =
     rw (lt-leb id x (s .below 0 (omega arith)))
-    (stands-from (suc j) xs id k (record { within = omega (arith, s .within); same = s .same; below = λ m l. s .below (suc m) (omega arith) }) ∙ ap At (omega arith))
+    (stands-from (suc j) xs id k (stands-tail s) ∙ ap At (omega arith))
 
 place-from : (j : ℕ) (xs : List ℕ) (id k : ℕ) → Place xs id k → findFrom j xs id ≡ Absent (j + k)
 place-from j [] id k p = ap Absent (omega (arith, p .within))
@@ -74,7 +90,7 @@ place-from j (x ∷ xs) id zero p =
     simp (le-leb id x (omega arith), ne-eqb x id (λ e. omega arith)) (ap Absent (omega arith))
 place-from j (x ∷ xs) id (suc k) p =
     rw (lt-leb id x (p .below 0 (omega arith)))
-    (place-from (suc j) xs id k (record { within = omega (arith, p .within); below = λ m l. p .below (suc m) (omega arith); above = λ l. p .above (omega arith) }) ∙ ap Absent (omega arith))
+    (place-from (suc j) xs id k (place-tail p) ∙ ap Absent (omega arith))
 
 module _ (xs : List ℕ) (id k : ℕ) where
   pub stands-found : Stands xs id k → findIn xs id ≡ At k

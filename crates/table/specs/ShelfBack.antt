@@ -36,7 +36,8 @@ module _ {A : Type 0} where
   back d g dr (x ∷ xs) [] rows c (suc n) p a b f h = absurd (omega arith)
   back d g dr (x ∷ xs) (i ∷ ids) [] c (suc n) p a b f h = absurd (omega arith)
   back d g dr (x ∷ xs) (i ∷ ids) (r ∷ rows) zero (suc n) p a b f h =
-      rw (nothing ids rows) at (ap (λ z. d ∷ z) (back d g dr xs ids rows 0 n (omega arith) (omega arith) (omega arith) (λ j q. f (suc j) (omega arith)) (λ j l q. h (suc j) (omega arith) (omega arith))))
+      rw (nothing ids rows) at
+      (ap (λ z. d ∷ z) (back d g dr xs ids rows 0 n (omega arith) (omega arith) (omega arith) (λ j q. f (suc j) (omega arith)) (λ j l q. h (suc j) (omega arith) (omega arith))))
       ∙ ap (λ z. z ∷ xs) (sym (h 0 (omega arith) (omega arith)))
   back d g dr (x ∷ xs) (i ∷ ids) (r ∷ rows) (suc c) (suc n) p a b f h =
       ap (λ z. z ∷ padded d g n (tableOf ids rows c)) (f 0 (omega arith))
