@@ -1,3 +1,5 @@
+use mathlib.Core.Path.{sym, ap}
+use Rattle.command.specs.Caller.{callerOf}
 use borrow.Author.Needs.{needs}
 use Rattle.command.proofs.Command.caller.Statement.{statement}
 use Rattle.command.proofs.Command.caller.Tie as tie
@@ -102,99 +104,123 @@ enum-told-7 c = search needs
 
 -- src/lib.rt:150:5
 returns : tie.Need-returns
-returns c = ?
+unfolding callerOf
+returns c = sym (ap callerOf (c .enum-told .given .1))
 
 -- src/lib.rt:150:5
 returns-2 : tie.Need-returns-2
-returns-2 c = ?
+unfolding callerOf
+returns-2 c = sym (ap callerOf (c .before .self .given .1))
 
 -- src/lib.rt:150:5
 returns-3 : tie.Need-returns-3
-returns-3 c = ?
+unfolding callerOf
+returns-3 c = sym (ap callerOf (c .before .self2 .given .1))
 
 -- src/lib.rt:150:5
 returns-4 : tie.Need-returns-4
-returns-4 c = ?
+unfolding callerOf
+returns-4 c = sym (ap callerOf (c .before .self3 .given .1))
 
 -- src/lib.rt:150:5
 returns-5 : tie.Need-returns-5
-returns-5 c = ?
+unfolding callerOf
+returns-5 c = sym (ap callerOf (c .before .self4 .given .1))
 
 -- src/lib.rt:150:5
 returns-6 : tie.Need-returns-6
-returns-6 c = ?
+unfolding callerOf
+returns-6 c = sym (ap callerOf (c .before .self5 .given .1))
 
 -- src/lib.rt:150:5
 returns-7 : tie.Need-returns-7
-returns-7 c = ?
+unfolding callerOf
+returns-7 c = sym (ap callerOf (c .before .self6 .given .1))
 
 -- src/lib.rt:150:5
 returns-8 : tie.Need-returns-8
-returns-8 c = ?
+unfolding callerOf
+returns-8 c = sym (ap callerOf (c .before .self7 .given .1))
 
 -- src/lib.rt:150:5
 returns-9 : tie.Need-returns-9
-returns-9 c = ?
+unfolding callerOf
+returns-9 c = sym (ap callerOf (c .before .self8 .given .1))
 
 -- src/lib.rt:150:5
 returns-10 : tie.Need-returns-10
-returns-10 c = ?
+unfolding callerOf
+returns-10 c = sym (ap callerOf (c .before .self9 .given .1))
 
 -- src/lib.rt:150:5
 returns-11 : tie.Need-returns-11
-returns-11 c = ?
+unfolding callerOf
+returns-11 c = sym (ap callerOf (c .before .self10 .given .1))
 
 -- src/lib.rt:150:5
 returns-12 : tie.Need-returns-12
-returns-12 c = ?
+unfolding callerOf
+returns-12 c = sym (ap callerOf (c .before .self11 .given .1))
 
 -- src/lib.rt:150:5
 returns-13 : tie.Need-returns-13
-returns-13 c = ?
+unfolding callerOf
+returns-13 c = sym (ap callerOf (c .before .self12 .given .1))
 
 -- src/lib.rt:150:5
 returns-14 : tie.Need-returns-14
-returns-14 c = ?
+unfolding callerOf
+returns-14 c = sym (ap callerOf (c .before .self13 .given .1))
 
 -- src/lib.rt:150:5
 returns-15 : tie.Need-returns-15
-returns-15 c = ?
+unfolding callerOf
+returns-15 c = sym (ap callerOf (c .before .self14 .given .1))
 
 -- src/lib.rt:150:5
 returns-16 : tie.Need-returns-16
-returns-16 c = ?
+unfolding callerOf
+returns-16 c = sym (ap callerOf (c .before .self15 .given .1))
 
 -- src/lib.rt:150:5
 returns-17 : tie.Need-returns-17
-returns-17 c = ?
+unfolding callerOf
+returns-17 c = sym (ap callerOf (c .before .self16 .given .1))
 
 -- src/lib.rt:150:5
 returns-18 : tie.Need-returns-18
-returns-18 c = ?
+unfolding callerOf
+returns-18 c = sym (ap callerOf (c .before .self17 .given .1))
 
 -- src/lib.rt:150:5
 returns-19 : tie.Need-returns-19
-returns-19 c = ?
+unfolding callerOf
+returns-19 c = sym (ap callerOf (c .enum-told2 .given .1))
 
 -- src/lib.rt:150:5
 returns-20 : tie.Need-returns-20
-returns-20 c = ?
+unfolding callerOf
+returns-20 c = sym (ap callerOf (c .enum-told3 .given .1))
 
 -- src/lib.rt:150:5
 returns-21 : tie.Need-returns-21
-returns-21 c = ?
+unfolding callerOf
+returns-21 c = sym (ap callerOf (c .enum-told4 .given .1))
 
 -- src/lib.rt:150:5
 returns-22 : tie.Need-returns-22
-returns-22 c = ?
+unfolding callerOf
+returns-22 c = sym (ap callerOf (c .enum-told5 .given .1))
 
 -- src/lib.rt:150:5
 returns-23 : tie.Need-returns-23
-returns-23 c = ?
+unfolding callerOf
+returns-23 c = sym (ap callerOf (c .enum-told6 .given .1))
 
 -- src/lib.rt:150:5
 returns-24 : tie.Need-returns-24
-returns-24 c = ?
+unfolding callerOf
+returns-24 c = sym (ap callerOf (c .enum-told7 .given .1))
 
 pub caller-spec : {M : Type 1} → statement M
 caller-spec =

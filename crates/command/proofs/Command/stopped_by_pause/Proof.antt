@@ -1,3 +1,5 @@
+use mathlib.Core.Path.{sym, ap}
+use Rattle.command.specs.Caller.{stoppedByPause}
 use borrow.Author.Needs.{needs}
 use Rattle.command.proofs.Command.stopped_by_pause.Statement.{statement}
 use Rattle.command.proofs.Command.stopped_by_pause.Tie as tie
@@ -102,99 +104,123 @@ enum-told-24 c = search needs
 
 -- src/lib.rt:292:5
 returns : tie.Need-returns
-returns c = ?
+unfolding stoppedByPause
+returns c = sym (ap stoppedByPause (c .enum-told .given .1))
 
 -- src/lib.rt:292:5
 returns-2 : tie.Need-returns-2
-returns-2 c = ?
+unfolding stoppedByPause
+returns-2 c = sym (ap stoppedByPause (c .enum-told2 .given .1))
 
 -- src/lib.rt:292:5
 returns-3 : tie.Need-returns-3
-returns-3 c = ?
+unfolding stoppedByPause
+returns-3 c = sym (ap stoppedByPause (c .enum-told3 .given .1))
 
 -- src/lib.rt:292:5
 returns-4 : tie.Need-returns-4
-returns-4 c = ?
+unfolding stoppedByPause
+returns-4 c = sym (ap stoppedByPause (c .enum-told4 .given .1))
 
 -- src/lib.rt:292:5
 returns-5 : tie.Need-returns-5
-returns-5 c = ?
+unfolding stoppedByPause
+returns-5 c = sym (ap stoppedByPause (c .enum-told5 .given .1))
 
 -- src/lib.rt:292:5
 returns-6 : tie.Need-returns-6
-returns-6 c = ?
+unfolding stoppedByPause
+returns-6 c = sym (ap stoppedByPause (c .enum-told6 .given .1))
 
 -- src/lib.rt:292:5
 returns-7 : tie.Need-returns-7
-returns-7 c = ?
+unfolding stoppedByPause
+returns-7 c = sym (ap stoppedByPause (c .enum-told7 .given .1))
 
 -- src/lib.rt:292:5
 returns-8 : tie.Need-returns-8
-returns-8 c = ?
+unfolding stoppedByPause
+returns-8 c = sym (ap stoppedByPause (c .enum-told8 .given .1))
 
 -- src/lib.rt:292:5
 returns-9 : tie.Need-returns-9
-returns-9 c = ?
+unfolding stoppedByPause
+returns-9 c = sym (ap stoppedByPause (c .enum-told9 .given .1))
 
 -- src/lib.rt:292:5
 returns-10 : tie.Need-returns-10
-returns-10 c = ?
+unfolding stoppedByPause
+returns-10 c = sym (ap stoppedByPause (c .enum-told10 .given .1))
 
 -- src/lib.rt:292:5
 returns-11 : tie.Need-returns-11
-returns-11 c = ?
+unfolding stoppedByPause
+returns-11 c = sym (ap stoppedByPause (c .enum-told11 .given .1))
 
 -- src/lib.rt:292:5
 returns-12 : tie.Need-returns-12
-returns-12 c = ?
+unfolding stoppedByPause
+returns-12 c = sym (ap stoppedByPause (c .enum-told12 .given .1))
 
 -- src/lib.rt:292:5
 returns-13 : tie.Need-returns-13
-returns-13 c = ?
+unfolding stoppedByPause
+returns-13 c = sym (ap stoppedByPause (c .enum-told13 .given .1))
 
 -- src/lib.rt:292:5
 returns-14 : tie.Need-returns-14
-returns-14 c = ?
+unfolding stoppedByPause
+returns-14 c = sym (ap stoppedByPause (c .enum-told14 .given .1))
 
 -- src/lib.rt:292:5
 returns-15 : tie.Need-returns-15
-returns-15 c = ?
+unfolding stoppedByPause
+returns-15 c = sym (ap stoppedByPause (c .enum-told15 .given .1))
 
 -- src/lib.rt:292:5
 returns-16 : tie.Need-returns-16
-returns-16 c = ?
+unfolding stoppedByPause
+returns-16 c = sym (ap stoppedByPause (c .enum-told16 .given .1))
 
 -- src/lib.rt:292:5
 returns-17 : tie.Need-returns-17
-returns-17 c = ?
+unfolding stoppedByPause
+returns-17 c = sym (ap stoppedByPause (c .enum-told17 .given .1))
 
 -- src/lib.rt:292:5
 returns-18 : tie.Need-returns-18
-returns-18 c = ?
+unfolding stoppedByPause
+returns-18 c = sym (ap stoppedByPause (c .enum-told18 .given .1))
 
 -- src/lib.rt:292:5
 returns-19 : tie.Need-returns-19
-returns-19 c = ?
+unfolding stoppedByPause
+returns-19 c = sym (ap stoppedByPause (c .enum-told19 .given .1))
 
 -- src/lib.rt:292:5
 returns-20 : tie.Need-returns-20
-returns-20 c = ?
+unfolding stoppedByPause
+returns-20 c = sym (ap stoppedByPause (c .enum-told20 .given .1))
 
 -- src/lib.rt:292:5
 returns-21 : tie.Need-returns-21
-returns-21 c = ?
+unfolding stoppedByPause
+returns-21 c = sym (ap stoppedByPause (c .enum-told21 .given .1))
 
 -- src/lib.rt:292:5
 returns-22 : tie.Need-returns-22
-returns-22 c = ?
+unfolding stoppedByPause
+returns-22 c = sym (ap stoppedByPause (c .enum-told22 .given .1))
 
 -- src/lib.rt:292:5
 returns-23 : tie.Need-returns-23
-returns-23 c = ?
+unfolding stoppedByPause
+returns-23 c = sym (ap stoppedByPause (c .enum-told23 .given .1))
 
 -- src/lib.rt:292:5
 returns-24 : tie.Need-returns-24
-returns-24 c = ?
+unfolding stoppedByPause
+returns-24 c = sym (ap stoppedByPause (c .enum-told24 .given .1))
 
 pub stopped-by-pause-spec : {M : Type 1} → statement M
 stopped-by-pause-spec =
