@@ -1,0 +1,4 @@
+pub mod Sized
+pub mod Accounts
+pub mod Invoices
+pub mod Offers
