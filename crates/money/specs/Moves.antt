@@ -1,14 +1,14 @@
 -- What a move of a total comes to, and its sums as unsigned numbers. Assumes nothing.
-use Prim.Native.Nat.{ℕ, zero, suc, _+_, _-_}
+use Prim.Native.Nat.{ℕ, zero, suc, _+_, _-_, _≤_}
 use native.Mathlib.Omega.{arith}
 use mathlib.Core.Path.{_≡_, refl, sym, ap, _∙_}
 use mathlib.Core.Bool.{Bool, true, false, cond, _&&_}
 use lib.IntN.{ℤ, pos, negsuc, _+ℤ_, _-ℤ_, negℤ, natAbs, +ℤ-assoc}
-use lib.Dec.{ltb}
-use borrow.Author.Tests.{ltb-false}
-use Rattle.money.specs.declared.Moved.{Moved}
+use lib.Signed.{leZ}
+use lib.Dec.{leb, ltb, leb·zero}
+use borrow.Author.Tests.{ltb-true, ltb-false, lt-leb, le-leb}
 use Rattle.money.specs.Range.{inAmount, inTotal, moveBy, movable, movedOf}
-use Rattle.money.specs.Facts.{both, never, total-pos, amount-total}
+use Rattle.money.specs.Facts.{both, never, total-le, total-pos, amount-total}
 
 move-ok : (b : Bool) (t d : ℤ) → moveBy b t d .ok ≡ b
 move-ok true t d = refl
@@ -75,3 +75,20 @@ move-tells t d e = ap (λ (z : Moved). z .ok) e ∙ move-ok (movable t d) t d
 pub move-makes : {m : Moved} (t d : ℤ) → m ≡ movedOf t d → m .ok ≡ true → m .total ≡ t +ℤ d
 unfolding movedOf
 move-makes {m} t d e h = ap (λ (z : Moved). z .total) e ∙ ap (λ (b : Bool). moveBy b t d .total) (sym (move-tells t d e) ∙ h)
+
+-- totals are in order as their unsigned numbers are
+pub order-is : (a b : ℤ) → inTotal a ≡ true → inTotal b ≡ true → leZ a b ≡ leb (natAbs a) (natAbs b)
+order-is (pos a) (pos b) h k = refl
+order-is (pos a) (negsuc b) h k = absurd (never k)
+order-is (negsuc a) b h k = absurd (never h)
+
+below : (a b : ℕ) → a ≤ 4000000000000000 → (t : Bool) → ltb a b ≡ t → inTotal (cond t (negsuc (b - suc a)) (pos (a - b))) ≡ leb b a
+below a b h true e = sym (lt-leb b a (ltb-true a b e))
+below a b h false e = rw (leb·zero, le-leb (a - b) 4000000000000000 (omega arith), le-leb b a (ltb-false a b e))
+
+-- a total can be lowered by what it holds, and by no more
+pub affords : (t x : ℤ) → inTotal t ≡ true → inTotal x ≡ true → inTotal (t +ℤ negℤ x) ≡ leZ x t
+affords (pos a) (pos zero) h k = simp (leb·zero, le-leb (a + 0) 4000000000000000 (omega (arith, total-le (pos a) h)))
+affords (pos a) (pos (suc b)) h k = below a (suc b) (total-le (pos a) h) (ltb a (suc b)) refl
+affords (pos a) (negsuc b) h k = absurd (never k)
+affords (negsuc a) x h k = absurd (never h)

@@ -104,3 +104,8 @@ stored-pos s h =
 pub due-in : (s : Schedule) (status : ℕ) (repaid : ℤ) → dueArguments s status repaid ≡ true → ScheduleIn s
 unfolding dueArguments
 due-in s status repaid h = schedule-in s (both (scheduleOk s) (leb status 5) (both (scheduleOk s && leb status 5) (inTotal repaid) h .0) .0)
+
+-- a schedule of numbers in range is one that can be stored
+pub made-ok : (s : Schedule) → countOk (s .count) ≡ true → listed (s .code) ≡ true → inInstallment (s .installment) ≡ true → scheduleOk s ≡ true
+unfolding scheduleOk
+made-ok s h k m = simp (h, k, m)
