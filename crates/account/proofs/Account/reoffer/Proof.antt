@@ -16,7 +16,7 @@ use Rattle.account.proofs.Account.reoffer.Lts as lts
 use Rattle.money.proofs.change.Reads as change-reads
 
 moved : (c : tie.After-change) → c .change .result ≡ movedOf (c .before .before .before .before .args .self .offered) (c .before .before .before .before .args .new .amount -ℤ c .before .before .before .before .args .old .amount)
-moved c = simp (back (c .before .before .before .before .args .self .offered) (c .before .before .before .struct-told .given .1 .1 .0 .1), back (c .before .before .before .before .args .old .amount) (c .before .before .struct-told2 .given .0 .1), back (c .before .before .before .before .args .new .amount) (c .before .struct-told3 .given .0 .1)) at (c .change .ensures)
+moved c = simp (back (c .before .before .before .before .args .self .offered) (search needs), back (c .before .before .before .before .args .old .amount) (search needs), back (c .before .before .before .before .args .new .amount) (search needs)) at (c .change .ensures)
 
 -- src/lib.rt:164:13
 change-requires : tie.Need-change-requires
