@@ -28,7 +28,9 @@ returns c = refuses posted outOfRange _ _ _ (ap not (sym (move-tells _ _ (moved 
 
 -- src/lib.rt:161:5
 returns-2 : tie.Need-returns-2
-returns-2 c = goes-on posted outOfRange _ _ _ (ap not (sym (move-tells _ _ (moved (c .before .before .before)))) ∙ c .before .if1 .left) (does posted _ _ (rw (back (c .before .before .before .change .result .total) (c .struct-told4 .given .1 .0 .1), move-makes _ _ (moved (c .before .before .before)) (not-false _ (c .before .if1 .left)))))
+returns-2 c =
+    goes-on posted outOfRange _ _ _ (ap not (sym (move-tells _ _ (moved (c .before .before .before)))) ∙ c .before .if1 .left)
+    (does posted _ _ (rw (back (c .before .before .before .change .result .total) (search needs), move-makes _ _ (moved (c .before .before .before)) (not-false _ (c .before .if1 .left)))))
 
 pub reoffer-spec : {M : Type 1} → statement M
 reoffer-spec = tie.close (tie.spec change-requires returns returns-2)
