@@ -15,7 +15,7 @@ use Rattle.account.proofs.Account.accept.Lts as lts
 use Rattle.money.proofs.shift.Reads as shift-reads
 
 moved : (c : tie.After-shift) → c .shift .result ≡ movedOf (c .before .before .before .args .self .accepted) (c .before .before .before .args .t .amount)
-moved c = simp (back (c .before .before .before .args .self .accepted) (c .before .before .struct-told .given .1 .1 .1 .0 .1), back (c .before .before .before .args .t .amount) (c .before .struct-told2 .given .0 .1)) at (c .shift .ensures)
+moved c = simp (back (c .before .before .before .args .self .accepted) (search needs), back (c .before .before .before .args .t .amount) (search needs)) at (c .shift .ensures)
 
 -- src/lib.rt:226:13
 shift-requires : tie.Need-shift-requires
@@ -27,7 +27,9 @@ returns c = refuses posted outOfRange _ _ _ (ap not (sym (move-tells _ _ (moved 
 
 -- src/lib.rt:223:5
 returns-2 : tie.Need-returns-2
-returns-2 c = goes-on posted outOfRange _ _ _ (ap not (sym (move-tells _ _ (moved (c .before .before .before)))) ∙ c .before .if1 .left) (does posted _ _ (rw (back (c .before .before .before .shift .result .total) (c .struct-told3 .given .1 .0 .1), move-makes _ _ (moved (c .before .before .before)) (not-false _ (c .before .if1 .left)))))
+returns-2 c =
+    goes-on posted outOfRange _ _ _ (ap not (sym (move-tells _ _ (moved (c .before .before .before)))) ∙ c .before .if1 .left)
+    (does posted _ _ (rw (back (c .before .before .before .shift .result .total) (search needs), move-makes _ _ (moved (c .before .before .before)) (not-false _ (c .before .if1 .left)))))
 
 pub accept-spec : {M : Type 1} → statement M
 accept-spec = tie.close (tie.spec shift-requires returns returns-2)

@@ -25,7 +25,9 @@ returns c = refuses posted invalidInput _ _ _ (ap not (sym (amount-in (c .before
 
 -- src/lib.rt:118:5
 returns-2 : tie.Need-returns-2
-returns-2 c = goes-on posted invalidInput _ _ _ (ap not (sym (amount-in (c .before))) ∙ c .if1 .left) (does posted _ _ (rw (toZ-ofZ (c .before .before .fits .amount))))
+returns-2 c =
+    goes-on posted invalidInput _ _ _ (ap not (sym (amount-in (c .before))) ∙ c .if1 .left)
+    (does posted _ _ (rw (toZ-ofZ (c .before .before .fits .amount))))
 
 pub approve-spec : {M : Type 1} → statement M
 approve-spec = tie.close (tie.spec in-total-range-requires returns returns-2)

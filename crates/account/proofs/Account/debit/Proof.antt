@@ -16,10 +16,10 @@ use Rattle.account.proofs.Account.debit.Lts as lts
 use Rattle.money.proofs.lower.Reads as lower-reads
 
 allowed : (c : tie.After-lower) → c .lower .result ≡ movedOf (c .before .before .before .args .self .allowance) (negℤ (c .before .before .before .args .t .amount))
-allowed c = simp (back (c .before .before .before .args .self .allowance) (c .before .before .struct-told .given .1 .0 .1), back (c .before .before .before .args .t .amount) (c .before .struct-told2 .given .0 .1)) at (c .lower .ensures)
+allowed c = simp (back (c .before .before .before .args .self .allowance) (search needs), back (c .before .before .before .args .t .amount) (search needs)) at (c .lower .ensures)
 
 moved : (c : tie.After-lower2) → c .lower2 .result ≡ movedOf (c .before .before .before .before .before .before .before .before .args .self .balance) (negℤ (c .before .before .before .before .before .before .before .before .args .t .amount))
-moved c = simp (back (c .before .before .before .before .before .before .before .before .args .self .balance) (c .before .before .struct-told3 .given .0 .1), back (c .before .before .before .before .before .before .before .before .args .t .amount) (c .before .struct-told4 .given .0 .1)) at (c .lower2 .ensures)
+moved c = simp (back (c .before .before .before .before .before .before .before .before .args .self .balance) (search needs), back (c .before .before .before .before .before .before .before .before .args .t .amount) (search needs)) at (c .lower2 .ensures)
 
 -- src/lib.rt:182:13
 lower-requires : tie.Need-lower-requires
@@ -35,11 +35,16 @@ lower-requires-2 c κs = search needs
 
 -- src/lib.rt:191:13
 returns-2 : tie.Need-returns-2
-returns-2 c = goes-on posted allowanceShort _ _ _ (ap not (sym (move-tells _ _ (allowed (c .before .before .before .before .before .before .before)))) ∙ c .before .before .before .before .before .if1 .left) (refuses posted balanceShort _ _ _ (ap not (sym (move-tells _ _ (moved (c .before .before)))) ∙ c .if2 .taken))
+returns-2 c =
+    goes-on posted allowanceShort _ _ _ (ap not (sym (move-tells _ _ (allowed (c .before .before .before .before .before .before .before)))) ∙ c .before .before .before .before .before .if1 .left)
+    (refuses posted balanceShort _ _ _ (ap not (sym (move-tells _ _ (moved (c .before .before)))) ∙ c .if2 .taken))
 
 -- src/lib.rt:179:5
 returns-3 : tie.Need-returns-3
-returns-3 c = goes-on posted allowanceShort _ _ _ (ap not (sym (move-tells _ _ (allowed (c .before .before .before .before .before .before .before .before .before)))) ∙ c .before .before .before .before .before .before .before .if1 .left) (goes-on posted balanceShort _ _ _ (ap not (sym (move-tells _ _ (moved (c .before .before .before .before)))) ∙ c .before .before .if2 .left) (does posted _ _ (rw (back (c .before .before .before .before .before .before .before .before .before .lower .result .total) (c .before .struct-told5 .given .1 .0 .1), back (c .before .before .before .before .lower2 .result .total) (c .struct-told6 .given .1 .0 .1), move-makes _ _ (allowed (c .before .before .before .before .before .before .before .before .before)) (not-false _ (c .before .before .before .before .before .before .before .if1 .left)), move-makes _ _ (moved (c .before .before .before .before)) (not-false _ (c .before .before .if2 .left))))))
+returns-3 c =
+    goes-on posted allowanceShort _ _ _ (ap not (sym (move-tells _ _ (allowed (c .before .before .before .before .before .before .before .before .before)))) ∙ c .before .before .before .before .before .before .before .if1 .left)
+    (goes-on posted balanceShort _ _ _ (ap not (sym (move-tells _ _ (moved (c .before .before .before .before)))) ∙ c .before .before .if2 .left)
+    (does posted _ _ (rw (back (c .before .before .before .before .before .before .before .before .before .lower .result .total) (search needs), back (c .before .before .before .before .lower2 .result .total) (search needs), move-makes _ _ (allowed (c .before .before .before .before .before .before .before .before .before)) (not-false _ (c .before .before .before .before .before .before .before .if1 .left)), move-makes _ _ (moved (c .before .before .before .before)) (not-false _ (c .before .before .if2 .left))))))
 
 pub debit-spec : {M : Type 1} → statement M
 debit-spec = tie.close (tie.spec lower-requires returns lower-requires-2 returns-2 returns-3)

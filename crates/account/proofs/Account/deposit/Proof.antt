@@ -20,7 +20,7 @@ amount-in : (c : tie.After-in-amount-range) → c .in-amount-range .result ≡ i
 amount-in c = simp (toZ-ofZ (c .before .fits .amount)) at (c .in-amount-range .ensures)
 
 moved : (c : tie.After-shift) → c .shift .result ≡ movedOf (c .before .before .before .before .args .self .balance) (c .before .before .before .before .args .amount)
-moved c = simp (back (c .before .before .before .before .args .self .balance) (c .before .struct-told .given .0 .1), toZ-ofZ (c .before .before .before .before .fits .amount)) at (c .shift .ensures)
+moved c = simp (back (c .before .before .before .before .args .self .balance) (search needs), toZ-ofZ (c .before .before .before .before .fits .amount)) at (c .shift .ensures)
 
 -- src/lib.rt:75:13
 in-amount-range-requires : tie.Need-in-amount-range-requires
@@ -36,11 +36,16 @@ shift-requires c κs = search needs
 
 -- src/lib.rt:83:13
 returns-2 : tie.Need-returns-2
-returns-2 c = goes-on posted invalidInput _ _ _ (ap not (sym (amount-in (c .before .before .before .before .before))) ∙ c .before .before .before .before .if1 .left) (refuses posted outOfRange _ _ _ (ap not (sym (move-tells _ _ (moved (c .before .before)))) ∙ c .if2 .taken))
+returns-2 c =
+    goes-on posted invalidInput _ _ _ (ap not (sym (amount-in (c .before .before .before .before .before))) ∙ c .before .before .before .before .if1 .left)
+    (refuses posted outOfRange _ _ _ (ap not (sym (move-tells _ _ (moved (c .before .before)))) ∙ c .if2 .taken))
 
 -- src/lib.rt:72:5
 returns-3 : tie.Need-returns-3
-returns-3 c = goes-on posted invalidInput _ _ _ (ap not (sym (amount-in (c .before .before .before .before .before .before))) ∙ c .before .before .before .before .before .if1 .left) (goes-on posted outOfRange _ _ _ (ap not (sym (move-tells _ _ (moved (c .before .before .before)))) ∙ c .before .if2 .left) (does posted _ _ (rw (back (c .before .before .before .shift .result .total) (c .struct-told2 .given .1 .0 .1), move-makes _ _ (moved (c .before .before .before)) (not-false _ (c .before .if2 .left))))))
+returns-3 c =
+    goes-on posted invalidInput _ _ _ (ap not (sym (amount-in (c .before .before .before .before .before .before))) ∙ c .before .before .before .before .before .if1 .left)
+    (goes-on posted outOfRange _ _ _ (ap not (sym (move-tells _ _ (moved (c .before .before .before)))) ∙ c .before .if2 .left)
+    (does posted _ _ (rw (back (c .before .before .before .shift .result .total) (search needs), move-makes _ _ (moved (c .before .before .before)) (not-false _ (c .before .if2 .left))))))
 
 pub deposit-spec : {M : Type 1} → statement M
 deposit-spec =

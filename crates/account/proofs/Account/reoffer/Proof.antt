@@ -16,7 +16,7 @@ use Rattle.account.proofs.Account.reoffer.Lts as lts
 use Rattle.money.proofs.change.Reads as change-reads
 
 moved : (c : tie.After-change) → c .change .result ≡ movedOf (c .before .before .before .before .args .self .offered) (c .before .before .before .before .args .new .amount -ℤ c .before .before .before .before .args .old .amount)
-moved c = simp (back (c .before .before .before .before .args .self .offered) (c .before .before .before .struct-told .given .1 .1 .0 .1), back (c .before .before .before .before .args .old .amount) (c .before .before .struct-told2 .given .0 .1), back (c .before .before .before .before .args .new .amount) (c .before .struct-told3 .given .0 .1)) at (c .change .ensures)
+moved c = simp (back (c .before .before .before .before .args .self .offered) (search needs), back (c .before .before .before .before .args .old .amount) (search needs), back (c .before .before .before .before .args .new .amount) (search needs)) at (c .change .ensures)
 
 -- src/lib.rt:164:13
 change-requires : tie.Need-change-requires
@@ -28,7 +28,9 @@ returns c = refuses posted outOfRange _ _ _ (ap not (sym (move-tells _ _ (moved 
 
 -- src/lib.rt:161:5
 returns-2 : tie.Need-returns-2
-returns-2 c = goes-on posted outOfRange _ _ _ (ap not (sym (move-tells _ _ (moved (c .before .before .before)))) ∙ c .before .if1 .left) (does posted _ _ (rw (back (c .before .before .before .change .result .total) (c .struct-told4 .given .1 .0 .1), move-makes _ _ (moved (c .before .before .before)) (not-false _ (c .before .if1 .left)))))
+returns-2 c =
+    goes-on posted outOfRange _ _ _ (ap not (sym (move-tells _ _ (moved (c .before .before .before)))) ∙ c .before .if1 .left)
+    (does posted _ _ (rw (back (c .before .before .before .change .result .total) (search needs), move-makes _ _ (moved (c .before .before .before)) (not-false _ (c .before .if1 .left)))))
 
 pub reoffer-spec : {M : Type 1} → statement M
 reoffer-spec = tie.close (tie.spec change-requires returns returns-2)

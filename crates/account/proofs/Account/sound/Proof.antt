@@ -26,7 +26,7 @@ in-total-range-requires-4 c κs = search needs
 -- src/lib.rt:47:5
 returns : tie.Need-returns
 unfolding accountSound
-returns c = let s = c .before .before .before .before .before .before .before .before .args .self in rw (simp (back (s .balance) (c .before .before .before .before .before .before .before .struct-told .given .0 .1)) at (c .before .before .before .before .before .before .in-total-range .ensures), simp (back (s .allowance) (c .before .before .before .before .before .struct-told2 .given .1 .0 .1)) at (c .before .before .before .before .in-total-range2 .ensures), simp (back (s .offered) (c .before .before .before .struct-told3 .given .1 .1 .0 .1)) at (c .before .before .in-total-range3 .ensures), simp (back (s .accepted) (c .before .struct-told4 .given .1 .1 .1 .0 .1)) at (c .in-total-range4 .ensures))
+returns c = let s = c .before .before .before .before .before .before .before .before .args .self in rw (simp (back (s .balance) (search needs)) at (c .before .before .before .before .before .before .in-total-range .ensures), simp (back (s .allowance) (search needs)) at (c .before .before .before .before .in-total-range2 .ensures), simp (back (s .offered) (search needs)) at (c .before .before .in-total-range3 .ensures), simp (back (s .accepted) (search needs)) at (c .in-total-range4 .ensures))
 
 pub sound-spec : {M : Type 1} → statement M
 sound-spec =

@@ -26,7 +26,7 @@ is-zero-requires-4 c κs = search needs
 -- src/lib.rt:59:5
 returns : tie.Need-returns
 unfolding accountZero
-returns c = let s = c .before .before .before .before .before .before .before .before .args .self in rw (simp (back (s .balance) (c .before .before .before .before .before .before .before .struct-told .given .0 .1)) at (c .before .before .before .before .before .before .is-zero .ensures), simp (back (s .allowance) (c .before .before .before .before .before .struct-told2 .given .1 .0 .1)) at (c .before .before .before .before .is-zero2 .ensures), simp (back (s .offered) (c .before .before .before .struct-told3 .given .1 .1 .0 .1)) at (c .before .before .is-zero3 .ensures), simp (back (s .accepted) (c .before .struct-told4 .given .1 .1 .1 .0 .1)) at (c .is-zero4 .ensures))
+returns c = let s = c .before .before .before .before .before .before .before .before .args .self in rw (simp (back (s .balance) (search needs)) at (c .before .before .before .before .before .before .is-zero .ensures), simp (back (s .allowance) (search needs)) at (c .before .before .before .before .is-zero2 .ensures), simp (back (s .offered) (search needs)) at (c .before .before .is-zero3 .ensures), simp (back (s .accepted) (search needs)) at (c .is-zero4 .ensures))
 
 pub zero-spec : {M : Type 1} → statement M
 zero-spec =
