@@ -46,9 +46,9 @@ registerChecks x exists full = (not (inAmount x) gives invalidInput) ∷ (exists
 abbrev pub cancelOf : SeenInvoice → ℕ → Rule Invoice
 cancelOf s caller = record {
   checks =
-    (not (s .here) gives notFound)
-    ∷ (not (eqb (s .row .originator) caller) gives unauthorized)
-    ∷ (not (eqb (s .row .status) 0) gives invalidTransition)
-    ∷ [];
+      (not (s .here) gives notFound)
+      ∷ (not (eqb (s .row .originator) caller) gives unauthorized)
+      ∷ (not (eqb (s .row .status) 0) gives invalidTransition)
+      ∷ [];
   done = inStatus 2 (s .row);
 }

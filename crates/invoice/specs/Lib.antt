@@ -1,1 +1,2 @@
 pub mod Invoice
+pub mod Laws

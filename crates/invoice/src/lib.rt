@@ -6,7 +6,9 @@ ghost use Rattle.invoice.specs.Invoice.{noInvoice, invoiceOf, invoiceSou
 
 // An invoice leaves Pending for good: as Financed by settlement, as Cancelled by its originator.
 pub const PENDING: u32 = 0;
+
 pub const FINANCED: u32 = 1;
+
 pub const CANCELLED: u32 = 2;
 
 pub struct Invoice {
