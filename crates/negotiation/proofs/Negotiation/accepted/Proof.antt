@@ -1,0 +1,24 @@
+use Rattle.negotiation.specs.Rounds.{acceptedOf}
+use Rattle.refusal.specs.Choice.{on, off, not-on, not-off, pick-on, pick-off}
+use borrow.Author.Tests.{le-leb, lt-leb, le-ltb, lt-ltb, eq-eqb, ne-eqb, not-true, not-false}
+use native.Mathlib.Omega.{arith}
+use mathlib.Core.Path.{_≡_, refl, sym, ap, _∙_}
+use Rattle.negotiation.proofs.Negotiation.accepted.Statement.{statement}
+use Rattle.negotiation.proofs.Negotiation.accepted.Tie as tie
+use Rattle.negotiation.proofs.Negotiation.accepted.Reads as reads
+use Rattle.negotiation.proofs.Negotiation.accepted.Lts as lts
+
+returns : tie.Need-returns
+unfolding acceptedOf
+returns c = on _ (eq-eqb _ _ (c .if1 .taken)) (refl)
+
+returns-2 : tie.Need-returns-2
+unfolding acceptedOf
+returns-2 c = off _ (ne-eqb _ _ (c .before .if1 .left)) (on _ (not-on (ne-eqb _ _ (c .if2 .taken))) (refl))
+
+returns-3 : tie.Need-returns-3
+unfolding acceptedOf
+returns-3 c = off _ (ne-eqb _ _ (c .before .if1 .left)) (off _ (not-off (eq-eqb _ _ (c .if2 .left))) (refl))
+
+pub accepted-spec : {M : Type 1} → statement M
+accepted-spec = tie.close (tie.spec returns returns-2 returns-3)
