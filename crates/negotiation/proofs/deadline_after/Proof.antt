@@ -1,13 +1,11 @@
 use Rattle.negotiation.specs.Rounds.{deadlineOf}
-use Rattle.refusal.specs.Choice.{on, off, not-on, not-off, pick-on, pick-off}
-use borrow.Author.Tests.{le-leb, lt-leb, le-ltb, lt-ltb, eq-eqb, ne-eqb, not-true, not-false}
+use Rattle.refusal.specs.Choice.{on, off}
+use borrow.Author.Tests.{eq-eqb, ne-eqb}
 use native.Mathlib.Omega.{arith}
-use mathlib.Core.Path.{_≡_, refl, sym, ap, _∙_}
+use mathlib.Core.Path.{refl}
 use borrow.Author.Needs.{needs}
 use Rattle.negotiation.proofs.deadline_after.Statement.{statement}
 use Rattle.negotiation.proofs.deadline_after.Tie as tie
-use Rattle.negotiation.proofs.deadline_after.Reads as reads
-use Rattle.negotiation.proofs.deadline_after.Lts as lts
 
 returns : tie.Need-returns
 unfolding deadlineOf

@@ -1,14 +1,10 @@
 use Rattle.negotiation.specs.Rounds.{addedOf}
-use Rattle.refusal.specs.Choice.{on, off, not-on, not-off, pick-on, pick-off}
-use borrow.Author.Tests.{le-leb, lt-leb, le-ltb, lt-ltb, eq-eqb, ne-eqb, not-true, not-false}
-use native.Mathlib.Omega.{arith}
-use mathlib.Core.Path.{_≡_, refl, sym, ap, _∙_}
+use Rattle.refusal.specs.Choice.{on, off}
+use borrow.Author.Tests.{le-leb, lt-leb}
+use mathlib.Core.Path.{refl}
 use borrow.Author.Needs.{needs}
 use Rattle.negotiation.proofs.Negotiation.added.Statement.{statement}
 use Rattle.negotiation.proofs.Negotiation.added.Tie as tie
-use Rattle.negotiation.proofs.Negotiation.added.Reads as reads
-use Rattle.negotiation.proofs.Negotiation.added.Lts as lts
-use Rattle.negotiation.proofs.deadline_after.Reads as deadline-after-reads
 
 returns : tie.Need-returns
 unfolding addedOf

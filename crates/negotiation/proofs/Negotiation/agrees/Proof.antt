@@ -9,10 +9,6 @@ use Rattle.negotiation.specs.Latest.{latest-step}
 use borrow.Author.Needs.{needs}
 use Rattle.negotiation.proofs.Negotiation.agrees.Statement.{statement}
 use Rattle.negotiation.proofs.Negotiation.agrees.Tie as tie
-use Rattle.negotiation.proofs.Negotiation.agrees.Reads as reads
-use Rattle.negotiation.proofs.Negotiation.agrees.Lts as lts
-use Rattle.negotiation.proofs.Round.terms.Reads as terms-reads
-use Rattle.terms.proofs.same_terms.Reads as same-terms-reads
 
 -- the originator's latest round is among those still to come
 abbrev Inv-loop : tie.InvT-loop
@@ -49,7 +45,7 @@ same-terms-requires c κs = search needs
 returns-2 : tie.Need-returns-2 Inv-loop μ-loop
 unfolding agreesOf matches
 returns-2 c =
-    c .same-terms .ensures ∙ ap (λ u. sameTerms u _) (c .before .terms .ensures)
+    c .same-terms .ensures ∙ ap (λ u. sameTerms u (c .before .before .before .before .before .before .before .args .t)) (c .before .terms .ensures)
     ∙ sym (ap (matches _) (pick-off _ _ (le-ltb _ _ (c .before .before .before .before .before .before .if1 .left))
     ∙ c .before .before .before .before .before .loop .inv .1
     ∙ latest-step _ _ (c .before .before .before .before .loop-test .taken)

@@ -1,13 +1,9 @@
 use Rattle.refusal.specs.Choice.{not-on, not-off}
 use Rattle.refusal.specs.Refusal.{invalidInput, invalidTransition, fails, passes, none-left}
 use borrow.Author.Tests.{le-leb, lt-leb, le-ltb, lt-ltb, eq-eqb, ne-eqb}
-use mathlib.Core.Path.{_≡_, refl, sym, ap, _∙_}
 use borrow.Author.Needs.{needs}
 use Rattle.negotiation.proofs.Negotiation.refusal.Statement.{statement}
 use Rattle.negotiation.proofs.Negotiation.refusal.Tie as tie
-use Rattle.negotiation.proofs.Negotiation.refusal.Reads as reads
-use Rattle.negotiation.proofs.Negotiation.refusal.Lts as lts
-use Rattle.negotiation.proofs.Negotiation.status.Reads as status-reads
 
 returns : tie.Need-returns
 returns c = fails invalidTransition _ (c .if1 .taken)

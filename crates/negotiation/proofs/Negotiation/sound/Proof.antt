@@ -1,17 +1,10 @@
 use Prim.Native.Nat.{_-_}
-use lib.ListN.{getD}
-use mathlib.Core.Path.{_≡_, ap, _∙_}
-use mathlib.Core.Bool.{Bool, _&&_}
 use Rattle.table.specs.Test.{rowTest}
 use Rattle.table.specs.All.{Checked, check-start, check-turn, check-done}
 use Rattle.negotiation.specs.Rounds.{noRound, roundSound, roundZero, negotiationSound}
 use borrow.Author.Needs.{needs}
 use Rattle.negotiation.proofs.Negotiation.sound.Statement.{statement}
 use Rattle.negotiation.proofs.Negotiation.sound.Tie as tie
-use Rattle.negotiation.proofs.Negotiation.sound.Reads as reads
-use Rattle.negotiation.proofs.Negotiation.sound.Lts as lts
-use Rattle.negotiation.proofs.Round.sound.Reads as sound-reads
-use Rattle.negotiation.proofs.Round.zero.Reads as zero-reads
 
 abbrev Inv-loop : tie.InvT-loop
 Inv-loop self n ok₀ i₀ ok i = Checked 12 (rowTest roundSound roundZero noRound n (self .rounds)) i ok

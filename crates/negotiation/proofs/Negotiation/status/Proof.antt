@@ -1,12 +1,9 @@
 use Rattle.negotiation.specs.Rounds.{statusOf}
-use Rattle.refusal.specs.Choice.{on, off, not-on, not-off, pick-on, pick-off}
-use borrow.Author.Tests.{le-leb, lt-leb, le-ltb, lt-ltb, eq-eqb, ne-eqb, not-true, not-false}
-use native.Mathlib.Omega.{arith}
-use mathlib.Core.Path.{_≡_, refl, sym, ap, _∙_}
+use Rattle.refusal.specs.Choice.{on, off, not-on, not-off}
+use borrow.Author.Tests.{le-ltb, lt-ltb, eq-eqb, ne-eqb}
+use mathlib.Core.Path.{refl}
 use Rattle.negotiation.proofs.Negotiation.status.Statement.{statement}
 use Rattle.negotiation.proofs.Negotiation.status.Tie as tie
-use Rattle.negotiation.proofs.Negotiation.status.Reads as reads
-use Rattle.negotiation.proofs.Negotiation.status.Lts as lts
 
 returns : tie.Need-returns
 unfolding statusOf

@@ -1,16 +1,13 @@
 use Prim.Native.Nat.{_-_}
 use lib.ListN.{getD, length-map}
 use lib.Dec.{eqb}
-use mathlib.Core.Path.{_≡_, ap, _∙_}
+use mathlib.Core.Path.{ap}
 use mathlib.Core.Bool.{Bool, _&&_}
 use Rattle.table.specs.All.{Checked, check-start, check-turn, check-done}
-use Rattle.negotiation.specs.Rounds.{noRound, roundLimit, roundZero, negotiationZero}
+use Rattle.negotiation.specs.Rounds.{noRound, roundZero, negotiationZero}
 use borrow.Author.Needs.{needs}
 use Rattle.negotiation.proofs.Negotiation.zero.Statement.{statement}
 use Rattle.negotiation.proofs.Negotiation.zero.Tie as tie
-use Rattle.negotiation.proofs.Negotiation.zero.Reads as reads
-use Rattle.negotiation.proofs.Negotiation.zero.Lts as lts
-use Rattle.negotiation.proofs.Round.zero.Reads as zero-reads
 
 abbrev Inv-loop : tie.InvT-loop
 Inv-loop self ok₀ i₀ ok i = Checked 12 (λ j. roundZero (getD (self .rounds) j noRound)) i ok
@@ -41,7 +38,7 @@ loop-again c = check-turn (c .before .before .before .loop .inv) (c .before .bef
 
 returns : tie.Need-returns Inv-loop μ-loop
 unfolding negotiationZero
-returns c = (ap (λ (b : Bool). ((b && eqb (c .before .before .args .self .deadline) 0) && eqb (c .before .before .args .self .len) 0) && eqb (c .before .before .args .self .outcome) 0) (check-done (c .before .loop .inv) (c .loop-test .left)), record { long = ? })
+returns c = (ap (λ (b : Bool). ((b && eqb (c .before .before .args .t1 .deadline) 0) && eqb (c .before .before .args .t1 .len) 0) && eqb (c .before .before .args .t1 .outcome) 0) (check-done (c .before .loop .inv) (c .loop-test .left)), record { long = simp length-map at (c .before .before .good .0 .1 .1 .0 .1 .0 .1) })
 
 pub zero-spec : {M : Type 1} → statement M
 zero-spec =

@@ -3,9 +3,6 @@ use Rattle.negotiation.specs.Rounds.{roundZero}
 use borrow.Author.Needs.{needs}
 use Rattle.negotiation.proofs.Round.zero.Statement.{statement}
 use Rattle.negotiation.proofs.Round.zero.Tie as tie
-use Rattle.negotiation.proofs.Round.zero.Reads as reads
-use Rattle.negotiation.proofs.Round.zero.Lts as lts
-use Rattle.money.proofs.is_zero.Reads as is-zero-reads
 
 is-zero-requires : tie.Need-is-zero-requires
 is-zero-requires c κs = search needs
