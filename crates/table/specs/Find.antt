@@ -1,3 +1,4 @@
+-- Where an id stands among ids: the first that is not below it is looked at
 use Prim.Native.Nat.{ℕ, suc}
 use mathlib.Core.Bool.{Bool, true, false}
 use mathlib.Core.List.{List, [], _∷_}
@@ -14,5 +15,6 @@ abbrev pub findFrom : ℕ → List ℕ → ℕ → Found
 findFrom i [] id = Absent i
 findFrom i (x ∷ xs) id = pickFound (leb id x) (pickFound (eqb x id) (At i) (Absent i)) (findFrom (suc i) xs id)
 
+-- At the place of that id where it is `id`, else Absent with the place where `id` would be let in
 abbrev pub findIn : List ℕ → ℕ → Found
 findIn xs id = findFrom 0 xs id

@@ -1,25 +1,24 @@
-use Prim.Native.Nat.{ℕ, zero, suc, _+_, _≤_, _<_}
-use native.Mathlib.Nat.{min-le-left, min-le-right, le-of-suc-le-suc, not-suc-le-zero}
+-- The walk of `find`, step by step over the first n ids
+use Prim.Native.Nat.{ℕ, _+_, _≤_, _<_}
 use native.Mathlib.Numerals.{add-one}
 use native.Mathlib.Omega.{arith}
-use mathlib.Core.Path.{_≡_, refl, sym, ap, _∙_}
+use mathlib.Core.Path.{_≡_, _∙_}
 use mathlib.Core.Logic.{_⊎_, inl, inr}
-use mathlib.Core.Bool.{Bool, true, false}
-use mathlib.Core.List.{List, [], _∷_}
+use mathlib.Core.List.{List}
 use lib.ListN.{length, take, drop, getD, length-take, drop-of-length-le}
-use lib.Seq.{drop-cons, getD-take, length-take-le, take-all}
+use lib.Seq.{drop-cons, getD-take}
 use lib.Dec.{leb, eqb}
-use borrow.Author.Tests.{le-leb, lt-leb, eq-eqb, ne-eqb, leb-true, leb-false, eqb-true, eqb-false}
-use Rattle.table.specs.declared.Found.{Found}
+use borrow.Author.Tests.{le-leb, lt-leb, eq-eqb, ne-eqb}
 use Rattle.table.specs.declared.Found.the-variants.{At, Absent}
-use Rattle.table.specs.Find.{pickFound, findFrom, findIn}
+use Rattle.table.specs.Find.{pickFound, findFrom}
 
 -- an index below the count and below the length stands in the part
-pub in-take {ℓ} : {A : Type ℓ} (n i : ℕ) (l : List A) → i < n → i < length l → i < length (take n l)
+in-take {ℓ} : {A : Type ℓ} (n i : ℕ) (l : List A) → i < n → i < length l → i < length (take n l)
 in-take n i l h k = simp length-take (omega arith)
 
 -- one step of the walk at the place i
-pub walk : (n i id : ℕ) (l : List ℕ) → i < n → i < length l → findFrom i (drop i (take n l)) id ≡ pickFound (leb id (getD l i 0)) (pickFound (eqb (getD l i 0) id) (At i) (Absent i)) (findFrom (i + 1) (drop (i + 1) (take n l)) id)
+walk : (n i id : ℕ) (l : List ℕ) → i < n → i < length l
+    → findFrom i (drop i (take n l)) id ≡ pickFound (leb id (getD l i 0)) (pickFound (eqb (getD l i 0) id) (At i) (Absent i)) (findFrom (i + 1) (drop (i + 1) (take n l)) id)
 walk n i id l h k = let m : i < length (take n l) = in-take n i l h k in rw (add-one, drop-cons (take n l) i 0, getD-take)
 
 -- the walk's end: past the count, or past the ids

@@ -18,4 +18,5 @@ pub mod All
 pub mod Test
 pub mod TestLaws
 pub mod Columns
+pub mod Parts
 pub mod OneResult

@@ -3,21 +3,11 @@ use mathlib.Core.Path.{_≡_}
 use mathlib.Core.List.{List, [], _∷_}
 use Prim.Native.Nat.{ℕ, zero, suc, _≤_}
 use lib.ListN.{length}
-use Rattle.table.specs.Tables.{Table}
+use Rattle.table.specs.Tables.{Table, key, held, keys}
 use Rattle.table.specs.Rising.{Rises}
 use Rattle.table.specs.Padded.{padded}
 
 module _ {A : Type 0} where
-  abbrev pub key : ℕ × A → ℕ
-  key e = e .0
-
-  abbrev pub held : ℕ × A → A
-  held e = e .1
-
-  unfoldable pub keys : Table A → List ℕ
-  keys [] = []
-  keys (e ∷ t) = e .0 ∷ keys t
-
   -- the first n rows with their ids
   unfoldable pub tableOf : List ℕ → List A → ℕ → Table A
   tableOf [] rows n = []

@@ -1,15 +1,14 @@
 -- A table stored and read back, and a shelf read and stored back
 use mathlib.Core.Path.{_≡_, refl, sym, ap, _∙_}
-use mathlib.Core.Bool.{Bool, true, false, cond}
 use mathlib.Core.List.{List, [], _∷_}
-use Prim.Native.Nat.{ℕ, zero, suc, _+_, _≤_, _<_}
+use Prim.Native.Nat.{ℕ, zero, suc, _≤_, _<_}
 use native.Mathlib.Omega.{arith}
 use lib.ListN.{length, getD, take}
-use lib.Dec.{eqb}
-use Rattle.table.specs.Tables.{Table, adjust}
+use Rattle.table.specs.Tables.{Table, adjust, key, held, keys}
+use Rattle.table.specs.TableLaws.{keys-adjust}
 use Rattle.table.specs.Rising.{Rises}
 use Rattle.table.specs.Padded.{padded}
-use Rattle.table.specs.Shelf.{key, held, keys, tableOf, Shelf}
+use Rattle.table.specs.Shelf.{tableOf, Shelf}
 
 module _ {A : Type 0} where
   -- stored and read back
@@ -26,33 +25,30 @@ module _ {A : Type 0} where
   nothing (i ∷ ids) [] = refl
   nothing (i ∷ ids) (r ∷ rows) = refl
 
-  -- read and stored back, where what is past the count is zero
-  pub ids-back : (ids : List ℕ) (rows : List A) (c n : ℕ) → length ids ≡ n → length rows ≡ n → ((i : ℕ) → c ≤ i → i < n → getD ids i 0 ≡ 0)
-      → padded 0 key n (tableOf ids rows c) ≡ ids
+  -- read and stored back: xs is g of each row in use, and d past the count
+  back : {B : Type 0} (d : B) (g : ℕ × A → B) (dr : A) (xs : List B) (ids : List ℕ) (rows : List A) (c n : ℕ) → length xs ≡ n → length ids ≡ n → length rows ≡ n
+      → ((i : ℕ) → i < n → g (getD ids i 0, getD rows i dr) ≡ getD xs i d) → ((i : ℕ) → c ≤ i → i < n → getD xs i d ≡ d)
+      → padded d g n (tableOf ids rows c) ≡ xs
   unfolding padded tableOf
-  ids-back [] rows c zero a b h = refl
-  ids-back [] rows c (suc n) a b h = absurd (omega arith)
-  ids-back (i ∷ ids) rows c zero a b h = absurd (omega arith)
-  ids-back (i ∷ ids) [] c (suc n) a b h = absurd (omega arith)
-  ids-back (i ∷ ids) (r ∷ rows) zero (suc n) a b h =
-      rw (nothing ids rows) at (ap (λ z. 0 ∷ z) (ids-back ids rows 0 n (omega arith) (omega arith) (λ j p q. h (suc j) (omega arith) (omega arith))))
-      ∙ ap (λ z. z ∷ ids) (sym (h 0 (omega arith) (omega arith)))
-  ids-back (i ∷ ids) (r ∷ rows) (suc c) (suc n) a b h =
-      ap (λ z. i ∷ z) (ids-back ids rows c n (omega arith) (omega arith) (λ j p q. h (suc j) (omega arith) (omega arith)))
+  back d g dr [] ids rows c zero p a b f h = refl
+  back d g dr (x ∷ xs) ids rows c zero p a b f h = absurd (omega arith)
+  back d g dr [] ids rows c (suc n) p a b f h = absurd (omega arith)
+  back d g dr (x ∷ xs) [] rows c (suc n) p a b f h = absurd (omega arith)
+  back d g dr (x ∷ xs) (i ∷ ids) [] c (suc n) p a b f h = absurd (omega arith)
+  back d g dr (x ∷ xs) (i ∷ ids) (r ∷ rows) zero (suc n) p a b f h =
+      rw (nothing ids rows) at
+      (ap (λ z. d ∷ z) (back d g dr xs ids rows 0 n (omega arith) (omega arith) (omega arith) (λ j q. f (suc j) (omega arith)) (λ j l q. h (suc j) (omega arith) (omega arith))))
+      ∙ ap (λ z. z ∷ xs) (sym (h 0 (omega arith) (omega arith)))
+  back d g dr (x ∷ xs) (i ∷ ids) (r ∷ rows) (suc c) (suc n) p a b f h =
+      ap (λ z. z ∷ padded d g n (tableOf ids rows c)) (f 0 (omega arith))
+      ∙ ap (λ z. x ∷ z) (back d g dr xs ids rows c n (omega arith) (omega arith) (omega arith) (λ j q. f (suc j) (omega arith)) (λ j l q. h (suc j) (omega arith) (omega arith)))
 
-  pub rows-back : (d : A) (ids : List ℕ) (rows : List A) (c n : ℕ) → length ids ≡ n → length rows ≡ n → ((i : ℕ) → c ≤ i → i < n → getD rows i d ≡ d)
-      → padded d held n (tableOf ids rows c) ≡ rows
-  unfolding padded tableOf
-  rows-back d [] [] c zero a b h = refl
-  rows-back d [] (r ∷ rows) c zero a b h = absurd (omega arith)
-  rows-back d [] rows c (suc n) a b h = absurd (omega arith)
-  rows-back d (i ∷ ids) rows c zero a b h = absurd (omega arith)
-  rows-back d (i ∷ ids) [] c (suc n) a b h = absurd (omega arith)
-  rows-back d (i ∷ ids) (r ∷ rows) zero (suc n) a b h =
-      rw (nothing ids rows) at (ap (λ z. d ∷ z) (rows-back d ids rows 0 n (omega arith) (omega arith) (λ j p q. h (suc j) (omega arith) (omega arith))))
-      ∙ ap (λ z. z ∷ rows) (sym (h 0 (omega arith) (omega arith)))
-  rows-back d (i ∷ ids) (r ∷ rows) (suc c) (suc n) a b h =
-      ap (λ z. r ∷ z) (rows-back d ids rows c n (omega arith) (omega arith) (λ j p q. h (suc j) (omega arith) (omega arith)))
+  module _ (d : A) (ids : List ℕ) (rows : List A) (c n : ℕ) (a : length ids ≡ n) (b : length rows ≡ n) where
+    pub ids-back : ((i : ℕ) → c ≤ i → i < n → getD ids i 0 ≡ 0) → padded 0 key n (tableOf ids rows c) ≡ ids
+    ids-back h = back 0 key d ids ids rows c n a a b (λ i l. refl) h
+
+    pub rows-back : ((i : ℕ) → c ≤ i → i < n → getD rows i d ≡ d) → padded d held n (tableOf ids rows c) ≡ rows
+    rows-back h = back d held d rows ids rows c n b a b (λ i l. refl) h
 
   pub length-table : (ids : List ℕ) (rows : List A) (c : ℕ) → c ≤ length ids → c ≤ length rows → length (tableOf ids rows c) ≡ c
   unfolding tableOf
@@ -68,30 +64,15 @@ module _ {A : Type 0} where
   take-keys (suc n) [] h = refl
   take-keys (suc n) (e ∷ t) h = ap (λ z. e .0 ∷ z) (take-keys n t (omega arith))
 
-  pub length-keys : (t : Table A) → length (keys t) ≡ length t
-  unfolding keys
-  length-keys [] = refl
-  length-keys (e ∷ t) = ap suc (length-keys t)
-
-  pub keys-adjust : (t : Table A) (i : ℕ) (f : A → A) → keys (adjust t i f) ≡ keys t
-  unfolding adjust keys
-  keys-adjust [] i f = refl
-  keys-adjust (e ∷ t) i f = go (eqb (e .0) i) (keys-adjust t i f)
-    where
-      go : (g : Bool) → keys (adjust t i f) ≡ keys t → keys (cond g ((e .0, f (e .1)) ∷ t) (e ∷ adjust t i f)) ≡ e .0 ∷ keys t
-      go true h = refl
-      go false h = ap (λ z. e .0 ∷ z) h
+  -- the ids stored are those of the keys
+  pad-keys : (n : ℕ) (t : Table A) → padded 0 key n t ≡ padded 0 (λ i. i) n (keys t)
+  unfolding padded keys
+  pad-keys zero t = refl
+  pad-keys (suc n) [] = ap (λ z. 0 ∷ z) (pad-keys n [])
+  pad-keys (suc n) (e ∷ t) = ap (λ z. e .0 ∷ z) (pad-keys n t)
 
   pub ids-adjust : (n : ℕ) (t : Table A) (i : ℕ) (f : A → A) → padded 0 key n (adjust t i f) ≡ padded 0 key n t
-  unfolding adjust padded
-  ids-adjust zero t i f = refl
-  ids-adjust (suc n) [] i f = refl
-  ids-adjust (suc n) (e ∷ t) i f = go (eqb (e .0) i) (ids-adjust n t i f)
-    where
-      go : (g : Bool) → padded 0 key n (adjust t i f) ≡ padded 0 key n t
-          → padded 0 key (suc n) (cond g ((e .0, f (e .1)) ∷ t) (e ∷ adjust t i f)) ≡ e .0 ∷ padded 0 key n t
-      go true h = refl
-      go false h = ap (λ z. e .0 ∷ z) h
+  ids-adjust n t i f = pad-keys n (adjust t i f) ∙ ap (λ z. padded 0 (λ i. i) n z) (keys-adjust t i f) ∙ sym (pad-keys n t)
 
 -- a table that is stored is a shelf
 pub shelf-stored : {A : Type 0} (d : A) (n : ℕ) (t : Table A) → length t ≤ n → Rises (keys t) → Shelf d n (padded 0 key n t) (padded d held n t) (length t)

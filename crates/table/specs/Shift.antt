@@ -1,3 +1,4 @@
+-- An element put into an array that keeps its length, and the loop that does it. Over any element type.
 use Prim.Native.Nat.{ℕ, zero, suc, _+_, _≤_, _<_}
 use native.Mathlib.Nat.{le-of-suc-le-suc, not-suc-le-zero}
 use native.Mathlib.Numerals.{add-one}

@@ -1,18 +1,17 @@
 -- What adjusting and inserting keep: ids that rise, rows that pass a test
-use mathlib.Core.Path.{_≡_, refl, sym, ap, _∙_}
-use mathlib.Core.Bool.{Bool, true, false, cond}
+use mathlib.Core.Path.{_≡_}
 use mathlib.Core.List.{List, [], _∷_}
-use Prim.Native.Nat.{ℕ, zero, suc, _+_, _≤_, _<_}
+use Prim.Native.Nat.{ℕ, _≤_, _<_}
 use native.Mathlib.Omega.{arith}
 use lib.Dec.{leb, eqb}
 use lib.ListN.{length}
 use borrow.Author.Tests.{leb-true, leb-false, eqb-false}
-use Rattle.table.specs.Tables.{absent, here, Table, find, adjust, insert, Is, is-true, is-false, decide}
-use Rattle.table.specs.TableLaws.{length-adjust}
+use Rattle.table.specs.Tables.{absent, here, Table, find, adjust, insert, key, held, keys, Is, is-true, is-false, decide}
+use Rattle.table.specs.TableLaws.{keys-adjust, length-adjust}
 use Rattle.table.specs.Rising.{Above, Rises}
 use Rattle.table.specs.Padded.{padded}
-use Rattle.table.specs.Shelf.{keys, key, held, tableOf, Shelf}
-use Rattle.table.specs.ShelfBack.{keys-adjust, table-stored, shelf-stored}
+use Rattle.table.specs.Shelf.{tableOf, Shelf}
+use Rattle.table.specs.ShelfBack.{table-stored, shelf-stored}
 
 module _ {A : Type 0} where
   above-insert : (p : ℕ) (t : Table A) (i : ℕ) (r : A) → p < i → Above p (keys t) → find t i ≡ absent → Above p (keys (insert t i r))

@@ -1,13 +1,13 @@
 -- What is found in a table after a row is adjusted or let in
 use mathlib.Core.Path.{_≡_, refl, sym, ap, _∙_}
 use mathlib.Core.Bool.{Bool, true, false, cond}
-use mathlib.Core.List.{List, [], _∷_}
-use Prim.Native.Nat.{ℕ, zero, suc, _+_, _≤_, _<_}
+use mathlib.Core.List.{[], _∷_}
+use Prim.Native.Nat.{ℕ, suc}
 use native.Mathlib.Omega.{arith}
 use lib.Dec.{eqb, leb}
 use lib.ListN.{length}
 use borrow.Author.Tests.{eqb-true, eqb-false}
-use Rattle.table.specs.Tables.{Found, absent, here, Table, find, adjust, insert, fmap, Is, is-true, is-false, decide}
+use Rattle.table.specs.Tables.{Found, absent, here, Table, find, adjust, insert, keys, fmap, Is, is-true, is-false, decide}
 use Rattle.table.specs.Rows.{fmap-cond}
 
 module _ {A : Type 0} where
@@ -88,14 +88,23 @@ module _ {A : Type 0} where
       go (is-true b) n k = let z : here (e .1) ≡ here r = simp b at n in let y : e .1 ≡ r = cc in rw (b, y, h)
       go (is-false b) n k = rw b (ap (λ z. e ∷ z) (k (simp b at n)))
 
-  pub length-adjust : (t : Table A) (i : ℕ) (f : A → A) → length (adjust t i f) ≡ length t
-  unfolding adjust
-  length-adjust [] i f = refl
-  length-adjust (e ∷ t) i f = go (eqb (e .0) i) (length-adjust t i f)
+  -- the ids, and how many rows
+  pub keys-adjust : (t : Table A) (i : ℕ) (f : A → A) → keys (adjust t i f) ≡ keys t
+  unfolding adjust keys
+  keys-adjust [] i f = refl
+  keys-adjust (e ∷ t) i f = go (eqb (e .0) i) (keys-adjust t i f)
     where
-      go : (g : Bool) → length (adjust t i f) ≡ length t → length (cond g ((e .0, f (e .1)) ∷ t) (e ∷ adjust t i f)) ≡ suc (length t)
+      go : (g : Bool) → keys (adjust t i f) ≡ keys t → keys (cond g ((e .0, f (e .1)) ∷ t) (e ∷ adjust t i f)) ≡ e .0 ∷ keys t
       go true h = refl
-      go false h = ap suc h
+      go false h = ap (λ z. e .0 ∷ z) h
+
+  pub length-keys : (t : Table A) → length (keys t) ≡ length t
+  unfolding keys
+  length-keys [] = refl
+  length-keys (e ∷ t) = ap suc (length-keys t)
+
+  pub length-adjust : (t : Table A) (i : ℕ) (f : A → A) → length (adjust t i f) ≡ length t
+  length-adjust t i f = sym (length-keys (adjust t i f)) ∙ ap length (keys-adjust t i f) ∙ length-keys t
 
   pub length-insert : (t : Table A) (i : ℕ) (r : A) → length (insert t i r) ≡ suc (length t)
   unfolding insert

@@ -1,8 +1,8 @@
 -- The tests of a shelf say just what a shelf is, with rows that all pass
-use Prim.Native.Nat.{ℕ, zero, suc, _+_, _≤_, _<_}
+use Prim.Native.Nat.{ℕ, zero, suc, _≤_, _<_}
 use native.Mathlib.Omega.{arith}
 use mathlib.Core.Path.{_≡_, refl, sym, ap, _∙_}
-use mathlib.Core.Bool.{Bool, true, false, _&&_, _||_}
+use mathlib.Core.Bool.{Bool, true, false, _||_}
 use mathlib.Core.List.{List, [], _∷_}
 use lib.ListN.{length, getD}
 use lib.Dec.{ltb, leb, eqb}
@@ -10,7 +10,8 @@ use borrow.Author.Tests.{lt-ltb, le-ltb, le-leb, lt-leb, eq-eqb, ne-eqb, ltb-tru
 use Rattle.table.specs.All.{allBelow, all-at, all-make, both-true}
 use Rattle.table.specs.Rising.{Above, Rises}
 use Rattle.table.specs.Padded.{pad-rest}
-use Rattle.table.specs.Shelf.{key, held, keys, tableOf, Shelf}
+use Rattle.table.specs.Tables.{key, held, keys}
+use Rattle.table.specs.Shelf.{tableOf, Shelf}
 use Rattle.table.specs.ShelfBack.{ids-back, rows-back, length-table}
 use Rattle.table.specs.Sound.{All}
 use Rattle.table.specs.Test.{either, above, idTest, idsTest, rowTest, rowsTest}
@@ -95,7 +96,7 @@ module _ {A : Type 0} (q z : A → Bool) (d : A) (zero-is : (r : A) → z r ≡ 
 
   pub shelf-of : Shelf d size ids rows n
   shelf-of = record {
-    ids-kept = ids-back ids rows n size a b (λ i h l. eqb-true (getD ids i 0) 0 (free n i (above ids i) (eqb (getD ids i 0) 0) (id-at i l) h));
+    ids-kept = ids-back d ids rows n size a b (λ i h l. eqb-true (getD ids i 0) 0 (free n i (above ids i) (eqb (getD ids i 0) 0) (id-at i l) h));
     rows-kept = rows-back d ids rows n size a b (λ i h l. zero-is (getD rows i d) (free n i (q (getD rows i d)) (z (getD rows i d)) (row-is i l) h));
     counted = length-table ids rows n (omega (arith, few)) (omega (arith, few));
     few = few;

@@ -1,15 +1,12 @@
 use mathlib.Core.Logic.{inl, inr}
 use Rattle.table.specs.FindLaws.{walk-at, walk-stop, walk-on, walk-end}
 use Rattle.table.specs.Find.{findFrom}
-use borrow.Author.Tests.{le-leb, lt-leb, eq-eqb, ne-eqb}
 use borrow.Author.Needs.{needs}
-use lib.ListN.{length, take, drop, getD}
+use lib.ListN.{length, take, drop}
 use mathlib.Core.Path.{_≡_, refl, _∙_, sym}
 use Prim.Native.Nat.{_≤_, _-_}
 use Rattle.table.proofs.find.Statement.{statement}
 use Rattle.table.proofs.find.Tie as tie
-use Rattle.table.proofs.find.Reads as reads
-use Rattle.table.proofs.find.Lts as lts
 
 abbrev Inv-loop : tie.InvT-loop
 Inv-loop ids len id i₀ i = (i ≤ length ids) × (findFrom 0 (take len ids) id ≡ findFrom i (drop i (take len ids)) id)
@@ -17,43 +14,33 @@ Inv-loop ids len id i₀ i = (i ≤ length ids) × (findFrom 0 (take len ids) id
 abbrev μ-loop : tie.MeasureT-loop
 μ-loop ids len id i₀ i = length ids - i
 
--- src/lib.rt:15:5
 loop-holds : tie.Need-loop-holds Inv-loop μ-loop
 loop-holds c = (search needs, refl)
 
--- src/lib.rt:17:13
 returns : tie.Need-returns Inv-loop μ-loop
 returns c = sym (c .before .before .loop .inv .1 ∙ walk-end _ _ _ _ (inl (c .if1 .taken)))
 
--- src/lib.rt:19:17
 mul-x : tie.Need-mul-x Inv-loop μ-loop
 mul-x c = search needs
 
--- src/lib.rt:19:17
 shared-slice-read-x : tie.Need-shared-slice-read-x Inv-loop μ-loop
 shared-slice-read-x c = search needs
 
--- src/lib.rt:22:17
 returns-2 : tie.Need-returns-2 Inv-loop μ-loop
 returns-2 c = sym (c .before .before .before .before .before .loop .inv .1 ∙ walk-at _ _ _ _ (c .before .before .before .if1 .left) (c .before .before .before .before .loop-test .taken) (c .if3 .taken))
 
--- src/lib.rt:24:13
 returns-3 : tie.Need-returns-3 Inv-loop μ-loop
 returns-3 c = sym (c .before .before .before .before .before .loop .inv .1 ∙ walk-stop _ _ _ _ (c .before .before .before .if1 .left) (c .before .before .before .before .loop-test .taken) (c .before .if2 .taken) (c .if3 .left))
 
--- src/lib.rt:26:9
 add-i : tie.Need-add-i Inv-loop μ-loop
 add-i c = search needs
 
--- src/lib.rt:15:5
 loop-less : tie.Need-loop-less Inv-loop μ-loop
 loop-less c = search needs
 
--- src/lib.rt:15:5
 loop-again : tie.Need-loop-again Inv-loop μ-loop
 loop-again c = (search needs, c .before .before .before .before .loop .inv .1 ∙ walk-on _ _ _ _ (c .before .before .if1 .left) (c .before .before .before .loop-test .taken) (c .if2 .left))
 
--- src/lib.rt:11:1
 returns-4 : tie.Need-returns-4 Inv-loop μ-loop
 returns-4 c = let a = c .before .before .args in sym (c .before .loop .inv .1 ∙ walk-end (a .len) _ (a .id) (a .ids .now) (inr (c .loop-test .left)))
 

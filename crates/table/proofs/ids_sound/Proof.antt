@@ -4,12 +4,10 @@ use Rattle.table.specs.All.{Checked, check-start, check-turn, check-done
 use borrow.Author.Needs.{needs}
 use lib.ListN.{getD}
 use mathlib.Core.List.{_∷_}
-use mathlib.Core.Path.{_≡_, refl, _∙_, sym}
+use mathlib.Core.Path.{_≡_, refl}
 use Prim.Native.Nat.{_-_}
 use Rattle.table.proofs.ids_sound.Statement.{statement}
 use Rattle.table.proofs.ids_sound.Tie as tie
-use Rattle.table.proofs.ids_sound.Reads as reads
-use Rattle.table.proofs.ids_sound.Lts as lts
 
 abbrev Inv-loop : tie.InvT-loop
 Inv-loop ids len ok₀ prev₀ i₀ ok prev i = (prev ≡ getD (0 ∷ ids) i 0) × Checked 64 (idTest len ids) i ok
@@ -17,31 +15,24 @@ Inv-loop ids len ok₀ prev₀ i₀ ok prev i = (prev ≡ getD (0 ∷ ids) i 0) 
 abbrev μ-loop : tie.MeasureT-loop
 μ-loop ids len ok₀ prev₀ i₀ ok prev i = 64 - i
 
--- src/lib.rt:41:5
 loop-holds : tie.Need-loop-holds Inv-loop μ-loop
 loop-holds c = (refl, check-start _ _)
 
--- src/lib.rt:42:17
 mul-x : tie.Need-mul-x Inv-loop μ-loop
 mul-x c = search needs
 
--- src/lib.rt:42:17
 element-copy-out-x : tie.Need-element-copy-out-x Inv-loop μ-loop
 element-copy-out-x c = search needs
 
--- src/lib.rt:46:9
 add-i : tie.Need-add-i Inv-loop μ-loop
 add-i c = search needs
 
--- src/lib.rt:41:5
 loop-less : tie.Need-loop-less Inv-loop μ-loop
 loop-less c = search needs
 
--- src/lib.rt:41:5
 loop-again : tie.Need-loop-again Inv-loop μ-loop
 loop-again c = (rw add-one, check-turn (c .before .before .loop .inv .1) (c .before .loop-test .taken) (rw (c .before .before .loop .inv .0)))
 
--- src/lib.rt:35:1
 returns : tie.Need-returns Inv-loop μ-loop
 returns c = rw (check-done (c .before .loop .inv .1) (c .loop-test .left))
 
