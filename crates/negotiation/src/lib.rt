@@ -8,13 +8,18 @@ pub const ROUND_LIMIT: u32 = 12;
 
 // Who put a round down.
 pub const LENDER: u32 = 0;
+
 pub const ORIGINATOR: u32 = 1;
 
 // Where a negotiation stands. Closed, Accepted and Expired can be stored as its outcome; 0 is no outcome.
 pub const NONE: u32 = 0;
+
 pub const OPEN: u32 = 1;
+
 pub const CLOSED: u32 = 2;
+
 pub const ACCEPTED: u32 = 3;
+
 pub const EXPIRED: u32 = 4;
 
 // 32 bytes, so that a book of sixteen rounds an offer stays small.
