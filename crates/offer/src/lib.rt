@@ -182,8 +182,10 @@ impl Deal {
     {
         let n = self.negotiation;
         let next = n.accepted();
-        self.offer.status = ACCEPTED;
-        self.offer.funded = now;
+        let mut o = self.offer;
+        o.status = ACCEPTED;
+        o.funded = now;
+        self.offer = o;
         self.negotiation = next;
         self
     }
@@ -195,7 +197,9 @@ impl Deal {
         let n = self.negotiation;
         let r = Round::new(now, t, negotiation::LENDER);
         let next = n.added(r, window);
-        self.offer.terms = t;
+        let mut o = self.offer;
+        o.terms = t;
+        self.offer = o;
         self.negotiation = next;
         self
     }
@@ -320,7 +324,7 @@ impl SeenDeal {
         if !self.here {
             return refused(row, refusal::NOT_FOUND);
         }
-        let o = row.offer;
+        let mut o = row.offer;
         let l = o.lender;
         if !(l == caller) {
             return refused(row, refusal::UNAUTHORIZED);
@@ -329,7 +333,8 @@ impl SeenDeal {
         if !(s == PENDING) {
             return refused(row, refusal::INVALID_TRANSITION);
         }
-        row.offer.status = REJECTED;
+        o.status = REJECTED;
+        row.offer = o;
         DealPosted {
             answer: 0,
             row: row,
@@ -343,7 +348,7 @@ impl SeenDeal {
         if !self.here {
             return refused(row, refusal::NOT_FOUND);
         }
-        let o = row.offer;
+        let mut o = row.offer;
         let s = o.status;
         if !(s == PENDING) {
             return refused(row, refusal::INVALID_TRANSITION);
@@ -356,7 +361,8 @@ impl SeenDeal {
         if !(g == caller) {
             return refused(row, refusal::UNAUTHORIZED);
         }
-        row.offer.status = REJECTED;
+        o.status = REJECTED;
+        row.offer = o;
         DealPosted {
             answer: 0,
             row: row,
@@ -579,7 +585,9 @@ impl SeenDeal {
         if !self.here {
             return refused(row, refusal::NOT_FOUND);
         }
-        row.offer.status = code;
+        let mut o = row.offer;
+        o.status = code;
+        row.offer = o;
         DealPosted {
             answer: 0,
             row: row,
@@ -599,7 +607,9 @@ impl SeenDeal {
         if !money::in_total_range(amount) {
             return refused(row, refusal::OUT_OF_RANGE);
         }
-        row.offer.repaid = amount;
+        let mut o = row.offer;
+        o.repaid = amount;
+        row.offer = o;
         DealPosted {
             answer: 0,
             row: row,
