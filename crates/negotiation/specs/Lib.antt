@@ -1,3 +1,4 @@
 pub mod Rounds
 pub mod Whole
+pub mod Laws
 pub mod Latest
