@@ -1,3 +1,5 @@
 pub mod Model
 pub mod Rules
 pub mod Stored
+pub mod Shelving
+pub mod Steps

@@ -2,3 +2,4 @@ pub mod Sized
 pub mod Accounts
 pub mod Invoices
 pub mod Offers
+pub mod DealLaws
