@@ -2,3 +2,4 @@ pub mod Rounds
 pub mod Whole
 pub mod Laws
 pub mod Latest
+pub mod Edges
