@@ -3,3 +3,4 @@ pub mod Rules
 pub mod Stored
 pub mod Shelving
 pub mod Steps
+pub mod Fitting
