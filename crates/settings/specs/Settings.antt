@@ -1,8 +1,8 @@
 -- What the admins set: a fresh book's, what a sound book holds of it, and document 01's admin commands (module 5, "Admin").
 use Prim.Native.Nat.{ℕ}
 use mathlib.Core.Bool.{Bool, true, false, not, _&&_}
-use mathlib.Core.List.{List, [], _∷_}
-use lib.Dec.{leb, ltb, eqb}
+use mathlib.Core.List.{[], _∷_}
+use lib.Dec.{leb, eqb}
 use Rattle.refusal.specs.Refusal.{_gives_, invalidInput, notFound, unauthorized}
 use Rattle.refusal.specs.Rule.{Rule}
 use Rattle.seats.specs.Seats.{reachesOf, thresholdOk}

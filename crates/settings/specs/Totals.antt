@@ -1,7 +1,7 @@
 -- The book's totals: what a sound book holds of them, and how create, settlement and repayment move them.
 use Prim.Native.Nat.{ℕ, _+_}
 use mathlib.Core.Bool.{Bool, not, _&&_}
-use mathlib.Core.List.{List, [], _∷_}
+use mathlib.Core.List.{[], _∷_}
 use lib.Dec.{leb}
 use lib.IntN.{ℤ, pos, _+ℤ_}
 use Rattle.money.specs.Range.{inTotal, movable}

@@ -4,14 +4,12 @@ use borrow.Author.Needs.{needs}
 use Rattle.invoice.proofs.Invoice.sound.Statement.{statement}
 use Rattle.invoice.proofs.Invoice.sound.Tie as tie
 
--- src/lib.rt:54:13
 in-amount-range-requires : tie.Need-in-amount-range-requires
 in-amount-range-requires c κs = search needs
 
--- src/lib.rt:51:5
 returns : tie.Need-returns
 unfolding invoiceSound
-returns c = rw (simp (back (c .before .before .args .self .amount) (c .before .struct-told .given .1 .0 .1)) at (c .in-amount-range .ensures))
+returns c = rw (simp (back (c .before .before .args .self .amount) (search needs)) at (c .in-amount-range .ensures))
 
 pub sound-spec : {M : Type 1} → statement M
 sound-spec = tie.close (tie.spec in-amount-range-requires returns)

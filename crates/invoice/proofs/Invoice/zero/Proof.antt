@@ -4,14 +4,12 @@ use borrow.Author.Needs.{needs}
 use Rattle.invoice.proofs.Invoice.zero.Statement.{statement}
 use Rattle.invoice.proofs.Invoice.zero.Tie as tie
 
--- src/lib.rt:63:13
 is-zero-requires : tie.Need-is-zero-requires
 is-zero-requires c κs = search needs
 
--- src/lib.rt:59:5
 returns : tie.Need-returns
 unfolding invoiceZero
-returns c = rw (simp (back (c .before .before .args .self .amount) (c .before .struct-told .given .1 .0 .1)) at (c .is-zero .ensures))
+returns c = rw (simp (back (c .before .before .args .self .amount) (search needs)) at (c .is-zero .ensures))
 
 pub zero-spec : {M : Type 1} → statement M
 zero-spec = tie.close (tie.spec is-zero-requires returns)

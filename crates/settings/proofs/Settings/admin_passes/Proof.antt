@@ -3,11 +3,9 @@ use borrow.Author.Needs.{needs}
 use Rattle.settings.proofs.Settings.admin_passes.Statement.{statement}
 use Rattle.settings.proofs.Settings.admin_passes.Tie as tie
 
--- src/lib.rt:73:9
 reaches-requires : tie.Need-reaches-requires
 reaches-requires c κs = search needs
 
--- src/lib.rt:68:5
 returns : tie.Need-returns
 unfolding adminPasses
 returns c = c .reaches .ensures

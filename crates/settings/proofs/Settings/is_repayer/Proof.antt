@@ -3,7 +3,6 @@ use Rattle.settings.specs.Settings.{isRepayer}
 use Rattle.settings.proofs.Settings.is_repayer.Statement.{statement}
 use Rattle.settings.proofs.Settings.is_repayer.Tie as tie
 
--- src/lib.rt:76:5
 returns : tie.Need-returns
 unfolding isRepayer
 returns c = refl

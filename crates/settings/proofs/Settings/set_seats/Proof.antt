@@ -1,52 +1,46 @@
 use Prim.Native.Nat.{ℕ, _%_}
 use native.Mathlib.Nat.{mod-eq-of-lt}
 use native.Mathlib.Omega.{arith}
-use mathlib.Core.Path.{_≡_, refl, sym, ap, _∙_}
-use mathlib.Core.Bool.{true, not}
+use mathlib.Core.Path.{_≡_}
+use mathlib.Core.Bool.{true}
 use borrow.Author.Tests.{leb-true, not-false}
 use Rattle.money.specs.Facts.{both}
 use Rattle.refusal.specs.Refusal.{unauthorized, invalidInput}
 use Rattle.refusal.specs.Rule.{refuses, goes-on, does}
 use Rattle.seats.specs.Seats.{thresholdOk}
-use Rattle.settings.specs.Settings.{adminPasses, posted}
+use Rattle.settings.specs.Settings.{posted}
+use Rattle.settings.proofs.Told.{told}
 use borrow.Author.Needs.{needs}
 use Rattle.settings.proofs.Settings.set_seats.Statement.{statement}
 use Rattle.settings.proofs.Settings.set_seats.Tie as tie
-
-admin : (c : tie.After-admin-passes) → not (adminPasses (c .before .args .self) (c .before .args .presented)) ≡ not (c .admin-passes .result)
-admin c = sym (ap not (c .admin-passes .ensures))
-
-next-ok : (c : tie.After-threshold-ok) → not (thresholdOk (c .before .before .before .args .next) (c .before .before .before .args .threshold)) ≡ not (c .threshold-ok .result)
-next-ok c = sym (ap not (c .threshold-ok .ensures))
 
 -- seats that can be configured lie in 32 bits, so the remainder takes nothing away
 in-bits : (next threshold : ℕ) → thresholdOk next threshold ≡ true → next % 4294967296 ≡ next
 unfolding thresholdOk
 in-bits next threshold h = let l = leb-true next 4294967295 (both _ _ h .0) in mod-eq-of-lt (omega arith)
 
--- src/lib.rt:155:13
 admin-passes-requires : tie.Need-admin-passes-requires
 admin-passes-requires c κs = search needs
 
--- src/lib.rt:156:13
 returns : tie.Need-returns
-returns c = refuses posted unauthorized _ _ _ (admin (c .before) ∙ c .if1 .taken)
+returns c = refuses posted unauthorized _ _ _ (told (c .before .admin-passes .ensures) (c .if1 .taken))
 
--- src/lib.rt:161:13
 threshold-ok-requires : tie.Need-threshold-ok-requires
 threshold-ok-requires c κs = search needs
 
--- src/lib.rt:162:13
 returns-2 : tie.Need-returns-2
-returns-2 c = goes-on posted unauthorized _ _ _ (admin (c .before .before .before) ∙ c .before .before .if1 .left) (refuses posted invalidInput _ _ _ (next-ok (c .before) ∙ c .if2 .taken))
+returns-2 c =
+    goes-on posted unauthorized _ _ _ (told (c .before .before .before .admin-passes .ensures) (c .before .before .if1 .left))
+    (refuses posted invalidInput _ _ _ (told (c .before .threshold-ok .ensures) (c .if2 .taken)))
 
--- src/lib.rt:167:22
 cast-self : tie.Need-cast-self
 cast-self c = search needs
 
--- src/lib.rt:152:5
 returns-3 : tie.Need-returns-3
-returns-3 c = goes-on posted unauthorized _ _ _ (admin (c .before .before .before) ∙ c .before .before .if1 .left) (goes-on posted invalidInput _ _ _ (next-ok (c .before) ∙ c .if2 .left) (does posted _ _ (rw (in-bits _ _ (not-false _ (next-ok (c .before) ∙ c .if2 .left))))))
+returns-3 c =
+    goes-on posted unauthorized _ _ _ (told (c .before .before .before .admin-passes .ensures) (c .before .before .if1 .left))
+    (goes-on posted invalidInput _ _ _ (told (c .before .threshold-ok .ensures) (c .if2 .left))
+    (does posted _ _ (rw (in-bits _ _ (not-false _ (told (c .before .threshold-ok .ensures) (c .if2 .left)))))))
 
 pub set-seats-spec : {M : Type 1} → statement M
 set-seats-spec =

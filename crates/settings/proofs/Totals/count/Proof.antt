@@ -7,17 +7,16 @@ use borrow.Author.Needs.{needs}
 use Rattle.settings.proofs.Totals.count.Statement.{statement}
 use Rattle.settings.proofs.Totals.count.Tie as tie
 
--- src/lib.rt:204:13
 returns : tie.Need-returns
 returns c = refuses counted outOfRange _ _ _ (le-leb _ _ (c .if1 .taken))
 
--- src/lib.rt:209:23
 add-self : tie.Need-add-self
 add-self c = search needs
 
--- src/lib.rt:199:5
 returns-2 : tie.Need-returns-2
-returns-2 c = goes-on counted outOfRange _ _ _ (lt-leb _ _ (c .if1 .left)) (does counted _ _ refl)
+returns-2 c =
+    goes-on counted outOfRange _ _ _ (lt-leb _ _ (c .if1 .left))
+    (does counted _ _ refl)
 
 pub count-spec : {M : Type 1} → statement M
 count-spec = tie.close (tie.spec returns add-self returns-2)

@@ -1,30 +1,28 @@
-use mathlib.Core.Path.{_≡_, refl, sym, ap, _∙_}
-use mathlib.Core.Bool.{not}
+use mathlib.Core.Path.{_≡_}
 use borrow.Author.Tests.{not-false}
-use Rattle.money.specs.Range.{movable, movedOf}
+use Rattle.money.specs.Range.{movedOf}
 use Rattle.money.specs.Moves.{move-tells, move-makes}
 use Rattle.money.specs.Facts.{back}
 use Rattle.refusal.specs.Refusal.{outOfRange}
 use Rattle.refusal.specs.Rule.{refuses, goes-on, does}
 use Rattle.settings.specs.Totals.{counted}
+use Rattle.settings.proofs.Told.{told}
 use borrow.Author.Needs.{needs}
 use Rattle.settings.proofs.Totals.finance.Statement.{statement}
 use Rattle.settings.proofs.Totals.finance.Tie as tie
 
 moved : (c : tie.After-shift) → c .shift .result ≡ movedOf (c .before .before .before .args .self .financed) (c .before .before .before .args .t .amount)
-moved c = let s = c .before .before .before .args in simp (back (s .self .financed) (c .before .before .struct-told .given .0 .1), back (s .t .amount) (c .before .struct-told2 .given .0 .1)) at (c .shift .ensures)
+moved c = let s = c .before .before .before .args in simp (back (s .self .financed) (search needs), back (s .t .amount) (search needs)) at (c .shift .ensures)
 
--- src/lib.rt:219:13
 shift-requires : tie.Need-shift-requires
 shift-requires c κs = search needs
 
--- src/lib.rt:221:13
 returns : tie.Need-returns
-returns c = refuses counted outOfRange _ _ _ (ap not (sym (move-tells _ _ (moved (c .before .before)))) ∙ c .if1 .taken)
+returns c = refuses counted outOfRange _ _ _ (told (move-tells _ _ (moved (c .before .before))) (c .if1 .taken))
 
--- src/lib.rt:216:5
 returns-2 : tie.Need-returns-2
-returns-2 c = let m = moved (c .before .before .before) in goes-on counted outOfRange _ _ _ (ap not (sym (move-tells _ _ m)) ∙ c .before .if1 .left) (does counted _ _ (rw (back (c .before .before .before .shift .result .total) (c .struct-told3 .given .1 .0 .1), move-makes _ _ m (not-false _ (c .before .if1 .left)))))
+returns-2 c = let m = moved (c .before .before .before) in goes-on counted outOfRange _ _ _ (told (move-tells _ _ m) (c .before .if1 .left))
+    (does counted _ _ (rw (back (c .before .before .before .shift .result .total) (search needs), move-makes _ _ m (not-false _ (c .before .if1 .left)))))
 
 pub finance-spec : {M : Type 1} → statement M
 finance-spec = tie.close (tie.spec shift-requires returns returns-2)
