@@ -17,6 +17,7 @@ pub mod Sound
 pub mod All
 pub mod Test
 pub mod TestLaws
+pub mod TestMore
 pub mod Columns
 pub mod Parts
 pub mod OneResult
