@@ -560,12 +560,13 @@ impl SeenDeal {
         if money::is_zero(x) {
             return refused(row, refusal::INVALID_INPUT);
         }
-        row.schedule = Schedule {
+        let made = Schedule {
             count: count,
             code: code,
             installment: x,
             first: first,
         };
+        row.schedule = made;
         DealPosted {
             answer: 0,
             row: row,
