@@ -22,7 +22,7 @@ use Rattle.account.specs.declared.Account.{Account}
 use Rattle.invoice.specs.declared.SeenInvoice.{SeenInvoice}
 use Rattle.offer.specs.declared.Deal.{Deal}
 use Rattle.offer.specs.declared.SeenDeal.{SeenDeal}
-use Rattle.offer.specs.Offer.{withFunded, withStatus, withRepaid, withTerms, settledDeal, amendedDeal, counteredDeal}
+use Rattle.offer.specs.Offer.{pending, withFunded, withStatus, withRepaid, withTerms, settledDeal, amendedDeal, counteredDeal}
 use Rattle.offer.specs.Rules.{withdrawOf, rejectOf, amendChecks, counterChecks, standing, outcomeAt, closeOf, scheduleOf, statusUpdateOf, repaidUpdateOf}
 use Rattle.offer.specs.Laws.{DealKept, Ranges, kept-ranges, offer-kept, negotiation-kept, schedule-kept}
 
@@ -53,7 +53,7 @@ unfolding amendedDeal
 amended-kept s now caller lender t round window h e =
     let a = passed _ _ _ (passed _ _ _ e .1) in
     let k = not-false (termsOk t) (a .0) in
-    let room = room-left _ _ _ _ _ (passed _ _ _ (passed _ _ _ (a .1) .1) .1) in
+    let room = room-left roundLimit (s .row .negotiation) (pending (s .row)) now round (passed _ _ _ (passed _ _ _ (a .1) .1) .1) in
     let r = kept-ranges h in
     round-kept now window t 0 refl k room (offer-kept h (withTerms t (s .row .offer)) k (r .repaid-in) (r .status-in))
 
@@ -63,7 +63,7 @@ unfolding counteredDeal
 countered-kept s now caller originator t round paper window h e =
     let a = passed _ _ _ (passed _ _ _ e .1) in
     let k = not-false (termsOk t) (a .0) in
-    let room = room-left _ _ _ _ _ (passed _ _ _ (passed _ _ _ (passed _ _ _ (a .1) .1) .1) .1) in
+    let room = room-left roundLimit (s .row .negotiation) (pending (s .row)) now round (passed _ _ _ (passed _ _ _ (passed _ _ _ (a .1) .1) .1) .1) in
     round-kept now window t 1 refl k room h
 
 -- ── Rules ─────────────────────────────────────────────────────────
