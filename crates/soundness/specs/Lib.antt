@@ -1,2 +1,4 @@
 pub mod Sound
+pub mod Parts
 pub mod Keeps
+pub mod Session
