@@ -1,3 +1,5 @@
 pub mod Rounds
 pub mod Whole
+pub mod Laws
 pub mod Latest
+pub mod Edges

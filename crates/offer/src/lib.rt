@@ -18,10 +18,15 @@ ghost use Rattle.offer.specs.Rules.{createChecks, withdrawOf, rejectOf, 
 
 // Where an offer stands.
 pub const PENDING: u32 = 0;
+
 pub const ACCEPTED: u32 = 1;
+
 pub const REJECTED: u32 = 2;
+
 pub const FINANCED: u32 = 3;
+
 pub const REPAID: u32 = 4;
+
 pub const DEFAULTED: u32 = 5;
 
 pub struct Offer {
@@ -560,12 +565,13 @@ impl SeenDeal {
         if money::is_zero(x) {
             return refused(row, refusal::INVALID_INPUT);
         }
-        row.schedule = Schedule {
+        let made = Schedule {
             count: count,
             code: code,
             installment: x,
             first: first,
         };
+        row.schedule = made;
         DealPosted {
             answer: 0,
             row: row,

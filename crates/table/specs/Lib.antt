@@ -18,6 +18,7 @@ pub mod Keeping
 pub mod All
 pub mod Test
 pub mod TestLaws
+pub mod TestMore
 pub mod Columns
 pub mod Parts
 pub mod OneResult

@@ -21,13 +21,13 @@ or-false true e = refl
 or-false false e = e
 
 module _ (n i : ℕ) (a b : Bool) where
-  used : either n i a b ≡ true → i < n → a ≡ true
+  pub used : either n i a b ≡ true → i < n → a ≡ true
   used e h = or-false a (simp (lt-ltb i n h, lt-leb n i h) at e)
 
-  free : either n i a b ≡ true → n ≤ i → b ≡ true
+  pub free : either n i a b ≡ true → n ≤ i → b ≡ true
   free e h = simp (le-ltb i n h, le-leb n i h) at e
 
-  make : (i < n → a ≡ true) → (n ≤ i → b ≡ true) → either n i a b ≡ true
+  pub make : (i < n → a ≡ true) → (n ≤ i → b ≡ true) → either n i a b ≡ true
   make f g = go (ltb i n) refl
     where
       go : (t : Bool) → ltb i n ≡ t → either n i a b ≡ true

@@ -4,4 +4,3 @@ pub mod Schedule
 pub mod Due
 pub mod Answers
 pub mod Laws
-pub mod Edges

@@ -1,0 +1,77 @@
+-- Document 01, "Edges on both sides", and the deadline of module 3, stopped at 2^64−1: one table that is computed.
+use Prim.Native.Nat.{ℕ}
+use mathlib.Core.Path.{_≡_, refl}
+use mathlib.Core.Bool.{Bool, true, _&&_}
+use mathlib.Core.List.{List, [], _∷_}
+use lib.ListN.{replicate}
+use lib.IntN.{pos}
+use lib.Dec.{eqb}
+use Rattle.refusal.specs.Choice.{pick}
+use Rattle.money.specs.Range.{sameAmount}
+use Rattle.terms.specs.declared.Terms.{Terms}
+use Rattle.terms.specs.declared.Schedule.{Schedule}
+use Rattle.terms.specs.Terms.{termsOk}
+use Rattle.terms.specs.Installment.{installmentAmount, installmentOf}
+use Rattle.terms.specs.Schedule.{secondsOf, scheduleOk}
+use Rattle.terms.specs.Due.{elapsedOf, nextOf, numberOf, dueArguments, dueOf}
+use Rattle.negotiation.specs.declared.Negotiation.{Negotiation}
+use Rattle.negotiation.specs.Rounds.{roundLimit, noRound, deadlineOf, statusOf}
+
+pub data Edge : Type 0 where
+  -- amount, rate and count, with the installment
+  installs : ℕ → ℕ → ℕ → ℕ → Edge
+  -- now and amount repaid, with the number due of the schedule below
+  dues : ℕ → ℕ → ℕ → Edge
+  -- the deadline of a negotiation on a Pending offer and now, with its status
+  stands : ℕ → ℕ → ℕ → Edge
+  -- now and the window, with the deadline that the first round sets
+  ends : ℕ → ℕ → ℕ → Edge
+
+-- 349, weekly, count 3, first due 1,000,000
+abbrev weekly : Schedule
+weekly = record { count = 3; code = 1; installment = pos 349; first = 1000000 }
+
+abbrev day : ℕ → ℕ → Terms
+day amount rate = record { amount = pos amount; rate = rate; duration = 86400 }
+
+abbrev oneRound : ℕ → Negotiation
+oneRound deadline = record { rounds = replicate roundLimit noRound; deadline = deadline; len = 1; outcome = 0 }
+
+abbrev financed : ℕ
+financed = 3
+
+unfoldable pub holds : Edge → Bool
+holds (installs amount rate count x) = eqb (installmentOf (day amount rate) count .0) 0 && sameAmount (installmentOf (day amount rate) count .1) (pos x)
+holds (dues now repaid n) = eqb (dueOf weekly financed (pos repaid) now .0) 0 && eqb (dueOf weekly financed (pos repaid) now .1) n
+holds (stands deadline now status) = eqb (statusOf (oneRound deadline) true now) status
+holds (ends now window deadline) = eqb (deadlineOf 0 now window 0) deadline
+
+unfoldable pub all : List Edge → Bool
+all [] = true
+all (e ∷ l) = holds e && all l
+
+unfoldable pub edges : List Edge
+edges =
+    installs 1000 500 3 349
+    ∷ installs 1200 10000 1200 2
+    ∷ installs 1199 500 1200 0
+    ∷ dues 999999 0 0
+    ∷ dues 1000000 0 1
+    ∷ dues 1604799 349 0
+    ∷ dues 1604800 349 2
+    ∷ dues 1604800 697 2
+    ∷ dues 1604800 698 0
+    ∷ dues 18446744073709551615 698 3
+    ∷ stands 604900 604900 1
+    ∷ stands 604900 604901 4
+    ∷ stands 18446744073709551615 18446744073709551615 1
+    ∷ ends 100 604800 604900
+    ∷ ends 18446744073708946814 604800 18446744073709551614
+    ∷ ends 18446744073708946815 604800 18446744073709551615
+    ∷ ends 18446744073708946816 604800 18446744073709551615
+    ∷ ends 18446744073709551615 2592000 18446744073709551615
+    ∷ []
+
+pub edges-hold : all edges ≡ true
+unfolding all edges holds pick termsOk installmentAmount installmentOf secondsOf scheduleOk elapsedOf nextOf numberOf dueArguments dueOf deadlineOf statusOf
+edges-hold = refl

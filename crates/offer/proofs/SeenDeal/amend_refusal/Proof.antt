@@ -1,0 +1,57 @@
+use mathlib.Core.Path.{_≡_, sym, ap, _∙_}
+use mathlib.Core.Bool.{not}
+use Rattle.refusal.specs.Refusal.{blacklisted, invalidInput, notFound, unauthorized, fails, passes}
+use Rattle.terms.specs.Terms.{termsOk}
+use borrow.Author.Needs.{needs}
+use Rattle.offer.proofs.SeenDeal.amend_refusal.Statement.{statement}
+use Rattle.offer.proofs.SeenDeal.amend_refusal.Tie as tie
+
+valid : (c : tie.After-terms-valid) → not (termsOk (c .before .before .args .t)) ≡ not (c .terms-valid .result)
+valid c = ap not (sym (c .terms-valid .ensures))
+
+returns : tie.Need-returns
+returns c = fails blacklisted _ (c .if1 .taken)
+
+terms-valid-requires : tie.Need-terms-valid-requires
+terms-valid-requires c κs = search needs
+
+returns-2 : tie.Need-returns-2
+returns-2 c =
+    passes blacklisted _ (c .before .before .if1 .left)
+    (fails invalidInput _ (valid (c .before) ∙ c .if2 .taken))
+
+returns-3 : tie.Need-returns-3
+returns-3 c =
+    passes blacklisted _ (c .before .before .before .before .if1 .left)
+    (passes invalidInput _ (valid (c .before .before .before) ∙ c .before .before .if2 .left)
+    (fails notFound _ (c .if3 .taken)))
+
+returns-4 : tie.Need-returns-4
+returns-4 c =
+    passes blacklisted _ (c .before .before .before .before .before .before .before .if1 .left)
+    (passes invalidInput _ (valid (c .before .before .before .before .before .before) ∙ c .before .before .before .before .before .if2 .left)
+    (passes notFound _ (c .before .before .before .if3 .left)
+    (fails unauthorized _ (c .if4 .taken))))
+
+refusal-requires : tie.Need-refusal-requires
+refusal-requires c κs = search needs
+
+returns-5 : tie.Need-returns-5
+returns-5 c =
+    passes blacklisted _ (c .before .before .before .before .before .before .before .before .before .if1 .left)
+    (passes invalidInput _ (valid (c .before .before .before .before .before .before .before .before) ∙ c .before .before .before .before .before .before .before .if2 .left)
+    (passes notFound _ (c .before .before .before .before .before .if3 .left)
+    (passes unauthorized _ (c .before .before .if4 .left)
+    (c .refusal .ensures))))
+
+pub amend-refusal-spec : {M : Type 1} → statement M
+amend-refusal-spec =
+    tie.close
+    (tie.spec
+    returns
+    terms-valid-requires
+    returns-2
+    returns-3
+    returns-4
+    refusal-requires
+    returns-5)

@@ -1,0 +1,88 @@
+use mathlib.Core.Path.{sym, ap, _∙_}
+use mathlib.Core.Bool.{not}
+use borrow.Author.Tests.{le-leb, lt-leb}
+use Rattle.refusal.specs.Refusal.{invalidInput, notFound, unauthorized, invalidTransition, fails, passes, none-left}
+use borrow.Author.Needs.{needs}
+use Rattle.offer.proofs.SeenDeal.schedule_refusal.Statement.{statement}
+use Rattle.offer.proofs.SeenDeal.schedule_refusal.Tie as tie
+
+count-valid-requires : tie.Need-count-valid-requires
+count-valid-requires c κs = search needs
+
+returns : tie.Need-returns
+returns c =
+    fails invalidInput _ (ap not (sym (c .before .count-valid .ensures)) ∙ c .if1 .taken)
+
+returns-2 : tie.Need-returns-2
+returns-2 c =
+    passes invalidInput _ (ap not (sym (c .before .before .count-valid .ensures)) ∙ c .before .if1 .left)
+    (fails invalidInput _ (le-leb _ _ (c .if2 .taken)))
+
+code-listed-requires : tie.Need-code-listed-requires
+code-listed-requires c κs = search needs
+
+returns-3 : tie.Need-returns-3
+returns-3 c =
+    passes invalidInput _ (ap not (sym (c .before .before .before .before .count-valid .ensures)) ∙ c .before .before .before .if1 .left)
+    (passes invalidInput _ (lt-leb _ _ (c .before .before .if2 .left))
+    (fails invalidInput _ (ap not (sym (c .before .code-listed .ensures)) ∙ c .if3 .taken)))
+
+returns-4 : tie.Need-returns-4
+returns-4 c =
+    passes invalidInput _ (ap not (sym (c .before .before .before .before .before .before .count-valid .ensures)) ∙ c .before .before .before .before .before .if1 .left)
+    (passes invalidInput _ (lt-leb _ _ (c .before .before .before .before .if2 .left))
+    (passes invalidInput _ (ap not (sym (c .before .before .before .code-listed .ensures)) ∙ c .before .before .if3 .left)
+    (fails notFound _ (c .if4 .taken))))
+
+returns-5 : tie.Need-returns-5
+returns-5 c =
+    passes invalidInput _ (ap not (sym (c .before .before .before .before .before .before .before .before .before .count-valid .ensures)) ∙ c .before .before .before .before .before .before .before .before .if1 .left)
+    (passes invalidInput _ (lt-leb _ _ (c .before .before .before .before .before .before .before .if2 .left))
+    (passes invalidInput _ (ap not (sym (c .before .before .before .before .before .before .code-listed .ensures)) ∙ c .before .before .before .before .before .if3 .left)
+    (passes notFound _ (c .before .before .before .if4 .left)
+    (fails invalidTransition _ (c .if5 .taken)))))
+
+returns-6 : tie.Need-returns-6
+returns-6 c =
+    passes invalidInput _ (ap not (sym (c .before .before .before .before .before .before .before .before .before .before .before .count-valid .ensures)) ∙ c .before .before .before .before .before .before .before .before .before .before .if1 .left)
+    (passes invalidInput _ (lt-leb _ _ (c .before .before .before .before .before .before .before .before .before .if2 .left))
+    (passes invalidInput _ (ap not (sym (c .before .before .before .before .before .before .before .before .code-listed .ensures)) ∙ c .before .before .before .before .before .before .before .if3 .left)
+    (passes notFound _ (c .before .before .before .before .before .if4 .left)
+    (passes invalidTransition _ (c .before .before .if5 .left)
+    (fails notFound _ (c .if6 .taken))))))
+
+returns-7 : tie.Need-returns-7
+returns-7 c =
+    passes invalidInput _ (ap not (sym (c .before .before .before .before .before .before .before .before .before .before .before .before .before .count-valid .ensures)) ∙ c .before .before .before .before .before .before .before .before .before .before .before .before .if1 .left)
+    (passes invalidInput _ (lt-leb _ _ (c .before .before .before .before .before .before .before .before .before .before .before .if2 .left))
+    (passes invalidInput _ (ap not (sym (c .before .before .before .before .before .before .before .before .before .before .code-listed .ensures)) ∙ c .before .before .before .before .before .before .before .before .before .if3 .left)
+    (passes notFound _ (c .before .before .before .before .before .before .before .if4 .left)
+    (passes invalidTransition _ (c .before .before .before .before .if5 .left)
+    (passes notFound _ (c .before .before .if6 .left)
+    (fails unauthorized _ (c .if7 .taken)))))))
+
+returns-8 : tie.Need-returns-8
+returns-8 c =
+    passes invalidInput _ (ap not (sym (c .before .before .before .before .before .before .before .before .before .before .before .before .before .count-valid .ensures)) ∙ c .before .before .before .before .before .before .before .before .before .before .before .before .if1 .left)
+    (passes invalidInput _ (lt-leb _ _ (c .before .before .before .before .before .before .before .before .before .before .before .if2 .left))
+    (passes invalidInput _ (ap not (sym (c .before .before .before .before .before .before .before .before .before .before .code-listed .ensures)) ∙ c .before .before .before .before .before .before .before .before .before .if3 .left)
+    (passes notFound _ (c .before .before .before .before .before .before .before .if4 .left)
+    (passes invalidTransition _ (c .before .before .before .before .if5 .left)
+    (passes notFound _ (c .before .before .if6 .left)
+    (passes unauthorized _ (c .if7 .left)
+    (none-left)))))))
+
+pub schedule-refusal-spec : {M : Type 1} → statement M
+schedule-refusal-spec =
+    tie.close
+    (tie.spec
+    count-valid-requires
+    returns
+    returns-2
+    code-listed-requires
+    returns-3
+    returns-4
+    returns-5
+    returns-6
+    returns-7
+    returns-8)
