@@ -39,6 +39,10 @@ module _ {A : Type 0} where
   All q [] = Unit {0}
   All q (e ∷ t) = q (e .1) × All q t
 
+  pub all-map : (p q : A → Type 0) (t : Table A) → ((r : A) → p r → q r) → All p t → All q t
+  all-map p q [] f a = tt
+  all-map p q (e ∷ t) f a = (f (e .1) (a .0), all-map p q t f (a .1))
+
   pub all-found : (q : A → Type 0) (t : Table A) (i : ℕ) (r : A) → All q t → find t i ≡ here r → q r
   unfolding find
   all-found q [] i r a n = let y : _≡_ {A = ℕ} 0 1 = cc in absurd (omega arith)

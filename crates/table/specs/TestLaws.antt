@@ -109,6 +109,10 @@ module _ {A : Type 0} (q z : A → Bool) (d : A) (size n : ℕ) (ids : List ℕ)
   pub rows-of : (p : A → Type 0) → ((i : ℕ) → i < size → q (getD rows i d) ≡ true → p (getD rows i d)) → All p (tableOf ids rows n)
   rows-of p f = all-of p d ids rows n (λ i h. f i (omega (arith, few)) (used n i (q (getD rows i d)) (z (getD rows i d)) (row-is i (omega (arith, few))) h))
 
+-- past its count a shelf has zero rows
+free-row : {A : Type 0} {d : A} {size n : ℕ} {ids : List ℕ} {rows : List A} → Shelf d size ids rows n → (i : ℕ) → n ≤ i → getD rows i d ≡ d
+free-row {A} {d} {size} {n} {ids} {rows} s i h = ap (λ u. getD u i d) (sym (s .rows-kept)) ∙ pad-rest d held size (tableOf ids rows n) i (omega (arith, s .counted))
+
 -- a shelf whose rows all pass passes the tests
 module _ {A : Type 0} (q z : A → Bool) (d : A) (zero-yes : z d ≡ true) {size n : ℕ} {ids : List ℕ} {rows : List A} (s : Shelf d size ids rows n) (o : All (λ r. q r ≡ true) (tableOf ids rows n)) where
   above-yes : (i : ℕ) → i < n → above ids i ≡ true
@@ -122,7 +126,15 @@ module _ {A : Type 0} (q z : A → Bool) (d : A) (zero-yes : z d ≡ true) {size
   rows-pass : rowsTest q z d size n rows ≡ true
   rows-pass = all-make (rowTest q z d n rows) size (λ i l. make n i (q (getD rows i d)) (z (getD rows i d))
       (λ h. row-at (λ r. q r ≡ true) d ids rows n i o (omega (arith, s .counted)))
-      (λ h. ap z (ap (λ u. getD u i d) (sym (s .rows-kept)) ∙ pad-rest d held size (tableOf ids rows n) i (omega (arith, s .counted))) ∙ zero-yes))
+      (λ h. ap z (free-row s i h) ∙ zero-yes))
 
   pub passes : idsTest size n ids && rowsTest q z d size n rows ≡ true
   passes = rw (ids-pass, rows-pass)
+
+-- what holds of the rows and of a zero row holds at every place
+pub everywhere : {A : Type 0} {d : A} {size n : ℕ} {ids : List ℕ} {rows : List A} (p : A → Type 0) → Shelf d size ids rows n → All p (tableOf ids rows n) → p d → (i : ℕ) → p (getD rows i d)
+everywhere {A} {d} {size} {n} {ids} {rows} p s o y i = go (ltb i n) refl
+  where
+    go : (b : Bool) → ltb i n ≡ b → p (getD rows i d)
+    go true q = row-at p d ids rows n i o (omega (arith, s .counted, ltb-true i n q))
+    go false q = rw (free-row s i (ltb-false i n q)) y

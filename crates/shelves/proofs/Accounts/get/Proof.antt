@@ -1,3 +1,4 @@
+use Prim.Native.Nat.{_<_}
 use native.Mathlib.Omega.{arith}
 use mathlib.Core.Path.{_≡_, sym, ap, _∙_}
 use borrow.Author.Needs.{needs}
@@ -21,11 +22,14 @@ none-requires c κs = search needs
 returns : tie.Need-returns
 returns c = rw (c .none .ensures) (sym (ap seenAccount (absent-found (c .before .before .before .before .before .before .before .pre) _ _ (sym (c .before .before .before .find .ensures) ∙ c .before .enum-told .given .1))))
 
+inside : (c : tie.After-known-told) → c .before .f .given .0 .0 < 64
+inside c = at-below (c .before .before .before .before .before .before .before .pre) _ _ (sym (c .before .before .before .find .ensures) ∙ c .before .f .given .1)
+
 mul-r : tie.Need-mul-r
-mul-r c = omega (arith, at-below (c .before .before .before .before .before .before .before .pre) _ _ (sym (c .before .before .before .find .ensures) ∙ c .before .f .given .1))
+mul-r c = omega (arith, inside c)
 
 element-copy-out-r : tie.Need-element-copy-out-r
-element-copy-out-r c = omega (arith, at-below (c .before .before .before .before .before .before .before .pre) _ _ (sym (c .before .before .before .find .ensures) ∙ c .before .f .given .1))
+element-copy-out-r c = omega (arith, inside c)
 
 returns-2 : tie.Need-returns-2
 returns-2 c = sym (ap seenAccount (at-found (c .before .before .before .before .before .before .before .before .pre) _ _ (sym (c .before .before .before .before .find .ensures) ∙ c .before .before .f .given .1)))

@@ -1,3 +1,4 @@
+use Prim.Native.Nat.{_<_}
 use native.Mathlib.Omega.{arith}
 use mathlib.Core.Path.{_≡_, sym, _∙_}
 use borrow.Author.Needs.{needs}
@@ -18,11 +19,14 @@ enum-told c = search needs
 returns : tie.Need-returns
 returns c = absent-kept asAccounts (c .before .before .before .before .before .before .pre) _ _ _ (sym (c .before .before .find .ensures) ∙ c .enum-told .given .1)
 
+inside : (c : tie.After-known-told) → c .before .f .given .0 .0 < 64
+inside c = at-below (c .before .before .before .before .before .before .before .pre) _ _ (sym (c .before .before .before .find .ensures) ∙ c .before .f .given .1)
+
 mul-row : tie.Need-mul-row
-mul-row c = omega (arith, at-below (c .before .before .before .before .before .before .before .pre) _ _ (sym (c .before .before .before .find .ensures) ∙ c .before .f .given .1))
+mul-row c = omega (arith, inside c)
 
 element-set-from-row : tie.Need-element-set-from-row
-element-set-from-row c = omega (arith, at-below (c .before .before .before .before .before .before .before .pre) _ _ (sym (c .before .before .before .find .ensures) ∙ c .before .f .given .1))
+element-set-from-row c = omega (arith, inside c)
 
 returns-2 : tie.Need-returns-2
 returns-2 c = put-kept asAccounts (c .before .before .before .before .before .before .before .pre) _ _ _ (sym (c .before .before .before .find .ensures) ∙ c .before .f .given .1)
