@@ -10,7 +10,7 @@ use Rattle.table.specs.Shift.{insertAt}
 use Rattle.table.specs.Tables.{here, held, find, adjust, insert}
 use Rattle.table.specs.Padded.{length-padded}
 use Rattle.table.specs.ShelfLaws.{at-below, at-found, kept, put-kept, absent-kept, in-kept}
-use Rattle.table.specs.Columns.{join, length-join, join-at}
+use Rattle.table.specs.Columns.{length-join, join-at}
 use Rattle.table.specs.Parts.{Parts, apart-join, apart-set, apart-insert}
 use Rattle.negotiation.specs.declared.Negotiation.{Negotiation}
 use Rattle.terms.specs.declared.Schedule.{Schedule}
@@ -18,7 +18,7 @@ use Rattle.offer.specs.Offer.{noDeal}
 use Rattle.offer.specs.declared.Offer.{Offer}
 use Rattle.offer.specs.declared.Deal.{Deal}
 use Rattle.shelves.specs.declared.Offers.{Offers}
-use Rattle.shelves.specs.Offers.{dealOf, rowsOf, dealsOf, asOffers, storedDeals, DealShelf}
+use Rattle.shelves.specs.Offers.{dealOf, dealsOf, asOffers, storedDeals, DealShelf}
 
 pub deal-parts : Parts dealOf (λ d. d .offer) (λ d. d .negotiation) (λ d. d .schedule)
 deal-parts = record { first = λ o n s. refl; second = λ o n s. refl; third = λ o n s. refl; whole = λ d. refl }

@@ -1,22 +1,20 @@
 -- What the test of the table of offers says of its rows, and that a table kept in the arrays is the table read from them.
 use Prim.Native.Nat.{ℕ, _<_}
-use native.Mathlib.Omega.{arith}
 use mathlib.Core.Path.{_≡_, sym, ap, _∙_}
 use mathlib.Core.Bool.{true}
 use lib.ListN.{length, getD, length-map}
 use Rattle.table.specs.Tables.{Table, key, held}
 use Rattle.table.specs.Padded.{padded, length-padded}
-use Rattle.table.specs.Shelf.{tableOf, Shelf}
+use Rattle.table.specs.Shelf.{tableOf}
 use Rattle.table.specs.ShelfBack.{table-stored, shelf-stored}
 use Rattle.table.specs.Sound.{All, all-map}
-use Rattle.table.specs.Columns.{column, Level, level, length-join, getD-join}
+use Rattle.table.specs.Columns.{Level, level, length-join, getD-join}
 use Rattle.table.specs.Parts.{join-columns}
 use Rattle.table.specs.Keeping.{Keeping, shelf-fine}
 use Rattle.table.specs.TestLaws.{shelf-of, rows-of, passes, everywhere}
 use Rattle.negotiation.specs.Rounds.{roundLimit, noNegotiation}
 use Rattle.negotiation.specs.Whole.{Whole}
 use Rattle.negotiation.specs.Laws.{none-whole}
-use Rattle.negotiation.specs.declared.Negotiation.{Negotiation}
 use Rattle.offer.specs.Offer.{noOffer, noSchedule, noDeal, dealSound, dealZero}
 use Rattle.offer.specs.Laws.{DealKept, deal-zero, no-deal-zero}
 use Rattle.offer.specs.declared.Deal.{Deal}

@@ -5,7 +5,7 @@ use borrow.Author.Needs.{needs}
 use Rattle.refusal.specs.Rule.{Rule}
 use Rattle.table.specs.Tables.{Table}
 use Rattle.account.specs.declared.Account.{Account}
-use Rattle.shelves.specs.Accounts.{accountsOf, seenAt}
+use Rattle.shelves.specs.Accounts.{accountsOf}
 use Rattle.shelves.specs.Steps.{Holds, Stepped, gone-is, row-missing, row-answer, row-step, still-here}
 use Rattle.shelves.specs.Settling.{debit, credit, accept, debits, credits, debit-refuses, credit-refuses, accept-refuses, all-pass}
 use Rattle.shelves.proofs.Accounts.settle.Statement.{statement}

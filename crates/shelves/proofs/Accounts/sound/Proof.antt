@@ -1,11 +1,9 @@
 use Prim.Native.Nat.{_-_}
-use mathlib.Core.Path.{_≡_}
 use lib.ListN.{length-map}
 use borrow.Author.Needs.{needs}
 use Rattle.table.specs.All.{Checked, check-start, check-turn, check-done, both-same}
 use Rattle.table.specs.Test.{rowTest}
 use Rattle.account.specs.Account.{noAccount, accountSound, accountZero}
-use Rattle.shelves.specs.Sized.{Sized}
 use Rattle.shelves.specs.Accounts.{accountsTest}
 use Rattle.shelves.proofs.Accounts.sound.Statement.{statement}
 use Rattle.shelves.proofs.Accounts.sound.Tie as tie

@@ -9,7 +9,7 @@ use Rattle.table.specs.Test.{either, rowTest}
 use Rattle.negotiation.specs.Rounds.{roundLimit, noNegotiation}
 use Rattle.negotiation.specs.Whole.{Whole}
 use Rattle.offer.specs.Offer.{noDeal, dealSound, dealZero}
-use Rattle.shelves.specs.Offers.{dealOf, rowsOf, dealsTest, WholeDeals}
+use Rattle.shelves.specs.Offers.{dealOf, rowsOf, dealsTest}
 use Rattle.shelves.proofs.Offers.sound.Statement.{statement}
 use Rattle.shelves.proofs.Offers.sound.Tie as tie
 
