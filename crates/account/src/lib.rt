@@ -193,13 +193,13 @@ impl Account {
         ensures { λ r. ⌜ r ≡ answered posted self (reofferOf self old new) ⌝ }
     {
         let m = posted_to(self, old.amount, new.amount);
-        let row = m.row;
         if !m.ok {
             return AccountPosted {
                 answer: refusal::OUT_OF_RANGE,
-                row: row,
+                row: self,
             };
         }
+        let row = m.row;
         AccountPosted {
             answer: 0,
             row: row,
