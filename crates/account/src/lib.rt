@@ -33,7 +33,7 @@ pub struct AccountPosted {
 }
 
 // What comes of posting to a row: the row with its new total, or as it was where the posting is refused.
-pub struct MovedAccount {
+struct MovedAccount {
     pub ok: bool,
     pub row: Account,
 }
@@ -50,14 +50,11 @@ pub fn post(row: &mut Account, old: i64, new: i64) -> bool
 }
 
 // The same of a row by value, which is lent for the posting: whoever calls it needs no reference.
-pub fn posted_to(mut row: Account, old: i64, new: i64) -> MovedAccount
+fn posted_to(mut row: Account, old: i64, new: i64) -> MovedAccount
     ensures { λ r. ⌜ r ≡ postedTo row (new -ℤ old) ⌝ }
 {
     let ok = post(&mut row, old, new);
-    MovedAccount {
-        ok: ok,
-        row: row,
-    }
+    MovedAccount { ok: ok, row: row }
 }
 
 impl Account {
