@@ -14,6 +14,7 @@ use base.Fml.{Fml}
 use prog.Wp.{Heap}
 use ghost.Atoms.{Atoms, sem}
 use types.Kit.{Given, _$_, _∵_, !, qed, fjoin, done}
+use borrow.Author.Needs.{needs}
 use denote.RattleType.{owns}
 use denote.Laws.{Is}
 use denote.Signed.{sint-makes}
@@ -49,10 +50,15 @@ Good h = Is T.the-row h (val h ∷ [])
 pub offered-fits : (h : Account) → Good h → Fits (h .offered)
 offered-fits h good = LL.owed T.the-type T′.the-laws h _ good .1 .1 .0 .1
 
-pub offered-put : (h : Account) (z : ℤ) → Good h → Fits z → Good (withOffered h z)
+-- the row's machine value with z written to its third field: it is the value of the row with z as its offered total
+abbrev pub written : Account → ℤ → Val
+written h z = let t = T.the-type .to h in LL.tuple-val T.the-type T′.the-laws (t .0, (t .1 .0, (z, t .1 .1 .1)))
+
+pub offered-put : (h : Account) (z : ℤ) → Good h → Fits z → Is T.the-row (withOffered h z) (written h z ∷ [])
 offered-put h z good fits =
     let p = LL.owed T.the-type T′.the-laws h _ good in
-    LL.owes T.the-type T′.the-laws (withOffered h z) (p .0, (p .1 .0, ((refl, fits), p .1 .1 .1)))
+    let q : Is i64 z (num z ∷ []) = (refl, fits) in
+    LL.owes T.the-type T′.the-laws (withOffered h z) (search needs)
 
 -- the same of a row with its flag
 abbrev pub moved-val : MovedAccount → Val

@@ -51,7 +51,7 @@ use Rattle.money.proofs.change.Symbol.{name as #money·change}
 use Rattle.money.proofs.change.Met as change-thm
 use Rattle.account.specs.Post.{withOffered}
 use Rattle.account.specs.declared.Account.{Account}
-use Rattle.account.proofs.Row.{num, Fits, val, offered-fits, offered-put, Amounts, amounts}
+use Rattle.account.proofs.Row.{num, Fits, val, offered-fits, written, offered-put, Amounts, amounts}
 use Rattle.account.proofs.Account as T
 use Rattle.account.proofs.Account.Laws as T′
 use Rattle.account.proofs.post.Key.{name as #account·post}
@@ -127,7 +127,7 @@ module _ {M : Type 1} (𝓤 : URA M) (H : Heap 𝓤) (A : Atoms 𝓤) (W : Given
         assigns ! (of-opd ! (load ! (from ! (fld ! refl (stop !))) (look-in ! 8 (sub ! 1 refl (whole !))))) (from ! (hop ! (look ! 14 refl) (fld ! refl (stop !)))) (store-in ! 1 (sub ! 2 refl (whole !)) (tt, fits-ofZ {z = r .total} (record { sfits = LL.owed Mv.the-type Mv′.the-laws r _ is .1 .0 .1 }))) $
         assigns ! (of-opd ! (load ! (from ! (fld ! refl (stop !))) (look-in ! 8 (sub ! 0 refl (whole !))))) (from ! (stop !)) (init ! 16 refl (tt, tt)) $
         drop ! $ move ! (1 ∷ []) $ drop ! $ owned ! T.the-row (Is T.the-row) ((LL.makes T.the-type T′.the-plain) 𝓤 H A) (withOffered h (r .total)) _ (offered-put h (r .total) was (LL.owed Mv.the-type Mv′.the-laws r _ is .1 .0 .1)) $
-        move ! (1 ∷ 0 ∷ []) $ closes ! tt T.the-row (withOffered h (r .total)) (val (withOffered h (r .total)) ∷ []) b o $
+        move ! (1 ∷ 0 ∷ []) $ closes ! tt T.the-row (withOffered h (r .total)) (written h (r .total) ∷ []) b o $
         returns ! (look ! 13 refl) $ forget ! 3 refl $ forget ! 5 refl $ forget ! 7 refl $ forget ! 9 refl $ forget ! 11 refl $ forget ! 13 refl $
         move ! (13 ∷ 14 ∷ []) $ free1 ! $ move ! (11 ∷ 12 ∷ []) $ free1 ! $ move ! (9 ∷ 10 ∷ []) $ free1 ! $ move ! (7 ∷ 8 ∷ []) $ free1 ! $ move ! (5 ∷ 6 ∷ []) $ free1 ! $ move ! (3 ∷ 4 ∷ []) $ free1 ! $ free0 ! $
         keep ! (0 ∷ 1 ∷ 2 ∷ []) $ by ! (exits r e)))))))))))))
