@@ -1,0 +1,4 @@
+pub mod Field
+pub mod NumberLaws
+pub mod PlaceLaws
+pub mod FieldLaws
