@@ -26,9 +26,9 @@ fieldOf tag body = headOf tag (length body) ++ body
 unfoldable pub begins : ℕ → ℕ → List ℕ → Bool
 begins tag size b = leb (3 + size) (length b) && (eqb (getD b 0 0) tag && eqb (numberIn (drop 1 b) 2) size)
 
--- the number of eight bytes; 0 where not all are there
-unfoldable pub numberAt : List ℕ → ℕ
-numberAt b = pick (leb 8 (length b)) (numberIn b 8) 0
+-- the number of the first n bytes; 0 where not all are there
+unfoldable pub numberAt : ℕ → List ℕ → ℕ
+numberAt n b = pick (leb n (length b)) (numberIn b n) 0
 
 -- l with w from place p on, and that where there is room for w, else l as it is
 unfoldable pub placed : ℕ → List ℕ → List ℕ → List ℕ

@@ -27,14 +27,14 @@ module _ (tag size p : ℕ) (s : List ℕ) where
       let e : getD (drop p s) 0 0 ≡ getD s p 0 = getD-drop p s 0 0 ∙ ap (λ (k : ℕ). getD s k 0) (omega arith) in
       rw (length-drop p s, le-leb (3 + size) (length s - p) (omega arith), e, drop-drop 1 p s)
 
-module _ (p : ℕ) (s : List ℕ) where
-  pub number-not : length s < p + 8 → numberAt (drop p s) ≡ 0
+module _ (n p : ℕ) (s : List ℕ) where
+  pub number-not : 0 < n → length s < p + n → numberAt n (drop p s) ≡ 0
   unfolding numberAt
-  number-not h = pick-off _ _ (rw length-drop (lt-leb 8 (length s - p) (omega arith)))
+  number-not k h = pick-off _ _ (rw length-drop (lt-leb n (length s - p) (omega arith)))
 
-  pub number-there : p + 8 ≤ length s → numberAt (drop p s) ≡ numberIn (drop p s) 8
+  pub number-there : p + n ≤ length s → numberAt n (drop p s) ≡ numberIn (drop p s) n
   unfolding numberAt
-  number-there h = pick-on _ _ (rw length-drop (le-leb 8 (length s - p) (omega arith)))
+  number-there h = pick-on _ _ (rw length-drop (le-leb n (length s - p) (omega arith)))
 
 -- a test of room for n places from p on, and what follows from it
 pub record Room (p n len : ℕ) (r : Bool) : Type 0 where

@@ -48,14 +48,28 @@ pub fn begins(s: &[u8], p: usize, tag: u8, size: usize) -> bool
     (s[p] == tag) & (digits(s, p + 1, 2) == size as u64)
 }
 
-// The eight-byte number at p; 0 where not all its bytes are there.
-pub fn number(s: &[u8], p: usize) -> u64
-    ensures { λ r. ⌜ r ≡ numberAt (drop p (now (s .entry))) ⌝ }
+fn whole(s: &[u8], p: usize, n: usize) -> u64
+    requires { ⌜ (0 < n) × (n ≤ 8) ⌝ }
+    ensures { λ r. ⌜ r ≡ numberAt n (drop p (now (s .entry))) ⌝ }
 {
-    if !room(s.len(), p, 8) {
+    if !room(s.len(), p, n) {
         return 0;
     }
-    digits(s, p, 8)
+    digits(s, p, n)
+}
+
+// The eight-byte number at p; 0 where not all its bytes are there.
+pub fn number(s: &[u8], p: usize) -> u64
+    ensures { λ r. ⌜ r ≡ numberAt 8 (drop p (now (s .entry))) ⌝ }
+{
+    whole(s, p, 8)
+}
+
+// The two-byte number at p, likewise.
+pub fn pair(s: &[u8], p: usize) -> u64
+    ensures { λ r. ⌜ r ≡ numberAt 2 (drop p (now (s .entry))) ⌝ }
+{
+    whole(s, p, 2)
 }
 
 fn byte(x: u64) -> u8
