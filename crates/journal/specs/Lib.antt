@@ -1,3 +1,5 @@
 pub mod Answers
 pub mod Table
 pub mod TableLaws
+pub mod Format
+pub mod FieldLaws

@@ -42,7 +42,7 @@ named v = fromNumbers (ofBits (getD v 0x05 0)) (ofBits (getD v 0x0F 0)) v
 
 -- rate, round, count, code and threshold stay below 2^32
 abbrev pub isNarrow : ℕ → Bool
-isNarrow f = eqb f 0x06 || (eqb f 0x09 || (eqb f 0x0A || (eqb f 0x0B || eqb f 0x0E)))
+isNarrow f = (((eqb f 0x06 || eqb f 0x09) || eqb f 0x0A) || eqb f 0x0B) || eqb f 0x0E
 
 unfoldable pub topOf : ℕ → ℕ
 topOf f = pick (isNarrow f) 4294967295 18446744073709551615

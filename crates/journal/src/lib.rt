@@ -4,14 +4,28 @@ use terms::Terms;
 ghost use mathlib.Core.Path.{_≡_};
 ghost use Prim.Native.Nat.{ℕ, _+_, _*_, _≤_, _<_};
 ghost use lib.ListN.{length, getD, take, drop};
-ghost use Rattle.journal.specs.Answers.{reading};
+ghost use Rattle.journal.specs.Answers.{opening, reading, written};
+ghost use Rattle.journal.specs.Format.{headerOf, openingOf, readAt, gatheredIn, fieldsOut, bytesFor, writing};
+ghost use Rattle.wire.specs.Field.{placed, laid};
 ghost use Rattle.journal.specs.Table.{fieldsOf, topOf, listed, named, made, sent, partsOf};
+
+// The first record's place, or that of a fault in the header.
+pub enum Opened {
+    Records(usize),
+    Malformed(usize),
+}
 
 // What stands at a place: a command and the place past it, a malformed record and its place, or nothing.
 pub enum Decoded {
     Command(Command, usize),
     Malformed(usize),
     End,
+}
+
+// How many bytes were written, or that the buffer is too short.
+pub enum Encoded {
+    Bytes(usize),
+    Short,
 }
 
 // The number of fields of a record, and their tags in ascending order.
@@ -48,6 +62,50 @@ fn fields(tag: u8) -> Listed
         0x56 => Listed(4, [0x01, 0x0d, 0x0e, 0x12, 0, 0, 0, 0, 0]),
         _ => Listed(0, [0, 0, 0, 0, 0, 0, 0, 0, 0]),
     }
+}
+
+// The largest number that a field may hold.
+fn top(f: u8) -> u64
+    ensures { λ r. ⌜ r ≡ topOf f ⌝ }
+{
+    let narrow = (f == 0x06) | (f == 0x09) | (f == 0x0a) | (f == 0x0b) | (f == 0x0e);
+    if narrow {
+        4294967295
+    } else {
+        18446744073709551615
+    }
+}
+
+fn place(f: u8) -> usize
+    ensures { λ r. ⌜ r ≡ f ⌝ }
+{
+    f as usize
+}
+
+// Whether the fields stand there, and their numbers, each at the place of its tag.
+struct Gathered(bool, [u64; 32]);
+
+fn gather(s: &[u8], p: usize, n: usize, tags: [u8; 9]) -> Gathered
+    requires { ⌜ ((n ≤ 9) × (p + 11 * n ≤ length (now s))) × ((k : ℕ) → getD tags k 0 < 32) ⌝ }
+    ensures { λ r. ⌜ r ≡ gatheredIn (take n tags) (drop p (now (s .entry))) ⌝ }
+{
+    let mut v = [0u64; 32];
+    let mut i: usize = 0;
+    let mut q = p;
+    while i < n {
+        let f = tags[i];
+        if !wire::begins(s, q, f, 8) {
+            return Gathered(false, [0u64; 32]);
+        }
+        let x = wire::number(s, q + 3);
+        if top(f) < x {
+            return Gathered(false, [0u64; 32]);
+        }
+        v[place(f)] = x;
+        q += 11;
+        i += 1;
+    }
+    Gathered(true, v)
 }
 
 // The numbers of a record by the names of their fields; 0 for a field that the record has not.
@@ -324,6 +382,41 @@ fn build(tag: u8, f: Values, at: usize, next: usize) -> Decoded
     }
 }
 
+// What stands at a place of a journal. The bytes are read where they are.
+pub fn decode(s: &[u8], at: usize) -> Decoded
+    ensures { λ r. ⌜ reading r ≡ readAt (now (s .entry)) at ⌝ }
+{
+    if s.len() <= at {
+        return Decoded::End;
+    }
+    let tag = s[at];
+    let row = fields(tag);
+    let n = row.0;
+    let tags = row.1;
+    if !wire::begins(s, at, tag, 11 * n) {
+        return Decoded::Malformed(at);
+    }
+    let found = gather(s, at + 3, n, tags);
+    let numbers = found.1;
+    if !found.0 {
+        return Decoded::Malformed(at);
+    }
+    build(tag, named(numbers), at, at + (3 + 11 * n))
+}
+
+// Whether a journal begins with the header of edition 1.
+pub fn header(s: &[u8]) -> Opened
+    ensures { λ r. ⌜ opening r ≡ openingOf (now (s .entry)) ⌝ }
+{
+    if !wire::begins(s, 0, 0x10, 2) {
+        return Opened::Malformed(0);
+    }
+    if wire::pair(s, 3) != 1 {
+        return Opened::Malformed(0);
+    }
+    Opened::Records(5)
+}
+
 // A command's tag and the numbers of its fields in order.
 struct Parts(u8, [u64; 9]);
 
@@ -505,4 +598,51 @@ fn split(c: Command) -> Parts
             next,
         } => Parts(0x56, [now, seats, threshold as u64, next, 0, 0, 0, 0, 0]),
     }
+}
+
+fn put_fields(out: &mut [u8], p: usize, n: usize, tags: [u8; 9], values: [u64; 9])
+    requires { ⌜ (n ≤ 9) × (p + 11 * n ≤ length (now out)) ⌝ }
+    ensures { λ _. ⌜ now (out .exit) ≡ placed p (fieldsOut (take n tags) values) (now (out .entry)) ⌝ }
+{
+    let mut i: usize = 0;
+    let mut q = p;
+    while i < n {
+        wire::put_field(&mut *out, q, tags[i], values[i]);
+        q += 11;
+        i += 1;
+    }
+}
+
+// Writes a command into a lent buffer from a place on.
+pub fn encode(c: Command, out: &mut [u8], at: usize) -> Encoded
+    ensures { λ r. ⌜ (written r ≡ writing at (bytesFor c) (now (out .entry))) × (now (out .exit) ≡ laid at (bytesFor c) (now (out .entry))) ⌝ }
+{
+    let parts = split(c);
+    let tag = parts.0;
+    let values = parts.1;
+    let row = fields(tag);
+    let n = row.0;
+    let tags = row.1;
+    let size = 3 + 11 * n;
+    if out.len() < at {
+        return Encoded::Short;
+    }
+    if out.len() - at < size {
+        return Encoded::Short;
+    }
+    wire::put_head(&mut *out, at, tag, (11 * n) as u64);
+    put_fields(out, at + 3, n, tags, values);
+    Encoded::Bytes(size)
+}
+
+// Writes the header at the start of a lent buffer.
+pub fn write_header(out: &mut [u8]) -> Encoded
+    ensures { λ r. ⌜ (written r ≡ writing 0 headerOf (now (out .entry))) × (now (out .exit) ≡ laid 0 headerOf (now (out .entry))) ⌝ }
+{
+    if out.len() < 5 {
+        return Encoded::Short;
+    }
+    let w = [0x10u8, 0, 2, 0, 1];
+    bytes::copy(&w, out);
+    Encoded::Bytes(5)
 }
