@@ -3,3 +3,5 @@ pub mod Table
 pub mod TableLaws
 pub mod Format
 pub mod FieldLaws
+pub mod WriteLaws
+pub mod ReadLaws

@@ -16,6 +16,10 @@ pub length-field : (tag v : ℕ) → length (fieldOf tag (bytesOf 8 v)) ≡ 11
 unfolding fieldOf headOf bytesOf
 length-field tag v = refl
 
+front : (a b : Bool) → a && b ≡ true → a ≡ true
+front true b e = refl
+front false b e = e
+
 module _ (tag size p : ℕ) (s : List ℕ) where
   pub begins-not : length s < p + (3 + size) → begins tag size (drop p s) ≡ false
   unfolding begins
@@ -26,6 +30,10 @@ module _ (tag size p : ℕ) (s : List ℕ) where
   begins-there h =
       let e : getD (drop p s) 0 0 ≡ getD s p 0 = getD-drop p s 0 0 ∙ ap (λ (k : ℕ). getD s k 0) (omega arith) in
       rw (length-drop p s, le-leb (3 + size) (length s - p) (omega arith), e, drop-drop 1 p s)
+
+  pub begins-room : begins tag size (drop p s) ≡ true → p + (3 + size) ≤ length s
+  unfolding begins
+  begins-room e = omega (arith, leb-true (3 + size) (length (drop p s)) (front (leb (3 + size) (length (drop p s))) _ e), length-drop p s)
 
 module _ (n p : ℕ) (s : List ℕ) where
   pub number-not : 0 < n → length s < p + n → numberAt n (drop p s) ≡ 0

@@ -1,90 +1,115 @@
+use mathlib.Core.Path.{_≡_, refl, sym, ap, _∙_}
+use mathlib.Core.Bool.{Bool, true, false}
+use mathlib.Core.List.{List}
+use Prim.Native.Nat.{ℕ, _+_, _*_, _≤_}
+use native.Mathlib.Omega.{arith}
+use lib.ListN.{length, take, drop, getD}
 use borrow.Author.Needs.{needs}
+use borrow.Author.Tests.{not-true, not-false}
+use Rattle.wire.specs.Field.{begins}
+use Rattle.wire.specs.FieldLaws.{begins-room}
+use Rattle.journal.specs.Table.{fieldsOf, listed, made, named}
+use Rattle.journal.specs.TableLaws.{few, low, take-padded}
+use Rattle.journal.specs.Format.{gatheredIn}
+use Rattle.journal.specs.ReadLaws.{at-end, at-record, no-head, not-well, whole, all-tops}
+use Rattle.journal.specs.declared.Listed.{Listed}
+use Rattle.journal.specs.declared.Gathered.{Gathered}
+use Rattle.journal.specs.declared.Values.{Values}
 use Rattle.journal.proofs.decode.Statement.{statement}
 use Rattle.journal.proofs.decode.Tie as tie
-use Rattle.journal.proofs.decode.Reads as reads
-use Rattle.journal.proofs.decode.Lts as lts
-use Rattle.journal.proofs.build.Reads as build-reads
-use Rattle.journal.proofs.fields.Reads as fields-reads
-use Rattle.journal.proofs.gather.Reads as gather-reads
-use Rattle.journal.proofs.named.Reads as named-reads
-use Rattle.wire.proofs.begins.Reads as begins-reads
 
--- src/lib.rt:390:9
+abbrev start : tie.After-tags → tie.Start
+start c = c .before .before .before .before .before
+
+-- the tag at the place and the fields of its row
+abbrev tag : tie.After-tags → ℕ
+tag c = getD (start c .args .s .now) (start c .args .at) 0
+
+abbrev fs : tie.After-tags → List ℕ
+fs c = fieldsOf (tag c)
+
+row : (c : tie.After-tags) → c .before .fields .result ≡ listed (fs c)
+row c = c .before .fields .ensures
+
+count : (c : tie.After-tags) → c .before .fields .result .0 ≡ length (fs c)
+count c = ap (λ (r : Listed). r .0) (row c)
+
+-- whether the record begins there, and what its fields hold
+begun : (c : tie.After-begins) → begins (tag (c .before)) (11 * length (fs (c .before))) (drop (start (c .before) .args .at) (start (c .before) .args .s .now)) ≡ c .begins .result
+begun c =
+    let d = c .before in
+    ap (λ (n : ℕ). begins (tag d) (11 * n) (drop (start d .args .at) (start d .args .s .now))) (sym (count d)) ∙ sym (c .begins .ensures)
+
+within : (c : tie.Else2) → start (c .before .before) .args .at + (3 + 11 * length (fs (c .before .before))) ≤ length (start (c .before .before) .args .s .now)
+within c =
+    let d = c .before .before in
+    begins-room (tag d) (11 * length (fs d)) (start d .args .at) (start d .args .s .now) (begun (c .before) ∙ not-false _ (c .if2 .left))
+
+held : (c : tie.After-gather) → c .gather .result ≡ gatheredIn (fs (c .before .before .before)) (drop (start (c .before .before .before) .args .at + 3) (start (c .before .before .before) .args .s .now))
+held c =
+    let d = c .before .before .before in
+    let b = drop (start d .args .at + 3) (start d .args .s .now) in
+    c .gather .ensures ∙ ap (λ (r : Listed). gatheredIn (take (r .0) (r .1)) b) (row d) ∙ ap (λ (l : List ℕ). gatheredIn l b) (take-padded (fs d))
+
 returns : tie.Need-returns
-returns c = ?
+returns c = at-end _ _ (c .if1 .taken)
 
--- src/lib.rt:392:15
-shared-slice-read-tag : tie.Need-shared-slice-read-tag
-shared-slice-read-tag c = search needs
-
--- src/lib.rt:393:9
-fields-requires : tie.Need-fields-requires
-fields-requires c κs = search needs
-
--- src/lib.rt:396:34
 mul-begins : tie.Need-mul-begins
-mul-begins c = ?
+mul-begins c = omega (arith, count c, few (tag c))
 
--- src/lib.rt:396:9
-begins-requires : tie.Need-begins-requires
-begins-requires c κs = search needs
-
--- src/lib.rt:397:9
 returns-2 : tie.Need-returns-2
-returns-2 c = ?
+returns-2 c =
+    let d = c .before .before in
+    let a = start d .args in
+    at-record (a .s .now) (a .at) (d .before .before .before .if1 .left) (no-head (tag d) (fs d) (a .s .now) (a .at) (begun (c .before) ∙ not-true _ (c .if2 .taken)))
 
--- src/lib.rt:399:27
-add-gather : tie.Need-add-gather
-add-gather c = search needs
-
--- src/lib.rt:399:9
 gather-requires : tie.Need-gather-requires
-gather-requires c κs = ?
+gather-requires c κs =
+    let d = c .before .before in
+    (omega (arith, count d, few (tag d), within c), λ k. rw (row d) (low (tag d) k))
 
--- src/lib.rt:402:9
 returns-3 : tie.Need-returns-3
-returns-3 c = ?
+returns-3 c =
+    let g = c .before .before .before in
+    let d = g .before .before .before in
+    let a = start d .args in
+    at-record (a .s .now) (a .at) (d .before .before .before .if1 .left) (not-well (tag d) (fs d) (a .s .now) (a .at) (ap (λ (x : Gathered). x .0) (sym (held g)) ∙ not-true _ (c .if3 .taken)))
 
--- src/lib.rt:404:16
+good : (c : tie.Else3) → gatheredIn (fs (c .before .before .before .before .before .before)) (drop (start (c .before .before .before .before .before .before) .args .at + 3) (start (c .before .before .before .before .before .before) .args .s .now)) .0 ≡ true
+good c = ap (λ (x : Gathered). x .0) (sym (held (c .before .before .before))) ∙ not-false _ (c .if3 .left)
+
 named-requires : tie.Need-named-requires
-named-requires c κs = ?
+named-requires c κs = λ k. rw (held (c .before .before .before)) (all-tops (fs (c .before .before .before .before .before .before)) _ (good c) k)
 
--- src/lib.rt:404:46
-mul-build : tie.Need-mul-build
-mul-build c = ?
-
--- src/lib.rt:404:42
-add-build : tie.Need-add-build
-add-build c = ?
-
--- src/lib.rt:404:36
-add-build-2 : tie.Need-add-build-2
-add-build-2 c = ?
-
--- src/lib.rt:404:5
-build-requires : tie.Need-build-requires
-build-requires c κs = search needs
-
--- src/lib.rt:386:1
 returns-4 : tie.Need-returns-4
-returns-4 c = ?
+returns-4 c =
+    let e = c .before .before in
+    let g = e .before .before .before in
+    let d = g .before .before .before in
+    let a = start d .args in
+    at-record (a .s .now) (a .at) (d .before .before .before .if1 .left)
+    (c .build .ensures
+    ∙ ap (λ (v : Values). made (tag d) v (a .at) (a .at + (3 + 11 * d .before .fields .result .0))) (c .before .named .ensures)
+    ∙ ap (λ (x : Gathered). made (tag d) (named (x .1)) (a .at) (a .at + (3 + 11 * d .before .fields .result .0))) (held g)
+    ∙ ap (λ (n : ℕ). made (tag d) (named (gatheredIn (fs d) (drop (a .at + 3) (a .s .now)) .1)) (a .at) (a .at + (3 + 11 * n))) (count d)
+    ∙ whole (tag d) (fs d) (a .s .now) (a .at) (begun (g .before .before) ∙ not-false _ (g .before .if2 .left)) (good e))
 
 pub decode-spec : {M : Type 1} → statement M
 decode-spec =
     tie.close
     (tie.spec
     returns
-    shared-slice-read-tag
-    fields-requires
+    (λ c. search needs)
+    (λ c κs. search needs)
     mul-begins
-    begins-requires
+    (λ c κs. search needs)
     returns-2
-    add-gather
+    (λ c. search needs)
     gather-requires
     returns-3
     named-requires
-    mul-build
-    add-build
-    add-build-2
-    build-requires
+    (λ c. omega (arith, count (c .before .before .before .before .before .before .before), few (tag (c .before .before .before .before .before .before .before))))
+    (λ c. omega (arith, count (c .before .before .before .before .before .before .before), few (tag (c .before .before .before .before .before .before .before))))
+    (λ c. omega (arith, count (c .before .before .before .before .before .before .before), within (c .before .before .before .before .before)))
+    (λ c κs. search needs)
     returns-4)
