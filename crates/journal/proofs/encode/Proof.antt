@@ -1,79 +1,108 @@
+use mathlib.Core.Path.{_≡_, refl, sym, ap, _∙_}
+use mathlib.Core.List.{List}
+use Prim.Native.Nat.{ℕ, _+_, _*_, _≤_, _<_}
+use native.Mathlib.Omega.{arith}
+use lib.ListN.{length, take}
 use borrow.Author.Needs.{needs}
+use Rattle.command.specs.declared.Command.{Command}
+use Rattle.wire.specs.Field.{placed, headOf, bytesOf}
+use Rattle.wire.specs.PlaceLaws.{laid-in, length-placed}
+use Rattle.journal.specs.Table.{fieldsOf, partsOf, padded, listed, sent}
+use Rattle.journal.specs.TableLaws.{few}
+use Rattle.journal.specs.Format.{fieldsOut, bytesFor}
+use Rattle.journal.specs.WriteLaws.{record-placed, length-for, short, fitting}
+use Rattle.journal.specs.declared.Listed.{Listed}
+use Rattle.journal.specs.declared.Parts.{Parts}
 use Rattle.journal.proofs.encode.Statement.{statement}
 use Rattle.journal.proofs.encode.Tie as tie
-use Rattle.journal.proofs.encode.Reads as reads
-use Rattle.journal.proofs.encode.Lts as lts
-use Rattle.journal.proofs.fields.Reads as fields-reads
-use Rattle.journal.proofs.put_fields.Reads as put-fields-reads
-use Rattle.journal.proofs.split.Reads as split-reads
-use Rattle.wire.proofs.put_head.Reads as put-head-reads
 
--- src/lib.rt:620:9
-split-requires : tie.Need-split-requires
-split-requires c κs = search needs
+abbrev start : tie.After-tags → tie.Start
+start c = c .before .before .before .before .before
 
--- src/lib.rt:623:9
-fields-requires : tie.Need-fields-requires
-fields-requires c κs = search needs
+-- the command's fields
+abbrev fs : tie.After-tags → List ℕ
+fs c = fieldsOf (partsOf (start c .args .c) .0)
 
--- src/lib.rt:626:20
-mul-size : tie.Need-mul-size
-mul-size c = ?
+row : (c : tie.After-tags) → c .before .fields .result ≡ listed (fs c)
+row c = c .before .fields .ensures ∙ ap (λ (p : Parts). listed (fieldsOf (p .0))) (c .before .before .before .split .ensures)
 
--- src/lib.rt:626:16
-add-size : tie.Need-add-size
-add-size c = ?
+count : (c : tie.After-tags) → c .before .fields .result .0 ≡ length (fs c)
+count c = ap (λ (r : Listed). r .0) (row c)
 
--- src/lib.rt:628:9
+size-is : (c : tie.After-tags) → 3 + 11 * c .before .fields .result .0 ≡ length (bytesFor (start c .args .c))
+size-is c = ap (λ (n : ℕ). 3 + 11 * n) (count c) ∙ sym (length-for (start c .args .c))
+
+-- past the tests there is room
+room : (c : tie.Else2) → start (c .before .before) .args .at + (3 + 11 * c .before .before .before .fields .result .0) ≤ length (start (c .before .before) .args .out .now)
+room c = omega (arith, c .if2 .left, c .before .if1 .left)
+
+-- what the code leaves in a buffer of the parts and the row that it was given
+abbrev stored : List ℕ → ℕ → Parts → Listed → List ℕ
+stored l at p r = placed (at + 3) (fieldsOut (take (r .0) (r .1)) (p .1)) (placed at (headOf (p .0) (11 * r .0)) l)
+
+head-put : (c : tie.After-put-head) → c .put-head .last .0 ≡ placed (start (c .before .before .before .before) .args .at) (headOf (c .before .before .before .before .before .before .before .split .result .0) (11 * c .before .before .before .before .before .fields .result .0)) (start (c .before .before .before .before) .args .out .now)
+unfolding headOf bytesOf
+head-put c = let d = c .before .before .before .before in c .put-head .ensures ∙ laid-in (start d .args .at) _ (start d .args .out .now) (omega (arith, room (c .before .before)))
+
+head-kept : (c : tie.After-put-head) → length (c .put-head .last .0) ≡ length (start (c .before .before .before .before) .args .out .now)
+unfolding headOf bytesOf
+head-kept c = let d = c .before .before .before .before in ap length (head-put c) ∙ length-placed (start d .args .at) _ (start d .args .out .now) (omega (arith, room (c .before .before)))
+
+fits : (c : tie.After-put-fields) → start (c .before .before .before .before .before .before .before .before) .args .at + length (bytesFor (start (c .before .before .before .before .before .before .before .before) .args .c)) ≤ length (start (c .before .before .before .before .before .before .before .before) .args .out .now)
+fits c = omega (arith, size-is (c .before .before .before .before .before .before .before .before), room (c .before .before .before .before .before .before))
+
+all-put : (c : tie.After-put-fields) → c .put-fields .last .0 ≡ placed (start (c .before .before .before .before .before .before .before .before) .args .at) (bytesFor (start (c .before .before .before .before .before .before .before .before) .args .c)) (start (c .before .before .before .before .before .before .before .before) .args .out .now)
+unfolding bytesFor
+all-put c =
+    let h = c .before .before .before .before in
+    let d = h .before .before .before .before in
+    let a = start d .args in
+    let p = d .before .before .before .split .result in
+    let r = d .before .fields .result in
+    c .put-fields .ensures
+    ∙ ap (λ (m : List ℕ). placed (a .at + 3) (fieldsOut (take (r .0) (r .1)) (p .1)) m) (head-put h)
+    ∙ ap (λ (q : Parts). stored (a .out .now) (a .at) q r) (d .before .before .before .split .ensures)
+    ∙ ap (λ (q : Listed). stored (a .out .now) (a .at) (sent (partsOf (a .c))) q) (row d)
+    ∙ record-placed (partsOf (a .c) .0) (fs d) (partsOf (a .c) .1) (a .out .now) (a .at) (omega (arith, count d, room (h .before .before)))
+
 returns : tie.Need-returns
-returns c = ?
+returns c = let d = c .before in short (start d .args .at) (bytesFor (start d .args .c)) (start d .args .out .now) (omega (arith, size-is d, c .if1 .taken))
 
--- src/lib.rt:630:8
-sub-if2 : tie.Need-sub-if2
-sub-if2 c = search needs
-
--- src/lib.rt:631:9
 returns-2 : tie.Need-returns-2
-returns-2 c = ?
+returns-2 c = let d = c .before .before in short (start d .args .at) (bytesFor (start d .args .c)) (start d .args .out .now) (omega (arith, size-is d, c .if2 .taken, c .before .if1 .left))
 
--- src/lib.rt:633:41
-mul-put-head : tie.Need-mul-put-head
-mul-put-head c = search needs
-
--- src/lib.rt:633:5
-put-head-requires : tie.Need-put-head-requires
-put-head-requires c κs = search needs
-
--- src/lib.rt:634:21
-add-put-fields : tie.Need-add-put-fields
-add-put-fields c = search needs
-
--- src/lib.rt:634:5
 put-fields-requires : tie.Need-put-fields-requires
-put-fields-requires c κs = ?
+put-fields-requires c κs =
+    let h = c .before .before .before in
+    let d = h .before .before .before .before in
+    omega (arith, count d, few (partsOf (start d .args .c) .0), head-kept h, room (h .before .before))
 
--- src/lib.rt:617:1
 same-length : tie.Need-same-length
-same-length c = search needs
+same-length c =
+    let f = c .before .before in
+    let d = f .before .before .before .before .before .before .before .before in
+    ap length (all-put f) ∙ length-placed (start d .args .at) (bytesFor (start d .args .c)) (start d .args .out .now) (fits f)
 
--- src/lib.rt:617:1
 returns-3 : tie.Need-returns-3
-returns-3 c = ?
+returns-3 c =
+    let f = c .before .before in
+    let d = f .before .before .before .before .before .before .before .before in
+    fitting (start d .args .at) (bytesFor (start d .args .c)) (start d .args .out .now) (fits f) (size-is d) (all-put f)
 
 pub encode-spec : {M : Type 1} → statement M
 encode-spec =
     tie.close
     (tie.spec
-    split-requires
-    fields-requires
-    mul-size
-    add-size
+    (λ c κs. search needs)
+    (λ c κs. search needs)
+    (λ c. omega (arith, count c, few (partsOf (start c .args .c) .0)))
+    (λ c. omega (arith, count c, few (partsOf (start c .args .c) .0)))
     returns
-    sub-if2
+    (λ c. search needs)
     returns-2
-    mul-put-head
-    put-head-requires
-    add-put-fields
+    (λ c. search needs)
+    (λ c κs. search needs)
+    (λ c. search needs)
     put-fields-requires
     same-length
     returns-3)
