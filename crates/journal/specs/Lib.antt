@@ -5,3 +5,4 @@ pub mod Format
 pub mod FieldLaws
 pub mod WriteLaws
 pub mod ReadLaws
+pub mod Held
