@@ -6,3 +6,4 @@ pub mod FieldLaws
 pub mod WriteLaws
 pub mod ReadLaws
 pub mod Held
+pub mod RoundTrip

@@ -10,9 +10,10 @@ use lib.Dec.{eqb, leb}
 use borrow.Author.Tests.{le-leb, lt-leb, leb-true}
 use Rattle.refusal.specs.Choice.{pick, pick-on, pick-off}
 use Rattle.wire.specs.Field.{numberAt, begins}
+use Rattle.wire.specs.FieldLaws.{and-left, and-right}
 use Rattle.journal.specs.Answers.{Reading, ended, malformed}
 use Rattle.journal.specs.Table.{fieldsOf, topOf, named, made}
-use Rattle.journal.specs.TableLaws.{and-left, and-right, zeros-at}
+use Rattle.journal.specs.TableLaws.{zeros-at}
 use Rattle.journal.specs.Format.{fieldIn, wellIn, numbersIn, zeros, gatheredIn, recordAt, readAt}
 use Rattle.journal.specs.FieldLaws.{and-off}
 use Rattle.journal.specs.declared.Gathered.{Gathered}

@@ -9,17 +9,10 @@ use lib.Seq.{take-append-seam}
 use lib.Dec.{eqb, leb, ltb}
 use borrow.Author.Tests.{ne-eqb, leb-true, ltb-true}
 use Rattle.refusal.specs.Choice.{pick, pick-off}
+use Rattle.wire.specs.FieldLaws.{and-left, and-right}
 use Rattle.journal.specs.Answers.{malformed}
 use Rattle.journal.specs.Table.{Row, rows, fieldsIn, fieldsOf, madeIn, made, padded}
 use Rattle.journal.specs.declared.Values.{Values}
-
-pub and-left : (a b : Bool) → a && b ≡ true → a ≡ true
-and-left true b e = refl
-and-left false b e = e
-
-pub and-right : (a b : Bool) → a && b ≡ true → b ≡ true
-and-right true b e = e
-and-right false b e = let z : false ≡ true = e in cc
 
 pub zeros-at : (n k : ℕ) → _≡_ {A = ℕ} (getD (replicate n 0) k 0) 0
 zeros-at zero k = refl

@@ -16,9 +16,13 @@ pub length-field : (tag v : ℕ) → length (fieldOf tag (bytesOf 8 v)) ≡ 11
 unfolding fieldOf headOf bytesOf
 length-field tag v = refl
 
-front : (a b : Bool) → a && b ≡ true → a ≡ true
-front true b e = refl
-front false b e = e
+pub and-left : (a b : Bool) → a && b ≡ true → a ≡ true
+and-left true b e = refl
+and-left false b e = e
+
+pub and-right : (a b : Bool) → a && b ≡ true → b ≡ true
+and-right true b e = e
+and-right false b e = let z : false ≡ true = e in cc
 
 module _ (tag size p : ℕ) (s : List ℕ) where
   pub begins-not : length s < p + (3 + size) → begins tag size (drop p s) ≡ false
@@ -33,7 +37,7 @@ module _ (tag size p : ℕ) (s : List ℕ) where
 
   pub begins-room : begins tag size (drop p s) ≡ true → p + (3 + size) ≤ length s
   unfolding begins
-  begins-room e = omega (arith, leb-true (3 + size) (length (drop p s)) (front (leb (3 + size) (length (drop p s))) _ e), length-drop p s)
+  begins-room e = omega (arith, leb-true (3 + size) (length (drop p s)) (and-left (leb (3 + size) (length (drop p s))) _ e), length-drop p s)
 
 module _ (n p : ℕ) (s : List ℕ) where
   pub number-not : 0 < n → length s < p + n → numberAt n (drop p s) ≡ 0
