@@ -7,3 +7,5 @@ pub mod WriteLaws
 pub mod ReadLaws
 pub mod Held
 pub mod RoundTrip
+pub mod Faithful
+pub mod Canonical
