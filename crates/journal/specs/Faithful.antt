@@ -15,7 +15,7 @@ use Rattle.journal.specs.Answers.{found, malformed}
 use Rattle.journal.specs.Table.{Row, rows, named, fieldsIn, fieldsOf, madeIn, made, partsOf}
 use Rattle.journal.specs.Format.{zeros}
 use Rattle.journal.specs.Held.{byTag}
-use Rattle.journal.specs.declared.Values.{Values}
+use Rattle.journal.specs.declared.reading.Values.{Values}
 
 -- the first n numbers
 abbrev pub tabulate : ℕ → (ℕ → ℕ) → List ℕ

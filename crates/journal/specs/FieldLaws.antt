@@ -15,7 +15,7 @@ use Rattle.wire.specs.FieldLaws.{length-field}
 use Rattle.wire.specs.PlaceLaws.{placed-twice, laid-in, length-placed}
 use Rattle.journal.specs.Table.{topOf}
 use Rattle.journal.specs.Format.{fieldIn, wellIn, numbersIn, zeros, gatheredIn, fieldsOut}
-use Rattle.journal.specs.declared.Gathered.{Gathered}
+use Rattle.journal.specs.declared.reading.Gathered.{Gathered}
 
 pub and-off : (a : Bool) → a && false ≡ false
 and-off true = refl

@@ -9,7 +9,7 @@ use Rattle.refusal.specs.Refusal.{number, journalMalformed, bufferShort}
 use Rattle.command.specs.declared.Command.{Command}
 use Rattle.wire.specs.Field.{numberAt, bytesOf, begins, fieldOf}
 use Rattle.journal.specs.Answers.{Reading, ended, malformed}
-use Rattle.journal.specs.declared.Gathered.{Gathered}
+use Rattle.journal.specs.declared.reading.Gathered.{Gathered}
 use Rattle.journal.specs.Table.{fieldsOf, topOf, named, made, partsOf}
 
 -- first comes tag 10, length 2, edition 1; anything else gives 13 at offset 0. The records follow

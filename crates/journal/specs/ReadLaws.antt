@@ -16,7 +16,7 @@ use Rattle.journal.specs.Table.{fieldsOf, topOf, named, made}
 use Rattle.journal.specs.TableLaws.{zeros-at}
 use Rattle.journal.specs.Format.{fieldIn, wellIn, numbersIn, zeros, gatheredIn, recordAt, readAt}
 use Rattle.journal.specs.FieldLaws.{and-off}
-use Rattle.journal.specs.declared.Gathered.{Gathered}
+use Rattle.journal.specs.declared.reading.Gathered.{Gathered}
 
 pub at-end : (s : List ℕ) (at : ℕ) → length s ≤ at → ended ≡ readAt s at
 unfolding readAt

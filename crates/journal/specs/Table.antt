@@ -10,9 +10,9 @@ use Rattle.money.specs.Range.{ofBits, bitsOf}
 use Rattle.terms.specs.declared.Terms.{Terms}
 use Rattle.command.specs.declared.Command.{Command}
 use Rattle.command.specs.declared.Command.the-variants.{OpenAccount, Deposit, Payout, Approve, RegisterInvoice, CancelInvoice, CreateOffer, WithdrawOffer, AcceptOffer, RejectOffer, AmendOffer, CounterOffer, CloseNegotiation, ScheduleRepayment, UpdateStatus, UpdateRepaid, UpdateLenderRepaid, UpdateTotalsRepaid, Pause, Unpause, SetWindow, SetRepaymentAccount, SetBlacklisted, SetSeats}
-use Rattle.journal.specs.declared.Listed.{Listed}
-use Rattle.journal.specs.declared.Values.{Values}
-use Rattle.journal.specs.declared.Parts.{Parts}
+use Rattle.journal.specs.declared.table.Listed.{Listed}
+use Rattle.journal.specs.declared.reading.Values.{Values}
+use Rattle.journal.specs.declared.writing.Parts.{Parts}
 use Rattle.journal.specs.Answers.{Reading, found, malformed}
 
 -- the fields' names: v holds the number of each field at the place of its tag. 05 amount and 0F fee are two's complement

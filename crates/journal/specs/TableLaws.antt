@@ -12,7 +12,7 @@ use Rattle.refusal.specs.Choice.{pick, pick-off}
 use Rattle.wire.specs.FieldLaws.{and-left, and-right}
 use Rattle.journal.specs.Answers.{malformed}
 use Rattle.journal.specs.Table.{Row, rows, fieldsIn, fieldsOf, madeIn, made, padded}
-use Rattle.journal.specs.declared.Values.{Values}
+use Rattle.journal.specs.declared.reading.Values.{Values}
 
 pub zeros-at : (n k : ℕ) → _≡_ {A = ℕ} (getD (replicate n 0) k 0) 0
 zeros-at zero k = refl

@@ -12,9 +12,9 @@ use Rattle.journal.specs.Table.{fieldsOf, listed, made, named}
 use Rattle.journal.specs.TableLaws.{few, low, take-padded}
 use Rattle.journal.specs.Format.{gatheredIn}
 use Rattle.journal.specs.ReadLaws.{at-end, at-record, no-head, not-well, whole, all-tops}
-use Rattle.journal.specs.declared.Listed.{Listed}
-use Rattle.journal.specs.declared.Gathered.{Gathered}
-use Rattle.journal.specs.declared.Values.{Values}
+use Rattle.journal.specs.declared.table.Listed.{Listed}
+use Rattle.journal.specs.declared.reading.Gathered.{Gathered}
+use Rattle.journal.specs.declared.reading.Values.{Values}
 use Rattle.journal.proofs.decode.Statement.{statement}
 use Rattle.journal.proofs.decode.Tie as tie
 

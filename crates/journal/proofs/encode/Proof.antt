@@ -11,8 +11,8 @@ use Rattle.journal.specs.Table.{fieldsOf, partsOf, padded, listed, sent}
 use Rattle.journal.specs.TableLaws.{few}
 use Rattle.journal.specs.Format.{fieldsOut, bytesFor}
 use Rattle.journal.specs.WriteLaws.{record-placed, length-for, short, fitting}
-use Rattle.journal.specs.declared.Listed.{Listed}
-use Rattle.journal.specs.declared.Parts.{Parts}
+use Rattle.journal.specs.declared.table.Listed.{Listed}
+use Rattle.journal.specs.declared.writing.Parts.{Parts}
 use Rattle.journal.proofs.encode.Statement.{statement}
 use Rattle.journal.proofs.encode.Tie as tie
 

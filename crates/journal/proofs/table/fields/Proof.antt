@@ -3,8 +3,8 @@ use Prim.Native.Nat.{ℕ}
 use Rattle.refusal.specs.Choice.{pick}
 use Rattle.journal.specs.Table.{fieldsOf, fieldsIn, padded, listed}
 use Rattle.journal.specs.TableLaws.{no-fields}
-use Rattle.journal.proofs.fields.Statement.{statement}
-use Rattle.journal.proofs.fields.Tie as tie
+use Rattle.journal.proofs.table.fields.Statement.{statement}
+use Rattle.journal.proofs.table.fields.Tie as tie
 
 -- in the arm of a tag
 at : (k : ℕ) {t : ℕ} → t ≡ k → listed (fieldsOf k) ≡ listed (fieldsOf t)

@@ -9,8 +9,8 @@ use Rattle.wire.specs.FieldLaws.{length-field}
 use Rattle.wire.specs.PlaceLaws.{length-placed, placed-none, laid-in}
 use Rattle.journal.specs.Format.{fieldsOut}
 use Rattle.journal.specs.WriteLaws.{length-fields, fields-turn}
-use Rattle.journal.proofs.put_fields.Statement.{statement}
-use Rattle.journal.proofs.put_fields.Tie as tie
+use Rattle.journal.proofs.writing.put_fields.Statement.{statement}
+use Rattle.journal.proofs.writing.put_fields.Tie as tie
 
 abbrev Inv-loop : tie.InvT-loop
 Inv-loop out₀ p n tags values i₀ q₀ out i q = (i ≤ n) × ((q ≡ p + 11 * i) × (out ≡ placed p (fieldsOut (take i tags) values) out₀))

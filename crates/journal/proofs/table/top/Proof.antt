@@ -1,8 +1,8 @@
 use mathlib.Core.Path.{refl}
 use Rattle.refusal.specs.Choice.{on, off}
 use Rattle.journal.specs.Table.{topOf}
-use Rattle.journal.proofs.top.Statement.{statement}
-use Rattle.journal.proofs.top.Tie as tie
+use Rattle.journal.proofs.table.top.Statement.{statement}
+use Rattle.journal.proofs.table.top.Tie as tie
 
 pub top-spec : {M : Type 1} → statement M
 unfolding topOf

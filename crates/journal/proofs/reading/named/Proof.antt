@@ -8,8 +8,8 @@ use Rattle.refusal.specs.Choice.{pick}
 use Rattle.money.specs.Range.{ofBits, bitsOf}
 use Rattle.money.specs.Facts.{bits-of-bits}
 use Rattle.journal.specs.Table.{named, fromNumbers, topOf}
-use Rattle.journal.proofs.named.Statement.{statement}
-use Rattle.journal.proofs.named.Tie as tie
+use Rattle.journal.proofs.reading.named.Statement.{statement}
+use Rattle.journal.proofs.reading.named.Tie as tie
 
 -- an amount that a call gave, read back from its bits
 through : {z : ℤ} {n : ℕ} → z ≡ ofBits n → n < 2 ^ 64 → ofBits (bitsOf z) ≡ ofBits n

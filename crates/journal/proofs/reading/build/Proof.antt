@@ -4,8 +4,8 @@ use Rattle.refusal.specs.Choice.{pick}
 use Rattle.money.specs.Facts.{back}
 use Rattle.journal.specs.Table.{made, madeIn}
 use Rattle.journal.specs.TableLaws.{not-made}
-use Rattle.journal.proofs.build.Statement.{statement}
-use Rattle.journal.proofs.build.Tie as tie
+use Rattle.journal.proofs.reading.build.Statement.{statement}
+use Rattle.journal.proofs.reading.build.Tie as tie
 
 -- in the arm of a tag
 at : (k : ℕ) (s : tie.Start) → s .args .tag ≡ k → made k (s .args .f) (s .args .at) (s .args .next) ≡ made (s .args .tag) (s .args .f) (s .args .at) (s .args .next)

@@ -10,8 +10,8 @@ use Rattle.journal.specs.Table.{topOf}
 use mathlib.Core.Bool.{true, false}
 use Rattle.journal.specs.Format.{fieldIn, zeros, gatheredIn}
 use Rattle.journal.specs.FieldLaws.{Going, going-on, going-out, going-done, field-in, field-other, field-high}
-use Rattle.journal.proofs.gather.Statement.{statement}
-use Rattle.journal.proofs.gather.Tie as tie
+use Rattle.journal.proofs.reading.gather.Statement.{statement}
+use Rattle.journal.proofs.reading.gather.Tie as tie
 
 abbrev Inv-loop : tie.InvT-loop
 Inv-loop s p n tags v₀ i₀ q₀ v i q = (i ≤ n) × ((q ≡ p + 11 * i) × Going (take n tags) s p i q v)

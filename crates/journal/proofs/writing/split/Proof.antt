@@ -7,8 +7,8 @@ use Rattle.money.specs.Range.{bitsOf, ofBits}
 use Rattle.money.specs.Facts.{back}
 use Rattle.command.specs.declared.Command.{Command}
 use Rattle.journal.specs.Table.{partsOf, padded, sent}
-use Rattle.journal.proofs.split.Statement.{statement}
-use Rattle.journal.proofs.split.Tie as tie
+use Rattle.journal.proofs.writing.split.Statement.{statement}
+use Rattle.journal.proofs.writing.split.Tie as tie
 
 -- in the arm of a command
 of : {c d : Command} → c ≡ d → sent (partsOf d) ≡ sent (partsOf c)
