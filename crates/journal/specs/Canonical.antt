@@ -1,13 +1,13 @@
 -- Bytes that are read as a command are exactly those that writing it gives. Assumes nothing.
 use mathlib.Core.Path.{_≡_, refl, sym, ap, _∙_}
 use mathlib.Core.Bool.{Bool, true, false, _&&_}
-use mathlib.Core.List.{List, [], _∷_, _++_}
+use mathlib.Core.List.{List, [], _∷_}
 use Prim.Native.Nat.{ℕ, zero, suc, _+_, _*_, _^_, _≤_, _<_}
 use native.Mathlib.Omega.{arith}
 use lib.ListN.{length, getD, take, drop, set, length-drop}
-use lib.Seq.{take-add, getD-drop}
+use lib.Seq.{take-add}
 use lib.Dec.{eqb, leb}
-use borrow.Author.Tests.{eqb-true, leb-true}
+use borrow.Author.Tests.{eqb-true}
 use Rattle.refusal.specs.Choice.{pick}
 use Rattle.refusal.specs.Refusal.{number, journalMalformed}
 use Rattle.command.specs.declared.Command.{Command}
@@ -16,10 +16,10 @@ use Rattle.wire.specs.NumberLaws.{Bytes}
 use Rattle.wire.specs.FieldLaws.{and-left, and-right, begins-room}
 use Rattle.wire.specs.FieldTrip.{bytes-drop, field-bytes, number-whole, number-small}
 use Rattle.journal.specs.Answers.{found, ended, malformed}
-use Rattle.journal.specs.Table.{topOf, named, fieldsOf, made, partsOf}
+use Rattle.journal.specs.Table.{named, fieldsOf, made}
 use Rattle.journal.specs.Format.{headerOf, openingOf, fieldIn, wellIn, numbersIn, zeros, recordAt, readAt, fieldsOut, bytesFor}
 use Rattle.journal.specs.WriteLaws.{length-for}
-use Rattle.journal.specs.Held.{byTag}
+use Rattle.journal.specs.HeldLaws.{byTag}
 use Rattle.journal.specs.Faithful.{made-of}
 
 -- the numbers of n fields

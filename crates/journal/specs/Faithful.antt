@@ -7,14 +7,14 @@ use native.Mathlib.Omega.{arith}
 use lib.ListN.{length, getD}
 use lib.Dec.{eqb}
 use borrow.Author.Tests.{eqb-true}
-use Rattle.refusal.specs.Choice.{pick, pick-on, pick-off}
+use Rattle.refusal.specs.Choice.{pick}
 use Rattle.money.specs.Range.{bitsOf, ofBits}
 use Rattle.money.specs.Facts.{bits-of-bits}
 use Rattle.command.specs.declared.Command.{Command}
 use Rattle.journal.specs.Answers.{found, malformed}
 use Rattle.journal.specs.Table.{Row, rows, named, fieldsIn, fieldsOf, madeIn, made, partsOf}
 use Rattle.journal.specs.Format.{zeros}
-use Rattle.journal.specs.Held.{byTag}
+use Rattle.journal.specs.HeldLaws.{byTag}
 use Rattle.journal.specs.declared.reading.Values.{Values}
 
 -- the first n numbers

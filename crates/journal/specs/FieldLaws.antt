@@ -1,21 +1,16 @@
 -- What the loops over a record's fields go by. Assumes nothing.
 use mathlib.Core.Path.{_≡_, refl, sym, ap, _∙_}
 use mathlib.Core.Bool.{Bool, true, false, _&&_}
-use mathlib.Core.List.{List, [], _∷_, _++_, append-assoc, append-nil}
-use Prim.Native.Nat.{ℕ, zero, suc, _+_, _*_, _≤_, _<_}
-use native.Mathlib.Omega.{arith}
+use mathlib.Core.List.{List, _∷_}
+use Prim.Native.Nat.{ℕ, suc, _+_, _≤_, _<_}
 use native.Mathlib.Numerals.{add-one}
-use lib.ListN.{length, getD, take, drop, set, length-append, length-take}
-use lib.Seq.{drop-cons, drop-drop, drop-length, getD-take, getD-drop}
-use lib.Dec.{leb}
+use lib.ListN.{length, getD, drop, set}
+use lib.Seq.{drop-cons, drop-drop, drop-length}
 use borrow.Author.Tests.{le-leb, lt-leb}
 use Rattle.refusal.specs.Choice.{pick-on, pick-off}
-use Rattle.wire.specs.Field.{numberAt, bytesOf, fieldOf, begins, placed, laid}
-use Rattle.wire.specs.FieldLaws.{length-field}
-use Rattle.wire.specs.PlaceLaws.{placed-twice, laid-in, length-placed}
+use Rattle.wire.specs.Field.{numberAt, begins}
 use Rattle.journal.specs.Table.{topOf}
-use Rattle.journal.specs.Format.{fieldIn, wellIn, numbersIn, zeros, gatheredIn, fieldsOut}
-use Rattle.journal.specs.declared.reading.Gathered.{Gathered}
+use Rattle.journal.specs.Format.{fieldIn, wellIn, numbersIn, zeros, gatheredIn}
 
 pub and-off : (a : Bool) → a && false ≡ false
 and-off true = refl

@@ -2,11 +2,11 @@
 use mathlib.Core.Path.{_≡_, refl, sym, ap, _∙_}
 use mathlib.Core.Bool.{Bool, true, false, _&&_}
 use mathlib.Core.List.{List, [], _∷_, _++_, append-assoc}
-use Prim.Native.Nat.{ℕ, _+_, _*_, _^_, _≤_, _<_}
+use Prim.Native.Nat.{ℕ, _+_, _*_, _≤_, _<_}
 use native.Mathlib.Omega.{arith}
 use lib.ListN.{length, getD, take, drop, set, length-append}
 use lib.Seq.{drop-at, drop-append-seam, length-take-le}
-use lib.Dec.{eqb, leb}
+use lib.Dec.{eqb}
 use borrow.Author.Tests.{le-leb, eq-eqb}
 use Rattle.refusal.specs.Choice.{pick, pick-on}
 use Rattle.command.specs.declared.Command.{Command}
@@ -20,7 +20,8 @@ use Rattle.journal.specs.TableLaws.{few}
 use Rattle.journal.specs.Format.{headerOf, openingOf, fieldIn, wellIn, numbersIn, zeros, recordAt, readAt, fieldsOut, bytesFor}
 use Rattle.journal.specs.ReadLaws.{at-record}
 use Rattle.journal.specs.WriteLaws.{length-fields, length-for}
-use Rattle.journal.specs.Held.{Held, Tops, byTag, in-range, made-back}
+use Rattle.journal.specs.Held.{Held}
+use Rattle.journal.specs.HeldLaws.{Tops, byTag, in-range, made-back}
 
 -- the header
 pub header-back : (r : List ℕ) → openingOf (headerOf ++ r) ≡ (0, 5)

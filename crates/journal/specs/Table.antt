@@ -1,5 +1,5 @@
 -- Document 01, "Journal and replay": the commands' tags, their fields in ascending order, and the command that the fields make.
-use mathlib.Core.Bool.{Bool, true, false, _||_}
+use mathlib.Core.Bool.{Bool, _||_}
 use mathlib.Core.List.{List, [], _∷_, _++_}
 use Prim.Native.Nat.{ℕ, _-_}
 use lib.ListN.{length, getD, replicate}

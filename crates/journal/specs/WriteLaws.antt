@@ -13,7 +13,9 @@ use Rattle.command.specs.declared.Command.{Command}
 use Rattle.wire.specs.Field.{bytesOf, headOf, fieldOf, placed, laid}
 use Rattle.wire.specs.FieldLaws.{length-field}
 use Rattle.wire.specs.PlaceLaws.{placed-twice, laid-in, laid-out}
-use Rattle.journal.specs.Table.{fieldsOf, partsOf, padded}
+use Rattle.journal.specs.Table.{fieldsOf, partsOf, padded, listed, sent}
+use Rattle.journal.specs.declared.table.Listed.{Listed}
+use Rattle.journal.specs.declared.writing.Parts.{Parts}
 use Rattle.journal.specs.TableLaws.{take-padded}
 use Rattle.journal.specs.Format.{fieldsOut, bytesFor, writing}
 
@@ -59,6 +61,16 @@ unfolding fieldOf headOf bytesOf padded
 record-placed t fs vs l at h =
     let e : length (fieldsOut fs vs) ≡ 11 * length fs = length-fields fs vs in
     rw (take-padded fs, fields-zeros fs vs (9 - length vs), ← e) (placed-twice at (headOf t (length (fieldsOut fs vs))) (fieldsOut fs vs) l (omega (arith, e)))
+
+-- what encode leaves in a buffer, of the parts and the row that it was given
+abbrev pub stored : List ℕ → ℕ → Parts → Listed → List ℕ
+stored l at p r = placed (at + 3) (fieldsOut (take (r .0) (r .1)) (p .1)) (placed at (headOf (p .0) (11 * r .0)) l)
+
+pub command-placed : (c : Command) (l : List ℕ) (at : ℕ) {p : Parts} {r : Listed} → p ≡ sent (partsOf c) → r ≡ listed (fieldsOf (partsOf c .0)) → at + (3 + 11 * r .0) ≤ length l → stored l at p r ≡ placed at (bytesFor c) l
+unfolding bytesFor
+command-placed c l at {p} {r} e d h =
+    ap (λ (q : Parts). stored l at q r) e ∙ ap (λ (q : Listed). stored l at (sent (partsOf c)) q) d
+    ∙ record-placed (partsOf c .0) (fieldsOf (partsOf c .0)) (partsOf c .1) l at (omega (arith, ap (λ (q : Listed). q .0) d))
 
 pub length-for : (c : Command) → length (bytesFor c) ≡ 3 + 11 * length (fieldsOf (partsOf c .0))
 unfolding bytesFor fieldOf headOf bytesOf

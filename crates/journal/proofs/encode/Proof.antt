@@ -1,16 +1,15 @@
-use mathlib.Core.Path.{_≡_, refl, sym, ap, _∙_}
+use mathlib.Core.Path.{_≡_, sym, ap, _∙_}
 use mathlib.Core.List.{List}
-use Prim.Native.Nat.{ℕ, _+_, _*_, _≤_, _<_}
+use Prim.Native.Nat.{ℕ, _+_, _*_, _≤_}
 use native.Mathlib.Omega.{arith}
-use lib.ListN.{length, take}
+use lib.ListN.{length}
 use borrow.Author.Needs.{needs}
-use Rattle.command.specs.declared.Command.{Command}
 use Rattle.wire.specs.Field.{placed, headOf, bytesOf}
 use Rattle.wire.specs.PlaceLaws.{laid-in, length-placed}
-use Rattle.journal.specs.Table.{fieldsOf, partsOf, padded, listed, sent}
+use Rattle.journal.specs.Table.{fieldsOf, partsOf, listed}
 use Rattle.journal.specs.TableLaws.{few}
-use Rattle.journal.specs.Format.{fieldsOut, bytesFor}
-use Rattle.journal.specs.WriteLaws.{record-placed, length-for, short, fitting}
+use Rattle.journal.specs.Format.{bytesFor}
+use Rattle.journal.specs.WriteLaws.{stored, command-placed, length-for, short, fitting}
 use Rattle.journal.specs.declared.table.Listed.{Listed}
 use Rattle.journal.specs.declared.writing.Parts.{Parts}
 use Rattle.journal.proofs.encode.Statement.{statement}
@@ -36,10 +35,7 @@ size-is c = ap (λ (n : ℕ). 3 + 11 * n) (count c) ∙ sym (length-for (start c
 room : (c : tie.Else2) → start (c .before .before) .args .at + (3 + 11 * c .before .before .before .fields .result .0) ≤ length (start (c .before .before) .args .out .now)
 room c = omega (arith, c .if2 .left, c .before .if1 .left)
 
--- what the code leaves in a buffer of the parts and the row that it was given
-abbrev stored : List ℕ → ℕ → Parts → Listed → List ℕ
-stored l at p r = placed (at + 3) (fieldsOut (take (r .0) (r .1)) (p .1)) (placed at (headOf (p .0) (11 * r .0)) l)
-
+-- the buffer past the head, and past the fields
 head-put : (c : tie.After-put-head) → c .put-head .last .0 ≡ placed (start (c .before .before .before .before) .args .at) (headOf (c .before .before .before .before .before .before .before .split .result .0) (11 * c .before .before .before .before .before .fields .result .0)) (start (c .before .before .before .before) .args .out .now)
 unfolding headOf bytesOf
 head-put c = let d = c .before .before .before .before in c .put-head .ensures ∙ laid-in (start d .args .at) _ (start d .args .out .now) (omega (arith, room (c .before .before)))
@@ -52,18 +48,13 @@ fits : (c : tie.After-put-fields) → start (c .before .before .before .before .
 fits c = omega (arith, size-is (c .before .before .before .before .before .before .before .before), room (c .before .before .before .before .before .before))
 
 all-put : (c : tie.After-put-fields) → c .put-fields .last .0 ≡ placed (start (c .before .before .before .before .before .before .before .before) .args .at) (bytesFor (start (c .before .before .before .before .before .before .before .before) .args .c)) (start (c .before .before .before .before .before .before .before .before) .args .out .now)
-unfolding bytesFor
 all-put c =
     let h = c .before .before .before .before in
     let d = h .before .before .before .before in
     let a = start d .args in
-    let p = d .before .before .before .split .result in
-    let r = d .before .fields .result in
-    c .put-fields .ensures
-    ∙ ap (λ (m : List ℕ). placed (a .at + 3) (fieldsOut (take (r .0) (r .1)) (p .1)) m) (head-put h)
-    ∙ ap (λ (q : Parts). stored (a .out .now) (a .at) q r) (d .before .before .before .split .ensures)
-    ∙ ap (λ (q : Listed). stored (a .out .now) (a .at) (sent (partsOf (a .c))) q) (row d)
-    ∙ record-placed (partsOf (a .c) .0) (fs d) (partsOf (a .c) .1) (a .out .now) (a .at) (omega (arith, count d, room (h .before .before)))
+    _∙_ {b = stored (a .out .now) (a .at) (d .before .before .before .split .result) (d .before .fields .result)}
+    (rw (head-put h) at (c .put-fields .ensures))
+    (command-placed (a .c) (a .out .now) (a .at) (d .before .before .before .split .ensures) (row d) (room (h .before .before)))
 
 returns : tie.Need-returns
 returns c = let d = c .before in short (start d .args .at) (bytesFor (start d .args .c)) (start d .args .out .now) (omega (arith, size-is d, c .if1 .taken))

@@ -1,4 +1,4 @@
-use mathlib.Core.Path.{refl, sym, _∙_}
+use mathlib.Core.Path.{refl}
 use borrow.Author.Needs.{needs}
 use Rattle.wire.specs.Field.{placed, fieldOf, headOf, bytesOf}
 use Rattle.journal.specs.Format.{headerOf}
