@@ -2,6 +2,7 @@
 use crate::Decoded;
 use crate::table;
 use command::Command;
+use money::of_bits;
 use terms::Terms;
 ghost use mathlib.Core.Path.{_≡_};
 ghost use Prim.Native.Nat.{ℕ, _+_, _*_, _≤_, _<_};
@@ -73,7 +74,7 @@ pub(crate) fn named(v: [u64; 32]) -> Values
         caller: v[0x02],
         id: v[0x03],
         invoice: v[0x04],
-        amount: money::of_bits(v[0x05]),
+        amount: of_bits(v[0x05]),
         rate: v[0x06] as u32,
         duration: v[0x07],
         expires: v[0x08],
@@ -83,7 +84,7 @@ pub(crate) fn named(v: [u64; 32]) -> Values
         first: v[0x0c],
         seats: v[0x0d],
         threshold: v[0x0e] as u32,
-        fee: money::of_bits(v[0x0f]),
+        fee: of_bits(v[0x0f]),
         window: v[0x11],
         next: v[0x12],
     }

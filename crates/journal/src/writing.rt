@@ -1,5 +1,6 @@
 // From a command to the bytes of its record.
 use command::Command;
+use money::bits;
 ghost use mathlib.Core.Path.{_≡_};
 ghost use Prim.Native.Nat.{_+_, _*_, _≤_};
 ghost use lib.ListN.{length, take};
@@ -19,23 +20,23 @@ pub(crate) fn split(c: Command) -> Parts
             now,
             caller,
             amount,
-        } => Parts(0x22, [now, caller, money::bits(amount), 0, 0, 0, 0, 0, 0]),
+        } => Parts(0x22, [now, caller, bits(amount), 0, 0, 0, 0, 0, 0]),
         Command::Payout {
             now,
             caller,
             amount,
-        } => Parts(0x23, [now, caller, money::bits(amount), 0, 0, 0, 0, 0, 0]),
+        } => Parts(0x23, [now, caller, bits(amount), 0, 0, 0, 0, 0, 0]),
         Command::Approve {
             now,
             caller,
             amount,
-        } => Parts(0x24, [now, caller, money::bits(amount), 0, 0, 0, 0, 0, 0]),
+        } => Parts(0x24, [now, caller, bits(amount), 0, 0, 0, 0, 0, 0]),
         Command::RegisterInvoice {
             now,
             caller,
             id,
             amount,
-        } => Parts(0x25, [now, caller, id, money::bits(amount), 0, 0, 0, 0, 0]),
+        } => Parts(0x25, [now, caller, id, bits(amount), 0, 0, 0, 0, 0]),
         Command::CancelInvoice { now, caller, id } => Parts(
             0x26,
             [now, caller, id, 0, 0, 0, 0, 0, 0],
@@ -54,7 +55,7 @@ pub(crate) fn split(c: Command) -> Parts
                 caller,
                 id,
                 invoice,
-                money::bits(terms.amount),
+                bits(terms.amount),
                 terms.rate as u64,
                 terms.duration,
                 expires,
@@ -85,7 +86,7 @@ pub(crate) fn split(c: Command) -> Parts
                 now,
                 caller,
                 id,
-                money::bits(terms.amount),
+                bits(terms.amount),
                 terms.rate as u64,
                 terms.duration,
                 round as u64,
@@ -105,7 +106,7 @@ pub(crate) fn split(c: Command) -> Parts
                 now,
                 caller,
                 id,
-                money::bits(terms.amount),
+                bits(terms.amount),
                 terms.rate as u64,
                 terms.duration,
                 round as u64,
@@ -139,7 +140,7 @@ pub(crate) fn split(c: Command) -> Parts
             caller,
             id,
             amount,
-        } => Parts(0x42, [now, caller, id, money::bits(amount), 0, 0, 0, 0, 0]),
+        } => Parts(0x42, [now, caller, id, bits(amount), 0, 0, 0, 0, 0]),
         Command::UpdateLenderRepaid {
             now,
             caller,
@@ -151,20 +152,7 @@ pub(crate) fn split(c: Command) -> Parts
             caller,
             amount,
             fee,
-        } => Parts(
-            0x44,
-            [
-                now,
-                caller,
-                money::bits(amount),
-                money::bits(fee),
-                0,
-                0,
-                0,
-                0,
-                0,
-            ],
-        ),
+        } => Parts(0x44, [now, caller, bits(amount), bits(fee), 0, 0, 0, 0, 0]),
         Command::Pause { now, seats } => Parts(0x51, [now, seats, 0, 0, 0, 0, 0, 0, 0]),
         Command::Unpause { now, seats } => Parts(0x52, [now, seats, 0, 0, 0, 0, 0, 0, 0]),
         Command::SetWindow { now, seats, window } => Parts(
