@@ -8,7 +8,7 @@ use layer::{Source, Verdict};
 use side::{Book, Round};
 
 /// The answers that document 01's lists allow each command, by tag.
-const ALLOWED: [(u8, &[usize]); 24] = [
+pub const ALLOWED: [(u8, &[usize]); 24] = [
     (0x21, &[0, 1, 5, 12]),
     (0x22, &[0, 1, 3, 4, 11]),
     (0x23, &[0, 1, 3, 4, 10]),
@@ -168,9 +168,8 @@ impl Coverage {
             Source::Other => "refused by another contract or the host (no code)",
             Source::Port => "refused by a rule of the port alone",
         };
-        let lines = self.sources.iter().map(|(source, count)| {
-            format!("{count:>10} {}\n", named(source))
-        });
+        let lines =
+            self.sources.iter().map(|(source, count)| format!("{count:>10} {}\n", named(source)));
         lines.collect()
     }
 
@@ -230,7 +229,10 @@ pub fn refusing_lines() -> Vec<(u32, &'static str)> {
     let code = |line: &str| !line.trim_start().starts_with("//");
     let refuses = |line: &str| REFUSING.iter().chain(&CHECKS).any(|form| line.contains(form));
     let numbered = (1..).zip(original::TEXT.lines());
-    numbered.filter(|(_, line)| code(line) && refuses(line)).map(|(n, line)| (n, line.trim())).collect()
+    numbered
+        .filter(|(_, line)| code(line) && refuses(line))
+        .map(|(n, line)| (n, line.trim()))
+        .collect()
 }
 
 /// Refusing lines that no command of the journal reaches, and why.

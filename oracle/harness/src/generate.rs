@@ -272,7 +272,11 @@ impl Generator {
     fn cancel(&mut self, now: u64, book: &Book) -> Command {
         let rows = book.invoices.len() as u64;
         if rows == 0 {
-            return Command::CancelInvoice { now, caller: self.any_account(book), id: self.new_id() };
+            return Command::CancelInvoice {
+                now,
+                caller: self.any_account(book),
+                id: self.new_id(),
+            };
         }
         let invoice = book.invoices[self.chance.below(rows) as usize];
         Command::CancelInvoice { now, caller: invoice.originator, id: invoice.id }

@@ -8,5 +8,6 @@ pub mod generate;
 pub mod given;
 pub mod pair;
 pub mod questions;
+pub mod script;
 pub mod shrink;
 pub mod vectors;

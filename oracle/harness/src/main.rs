@@ -99,7 +99,10 @@ fn covered(report: &Report, commands: u64) -> Result<(), String> {
     println!("{}", report.coverage.sources());
     println!("{}", report.coverage.paths());
     println!("{}", report.coverage.lines_met());
-    println!("listed difference met: a paid quotient of 2^32 or more, {} times", report.wide_quotients);
+    println!(
+        "listed difference met: a paid quotient of 2^32 or more, {} times",
+        report.wide_quotients
+    );
     let coverage = &report.coverage;
     let gaps = [coverage.unexpected(), coverage.unmet_lines(), coverage.unwalked()].concat();
     if gaps.is_empty() || commands < COVERING {

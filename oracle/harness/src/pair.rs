@@ -175,10 +175,14 @@ fn books_differ(original: &Book, other: Option<&Book>, name: &str) -> String {
     let (one, two) = (format!("{original:#?}"), format!("{other:#?}"));
     let (one, two): (Vec<_>, Vec<_>) = (one.lines().collect(), two.lines().collect());
     let same = one.iter().zip(&two).take_while(|(one, two)| one == two).count();
-    let shown = |lines: Vec<&str>| lines.iter().skip(same).take(3).map(|line| line.trim()).fold(
-        String::new(),
-        |text, line| text + " " + line,
-    );
+    let shown = |lines: Vec<&str>| {
+        lines
+            .iter()
+            .skip(same)
+            .take(3)
+            .map(|line| line.trim())
+            .fold(String::new(), |text, line| text + " " + line)
+    };
     let (one, two) = (shown(one), shown(two));
     format!("the books differ: the original has{one}, {name}{two}")
 }

@@ -65,7 +65,8 @@ fn about_offer(offer: &Offer, now: u64, out: &mut Vec<Query>) {
     let Some(schedule) = &offer.schedule else { return };
     let period = [604_800, 1_209_600, 2_592_000][schedule.code as usize - 1];
     let paid = (offer.repaid / schedule.installment) as u64;
-    let after = |periods: u64| schedule.first.saturating_add(period.min(u64::MAX / 2_000) * periods);
+    let after =
+        |periods: u64| schedule.first.saturating_add(period.min(u64::MAX / 2_000) * periods);
     for periods in [0, 1, paid.min(1_200), schedule.count - 1, schedule.count] {
         let time = after(periods);
         out.extend([Query::Due(id, time.saturating_sub(1)), Query::Due(id, time)]);

@@ -52,7 +52,12 @@ fn size(failure: &Failure) -> (usize, u128) {
 }
 
 /// Takes the run if it still fails, cut after the command that shows it.
-fn take(other: &mut dyn Side, into: &mut Failure, start: Start, mut commands: Vec<Command>) -> bool {
+fn take(
+    other: &mut dyn Side,
+    into: &mut Failure,
+    start: Start,
+    mut commands: Vec<Command>,
+) -> bool {
     let Some((length, what)) = difference(other, &start, &commands) else { return false };
     commands.truncate(length);
     *into = Failure { start, commands, what };
@@ -132,7 +137,9 @@ fn rename(other: &mut dyn Side, into: &mut Failure) {
             let rounds = [0, 1, 2, 3, 10, 100, 86_400, 86_401];
             let smaller = rounds.into_iter().filter(|number| *number < great);
             if !NAMES.contains(&field) {
-                smaller.take_while(|number| !replace(other, into, &[field], great, *number)).count();
+                smaller
+                    .take_while(|number| !replace(other, into, &[field], great, *number))
+                    .count();
             }
         }
     }
@@ -207,11 +214,16 @@ fn drop_account(book: &mut Book, index: usize) -> bool {
 }
 
 fn drop_rounds(book: &mut Book, index: usize) -> bool {
-    let held = book.offers.iter_mut().filter(|row| !row.rounds.is_empty() || row.schedule.is_some());
-    held.skip(index).take(1).map(|row| {
-        row.rounds.pop();
-        row.schedule = None;
-    }).count() == 1
+    let held =
+        book.offers.iter_mut().filter(|row| !row.rounds.is_empty() || row.schedule.is_some());
+    held.skip(index)
+        .take(1)
+        .map(|row| {
+            row.rounds.pop();
+            row.schedule = None;
+        })
+        .count()
+        == 1
 }
 
 /// Tries smaller numbers in every field.

@@ -36,34 +36,84 @@ impl Number for u32 {
 }
 
 macro_rules! type_of {
-    (amount) => { i64 };
-    (fee) => { i64 };
-    (rate) => { u32 };
-    (round) => { u32 };
-    (count) => { u32 };
-    (code) => { u32 };
-    (threshold) => { u32 };
-    ($wide:ident) => { u64 };
+    (amount) => {
+        i64
+    };
+    (fee) => {
+        i64
+    };
+    (rate) => {
+        u32
+    };
+    (round) => {
+        u32
+    };
+    (count) => {
+        u32
+    };
+    (code) => {
+        u32
+    };
+    (threshold) => {
+        u32
+    };
+    ($wide:ident) => {
+        u64
+    };
 }
 
 macro_rules! tag_of {
-    (now) => { 0x01 };
-    (caller) => { 0x02 };
-    (id) => { 0x03 };
-    (invoice) => { 0x04 };
-    (amount) => { 0x05 };
-    (rate) => { 0x06 };
-    (duration) => { 0x07 };
-    (expires) => { 0x08 };
-    (round) => { 0x09 };
-    (count) => { 0x0A };
-    (code) => { 0x0B };
-    (first) => { 0x0C };
-    (seats) => { 0x0D };
-    (threshold) => { 0x0E };
-    (fee) => { 0x0F };
-    (window) => { 0x11 };
-    (next) => { 0x12 };
+    (now) => {
+        0x01
+    };
+    (caller) => {
+        0x02
+    };
+    (id) => {
+        0x03
+    };
+    (invoice) => {
+        0x04
+    };
+    (amount) => {
+        0x05
+    };
+    (rate) => {
+        0x06
+    };
+    (duration) => {
+        0x07
+    };
+    (expires) => {
+        0x08
+    };
+    (round) => {
+        0x09
+    };
+    (count) => {
+        0x0A
+    };
+    (code) => {
+        0x0B
+    };
+    (first) => {
+        0x0C
+    };
+    (seats) => {
+        0x0D
+    };
+    (threshold) => {
+        0x0E
+    };
+    (fee) => {
+        0x0F
+    };
+    (window) => {
+        0x11
+    };
+    (next) => {
+        0x12
+    };
 }
 
 pub(crate) use {tag_of, type_of};

@@ -4,7 +4,8 @@ use crate::Command;
 
 pub fn session() -> Vec<Command> {
     let (now, id, rate, duration) = (100, 20, 500, 86_400);
-    let amend = |round| Command::AmendOffer { now, caller: 1, id, amount: 900, rate, duration, round };
+    let amend =
+        |round| Command::AmendOffer { now, caller: 1, id, amount: 900, rate, duration, round };
     vec![
         Command::OpenAccount { now, caller: 1 },
         Command::OpenAccount { now, caller: 2 },

@@ -5,7 +5,7 @@ use journal::{answer, Command};
 use original::FinancingContract as Contract;
 use soroban_sdk::{symbol_short, Address, Env, Outcome, Symbol, Vec};
 
-use crate::{refused, require, Original};
+use crate::{refused, Original};
 
 /// The greatest amount of an offer or an invoice.
 pub(crate) const MOST_OFFERED: i64 = 1_000_000_000_000;
@@ -40,7 +40,7 @@ impl Original {
 
     /// The caller's address; without an account 4, or 1 if the book is paused.
     fn party(&self, caller: u64) -> Outcome<Address> {
-        if self.is_open(caller) {
+        if self.is_open(caller) || !self.rules {
             Ok(Address::account(caller))
         } else if Contract::contract_is_paused(self.env.clone()) {
             refused(answer::PAUSED)
@@ -51,7 +51,7 @@ impl Original {
 
     /// The amount as the original is handed it: 0 in place of one past the port's range.
     fn offered(&self, amount: i64) -> i128 {
-        if self.ranges && amount > MOST_OFFERED {
+        if self.rules && amount > MOST_OFFERED {
             0
         } else {
             amount.into()
@@ -61,7 +61,9 @@ impl Original {
     pub(crate) fn command(&self, command: &Command) -> Outcome<()> {
         let env = self.env.clone();
         match *command {
-            Command::CreateOffer { caller, id, invoice, amount, rate, duration, expires, .. } => {
+            Command::CreateOffer {
+                caller, id, invoice, amount, rate, duration, expires, ..
+            } => {
                 let (lender, amount) = (self.party(caller)?, self.offered(amount));
                 let (id, invoice, money) = (symbol(id), symbol(invoice), CURRENCY);
                 Contract::create_offer(
@@ -103,14 +105,13 @@ impl Original {
             Command::UpdateRepaid { caller, id, amount, .. } => {
                 self.party(caller)?;
                 Contract::update_offer_amount_repaid(env, symbol(id), amount.into());
-                let lies = !self.ranges || (0..=MOST_REPAID).contains(&amount);
-                return require(lies, answer::OUT_OF_RANGE);
+                return self.rule((0..=MOST_REPAID).contains(&amount), answer::OUT_OF_RANGE);
             }
             Command::UpdateLenderRepaid { caller, id, code, .. } => {
                 self.party(caller)?;
                 Contract::update_lender_stats_repaid(env, Address::account(id), code == 1);
-                require(code <= 1, answer::INVALID_INPUT)?;
-                return require(self.is_open(id), answer::NOT_FOUND);
+                self.rule(code <= 1, answer::INVALID_INPUT)?;
+                return self.rule(self.is_open(id), answer::NOT_FOUND);
             }
             Command::UpdateTotalsRepaid { caller, amount, fee, .. } => {
                 self.party(caller)?;
@@ -124,7 +125,7 @@ impl Original {
             Command::SetRepaymentAccount { id, seats: bits, .. } => {
                 let signers = seats(&self.env, bits);
                 Contract::set_repayment_contract(env, signers, Address::account(id));
-                return require(self.is_open(id), answer::NOT_FOUND);
+                return self.rule(self.is_open(id), answer::NOT_FOUND);
             }
             Command::SetSeats { seats: bits, threshold, next, .. } => {
                 let (signers, next) = (seats(&self.env, bits), seats(&self.env, next));

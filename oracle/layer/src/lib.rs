@@ -38,8 +38,8 @@ pub struct Original {
     env: Env,
     // Ids of the opened accounts, ascending.
     accounts: Vec<u64>,
-    // Off only where a test shows what the original does without the port's ranges.
-    ranges: bool,
+    // Off only where a test shows what the original does without the port's rules.
+    rules: bool,
 }
 
 impl Default for Original {
@@ -49,14 +49,15 @@ impl Default for Original {
 }
 
 impl Original {
-    /// The bare original: accounts and journals, but no range of the port.
-    pub fn without_ranges() -> Original {
+    /// The original's own commands with no rule of the port: no range, no number of rows, and
+    /// parties that need no account.
+    pub fn bare() -> Original {
         Original::new(false)
     }
 
-    fn new(ranges: bool) -> Original {
-        let env = Env::with_ranges(ranges);
-        let original = Original { env, accounts: Vec::new(), ranges };
+    fn new(rules: bool) -> Original {
+        let env = Env::with_ranges(rules);
+        let original = Original { env, accounts: Vec::new(), rules };
         original.construct();
         original
     }
@@ -99,6 +100,13 @@ fn require(holds: bool, number: u64) -> Outcome<()> {
     }
 }
 
+impl Original {
+    /// A test that the port adds to a command of the original's.
+    fn rule(&self, holds: bool, number: u64) -> Outcome<()> {
+        require(holds || !self.rules, number)
+    }
+}
+
 fn caller(command: &Command) -> Option<u64> {
     let (tag, numbers) = command.numbers();
     (tag < 0x51).then_some(numbers[0x02])
@@ -110,7 +118,7 @@ impl Side for Original {
     }
 
     fn reset(&mut self) {
-        *self = Original::new(self.ranges);
+        *self = Original::new(self.rules);
     }
 
     fn load(&mut self, book: &[u64]) {

@@ -19,7 +19,9 @@ const DEFAULTED: u64 = 5;
 impl Desk {
     pub fn offer_command(&mut self, command: &Command) -> Test {
         match *command {
-            Command::CreateOffer { caller, id, invoice, amount, rate, duration, expires, .. } => {
+            Command::CreateOffer {
+                caller, id, invoice, amount, rate, duration, expires, ..
+            } => {
                 let (rate, lender) = (rate.into(), caller);
                 let fresh = Offer {
                     id,

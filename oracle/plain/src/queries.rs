@@ -82,9 +82,8 @@ fn due_of(offer: &Offer, now: u64) -> u64 {
 fn active_total(book: &Book, lender: u64, slip: Option<Slip>) -> u64 {
     let (accepted, financed, defaulted) = (1, 3, 5);
     let slipped = slip == Some(Slip::DefaultedActive);
-    let counts = |status: u64| {
-        status == accepted || status == financed || (slipped && status == defaulted)
-    };
+    let counts =
+        |status: u64| status == accepted || status == financed || (slipped && status == defaulted);
     let active = book.offers.iter().filter(|row| row.lender == lender && counts(row.status));
     active.map(|offer| offer.amount as u64).sum()
 }

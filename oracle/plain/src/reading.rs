@@ -81,25 +81,33 @@ fn command(record: &Field) -> Option<Command> {
         0x25 => fields!(tag, f, [3, 5] => |now, caller, [id, amount]| {
             Command::RegisterInvoice { now, caller, id, amount: amount as i64 }
         }),
-        0x26 => fields!(tag, f, [3] => |now, caller, [id]| Command::CancelInvoice { now, caller, id }),
+        0x26 => {
+            fields!(tag, f, [3] => |now, caller, [id]| Command::CancelInvoice { now, caller, id })
+        }
         0x31 => fields!(tag, f, [3, 4, 5, 6, 7, 8] =>
-            |now, caller, [id, invoice, amount, rate, duration, expires]| {
-                let (amount, rate) = (amount as i64, rate as u32);
-                Command::CreateOffer { now, caller, id, invoice, amount, rate, duration, expires }
-            }),
-        0x32 => fields!(tag, f, [3] => |now, caller, [id]| Command::WithdrawOffer { now, caller, id }),
-        0x33 => fields!(tag, f, [3] => |now, caller, [id]| Command::AcceptOffer { now, caller, id }),
-        0x34 => fields!(tag, f, [3] => |now, caller, [id]| Command::RejectOffer { now, caller, id }),
+        |now, caller, [id, invoice, amount, rate, duration, expires]| {
+            let (amount, rate) = (amount as i64, rate as u32);
+            Command::CreateOffer { now, caller, id, invoice, amount, rate, duration, expires }
+        }),
+        0x32 => {
+            fields!(tag, f, [3] => |now, caller, [id]| Command::WithdrawOffer { now, caller, id })
+        }
+        0x33 => {
+            fields!(tag, f, [3] => |now, caller, [id]| Command::AcceptOffer { now, caller, id })
+        }
+        0x34 => {
+            fields!(tag, f, [3] => |now, caller, [id]| Command::RejectOffer { now, caller, id })
+        }
         0x35 => fields!(tag, f, [3, 5, 6, 7, 9] =>
-            |now, caller, [id, amount, rate, duration, round]| {
-                let (amount, rate, round) = (amount as i64, rate as u32, round as u32);
-                Command::AmendOffer { now, caller, id, amount, rate, duration, round }
-            }),
+        |now, caller, [id, amount, rate, duration, round]| {
+            let (amount, rate, round) = (amount as i64, rate as u32, round as u32);
+            Command::AmendOffer { now, caller, id, amount, rate, duration, round }
+        }),
         0x36 => fields!(tag, f, [3, 5, 6, 7, 9] =>
-            |now, caller, [id, amount, rate, duration, round]| {
-                let (amount, rate, round) = (amount as i64, rate as u32, round as u32);
-                Command::CounterOffer { now, caller, id, amount, rate, duration, round }
-            }),
+        |now, caller, [id, amount, rate, duration, round]| {
+            let (amount, rate, round) = (amount as i64, rate as u32, round as u32);
+            Command::CounterOffer { now, caller, id, amount, rate, duration, round }
+        }),
         0x37 => fields!(tag, f, [3] => |now, caller, [id]| {
             Command::CloseNegotiation { now, caller, id }
         }),

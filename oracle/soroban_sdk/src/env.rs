@@ -237,8 +237,7 @@ mod test {
         let env = Env::fresh();
         let (one, two) = (Address::account(1), Address::account(2));
         assert_eq!(env.transaction(Some(one), || Ok(one.require_auth())), Ok(()));
-        let Err(Stop::Refused(refusal)) =
-            env.transaction(Some(one), || Ok(two.require_auth()))
+        let Err(Stop::Refused(refusal)) = env.transaction(Some(one), || Ok(two.require_auth()))
         else {
             panic!("accepted")
         };
