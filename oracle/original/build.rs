@@ -27,8 +27,12 @@ fn main() {
     let out = PathBuf::from(env::var_os("OUT_DIR").unwrap());
     let copy = out.join("financing.rs");
     fs::write(&copy, &text).unwrap();
+    // The text names two test modules that are not published with it.
+    for module in ["test.rs", "proptest.rs"] {
+        fs::write(out.join(module), "").unwrap();
+    }
     let module = format!(
-        "#[allow(unused_attributes)]\n#[path = {:?}]\nmod financing;\n",
+        "#[allow(unused_attributes, clippy::clone_on_copy)]\n#[path = {:?}]\nmod financing;\n",
         copy.to_str().unwrap()
     );
     fs::write(out.join("module.rs"), module).unwrap();

@@ -14,8 +14,8 @@ const USAGE: &str = "usage:
       plain model, which must then be found
   harness replay FILE
       prints the original's listing of a journal
-  harness vectors DIR
-      writes the sample of journals with the original's listings";
+  harness vectors [--check] DIR
+      writes the sample of journals with the original's listings, or tests what is there";
 
 fn main() -> ExitCode {
     let words: Vec<_> = std::env::args().skip(1).collect();
@@ -23,6 +23,7 @@ fn main() -> ExitCode {
     let done = match words.as_slice() {
         ["compare", options @ ..] => compare_command(options),
         ["replay", file] => replay(file),
+        ["vectors", "--check", folder] => harness::vectors::check_folder(folder),
         ["vectors", folder] => harness::vectors::write(folder),
         _ => Err(USAGE.to_string()),
     };

@@ -6,7 +6,8 @@ use side::{Book, Offer, Query};
 /// Rows of each table about which everything is asked; of a longer table a few are taken in turn.
 const ASKED: usize = 6;
 
-const ABSENT: u64 = 0x5EED_0F_AB5E;
+/// An id that no row has.
+const ABSENT: u64 = 0x00AB_5E17;
 
 pub fn questions(book: &Book, now: u64, turn: usize, out: &mut Vec<Query>) {
     out.clear();

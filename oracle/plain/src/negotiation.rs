@@ -43,7 +43,7 @@ pub fn negotiable(offer: &Offer, now: u64, expected: u32) -> Test {
 /// Adds a round; the first one sets the deadline, now + window, stopped at 2^64−1.
 pub fn add_round(offer: &mut Offer, party: u64, terms: &Terms, now: u64, window: u64, moves: bool) {
     if offer.rounds.is_empty() || moves {
-        offer.deadline = now.checked_add(window).unwrap_or(u64::MAX);
+        offer.deadline = now.saturating_add(window);
     }
     let Terms { amount, rate, duration } = *terms;
     offer.rounds.push(Round { party, amount, rate, duration, time: now });

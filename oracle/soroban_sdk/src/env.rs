@@ -206,14 +206,19 @@ mod test {
         env.storage().instance().get(&KEY)
     }
 
+    fn set_figure(env: &Env, figure: u64) -> Outcome<()> {
+        env.storage().instance().set(&KEY, &figure);
+        Ok(())
+    }
+
     #[test]
     fn a_refusal_puts_the_storage_back() {
         let env = Env::fresh();
-        let kept = env.transaction(None, || Ok(env.storage().instance().set(&KEY, &1u64)));
+        let kept = env.transaction(None, || set_figure(&env, 1));
         assert_eq!((kept, figure(&env)), (Ok(()), Some(1)));
         let refused: Outcome<()> = env.transaction(None, || {
-            env.storage().instance().set(&KEY, &2u64);
-            env.storage().instance().set(&KEY, &3u64);
+            set_figure(&env, 2)?;
+            set_figure(&env, 3)?;
             env.panic_with_error(7u32)
         });
         let Err(Stop::Refused(refusal)) = refused else { panic!("accepted") };
@@ -224,7 +229,7 @@ mod test {
     fn an_assert_ends_the_call_with_its_message() {
         let env = Env::fresh();
         let ended: Outcome<()> = env.transaction(None, || {
-            env.storage().instance().set(&KEY, &2u64);
+            set_figure(&env, 2)?;
             assert!(figure(&env).is_none(), "a figure stands");
             Ok(())
         });
@@ -236,11 +241,14 @@ mod test {
     fn only_the_signer_is_authorised() {
         let env = Env::fresh();
         let (one, two) = (Address::account(1), Address::account(2));
-        assert_eq!(env.transaction(Some(one), || Ok(one.require_auth())), Ok(()));
-        let Err(Stop::Refused(refusal)) = env.transaction(Some(one), || Ok(two.require_auth()))
-        else {
-            panic!("accepted")
+        let signed_by_one = |by: Address| {
+            env.transaction(Some(one), || {
+                by.require_auth();
+                Ok(())
+            })
         };
+        assert_eq!(signed_by_one(one), Ok(()));
+        let Err(Stop::Refused(refusal)) = signed_by_one(two) else { panic!("accepted") };
         assert_eq!((refusal.by, refusal.number), (By::Other, 6));
     }
 }
