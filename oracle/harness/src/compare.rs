@@ -75,16 +75,18 @@ fn run(
     report: &mut Report,
 ) -> (Vec<Command>, Option<String>) {
     let mut pair = Pair::start(other, start);
-    let mut commands = Vec::new();
+    let mut commands: Vec<Command> = Vec::new();
     let mut what = pair.compare_books().err();
     while what.is_none() && (commands.len() as u64) < length {
         let command = generator.next(&pair.book);
+        let time_before = commands.last().map_or(0, Command::now);
         commands.push(command);
         let before = pair.book.clone();
         match pair.step(&command) {
             Ok(verdict) => {
                 report.coverage.add(&command, &verdict);
-                report.coverage.add_path(&command, verdict.number, &before, &pair.book);
+                let books = [&before, &pair.book];
+                report.coverage.add_paths(&command, verdict.number, time_before, books);
             }
             Err(difference) => what = Some(difference),
         }

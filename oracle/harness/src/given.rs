@@ -105,7 +105,7 @@ fn time(chance: &mut Chance) -> u64 {
 }
 
 fn offer(chance: &mut Chance, id: u64, accounts: &[u64], invoices: &[u64]) -> Offer {
-    let absent = invoices.is_empty() || chance.percent(5);
+    let absent = invoices.is_empty() || chance.percent(20);
     let rounds = match chance.below(4) {
         0 => 0,
         1 => chance.within(10, 12),
@@ -122,8 +122,8 @@ fn offer(chance: &mut Chance, id: u64, accounts: &[u64], invoices: &[u64]) -> Of
         status: chance.pick(&[0, 0, 0, 0, 1, 2, 3, 4, 5]),
         funded: time(chance),
         repaid: held(chance),
-        outcome: chance.pick(&[0, 0, 0, 0, 0, 2, 3, 4]),
-        deadline: time(chance),
+        outcome: chance.pick(&[0, 0, 0, 0, 0, 0, 2, 3, 4]),
+        deadline: if chance.percent(50) { u64::MAX } else { time(chance) },
         rounds: (0..rounds).map(|_| round(chance)).collect(),
         schedule: chance.percent(50).then(|| schedule(chance)),
     }

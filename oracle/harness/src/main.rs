@@ -43,7 +43,7 @@ fn replay(file: &str) -> Result<(), String> {
 }
 
 /// Below so many commands the table is shown, but nothing is asked of it.
-const COVERING: u64 = 100_000;
+const COVERING: u64 = 200_000;
 
 fn compare_command(options: &[&str]) -> Result<(), String> {
     let (mut seed, mut commands, mut slip) = (1, 200_000, 0);

@@ -11,7 +11,7 @@ use layer::{Source, Verdict};
 use side::Book;
 
 use lines::{refusing_lines, BEYOND};
-use paths::{path, PATHS};
+use paths::{names, walked};
 
 /// The answers that document 01's lists allow each command, by tag.
 pub const ALLOWED: [(u8, &[usize]); 24] = [
@@ -52,8 +52,9 @@ pub struct Coverage {
 }
 
 impl Coverage {
-    pub fn add_path(&mut self, command: &Command, answer: u64, before: &Book, after: &Book) {
-        if let Some(path) = path(command, answer, before, after) {
+    /// Notes the paths that a command walked from one book to the next.
+    pub fn add_paths(&mut self, command: &Command, answer: u64, before: u64, books: [&Book; 2]) {
+        for path in walked(command, answer, before, books) {
             *self.paths.entry(path).or_default() += 1;
         }
     }
@@ -61,7 +62,7 @@ impl Coverage {
     /// How often each path was walked.
     pub fn paths(&self) -> String {
         let count = |path| self.paths.get(path).copied().unwrap_or(0);
-        PATHS.iter().map(|path| format!("{:>10} {path}\n", count(*path))).collect()
+        names().map(|path| format!("{:>10} {path}\n", count(path))).collect()
     }
 
     pub fn add(&mut self, command: &Command, verdict: &Verdict) {
@@ -126,7 +127,7 @@ impl Coverage {
     }
 
     pub fn unwalked(&self) -> Vec<String> {
-        let unwalked = PATHS.iter().filter(|path| !self.paths.contains_key(*path));
+        let unwalked = names().filter(|path| !self.paths.contains_key(path));
         unwalked.map(|path| format!("never: {path}")).collect()
     }
 

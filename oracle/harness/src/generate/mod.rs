@@ -48,6 +48,7 @@ const WEIGHTS: [(u8, u64); 24] = [
     (0x56, 3),
 ];
 
+const MOST_ROWS: usize = 64;
 pub(super) const DAY: u64 = 86_400;
 pub(super) const YEAR: u64 = 31_536_000;
 pub(super) const TRILLION: u64 = 1_000_000_000_000;
@@ -73,10 +74,13 @@ impl Generator {
     fn tag(&mut self, book: &Book) -> u8 {
         let invoices = book.invoices.iter().filter(|row| row.status == 0).count();
         let offers = book.offers.iter().filter(|row| self.is_open(row)).count();
+        let wanted = |rows: usize, live: usize, aim: usize| rows < MOST_ROWS && live < aim;
         let raised = |tag: u8, weight: u64| match tag {
             0x21 if book.accounts.len() < self.plan.accounts => 80,
-            0x25 if invoices < self.plan.invoices => 40,
-            0x31 if offers < self.plan.offers => 60,
+            0x22 if book.accounts.iter().any(|row| row.balance == 0) => 30,
+            0x24 if book.accounts.iter().any(|row| row.allowance == 0) => 30,
+            0x25 if wanted(book.invoices.len(), invoices, self.plan.invoices) => 40,
+            0x31 if wanted(book.offers.len(), offers, self.plan.offers) => 60,
             0x52 if book.paused => 200,
             0x54 if book.repayment.is_none() => 15,
             0x55 if book.accounts.iter().any(|row| row.blacklisted == 1) => 15,

@@ -1,7 +1,7 @@
 //! The port's commands, repayment's updates and the admin commands.
 
 use journal::Command;
-use side::{Book, Offer};
+use side::{Account, Book, Offer};
 
 use super::{Generator, MOST_HELD, TRILLION};
 
@@ -12,6 +12,7 @@ impl Generator {
             0x21 => Command::OpenAccount { now, caller: self.new_id() },
             0x22 => {
                 let amount = (self.amount() * self.plan.wealth).min(TRILLION as i64);
+                let caller = self.poorest(book, caller, |account| account.balance);
                 Command::Deposit { now, caller, amount }
             }
             0x23 => Command::Payout { now, caller, amount: self.amount() },
@@ -20,6 +21,7 @@ impl Generator {
                     0 => self.chance.pick(&[0, MOST_HELD as i64]),
                     _ => (self.amount() * self.plan.wealth).min(MOST_HELD as i64),
                 };
+                let caller = self.poorest(book, caller, |account| account.allowance);
                 Command::Approve { now, caller, amount }
             }
             0x25 => {
@@ -28,6 +30,12 @@ impl Generator {
             }
             _ => self.cancel(now, book),
         }
+    }
+
+    /// Every other time the account that has least, so that settlements find money.
+    fn poorest(&mut self, book: &Book, caller: u64, figure: fn(&Account) -> i64) -> u64 {
+        let poorest = book.accounts.iter().min_by_key(|account| figure(account));
+        poorest.filter(|_| self.chance.percent(50)).map_or(caller, |account| account.id)
     }
 
     fn cancel(&mut self, now: u64, book: &Book) -> Command {

@@ -10,6 +10,8 @@ pub struct Plan {
     pub accounts: usize,
     pub invoices: usize,
     pub offers: usize,
+    /// New ids are mostly small, from 1 to here, so that they meet.
+    pub ids: u64,
     /// How many commands in a hundred have one field spoiled.
     pub spoiled: u64,
     /// How many rounds in a hundred aim at agreement.
@@ -30,9 +32,10 @@ impl Plan {
         let late = chance.percent(10);
         Plan {
             length: if many { 700 } else { chance.within(60, 400) },
-            accounts: if many { 66 } else { chance.within(2, 6) as usize },
-            invoices: if many { 66 } else { chance.within(1, 6) as usize },
-            offers: if many { 66 } else { chance.within(1, 8) as usize },
+            accounts: if many { 64 } else { chance.within(2, 6) as usize },
+            invoices: if many { 64 } else { chance.within(1, 6) as usize },
+            offers: if many { 64 } else { chance.within(1, 8) as usize },
+            ids: if many { 300 } else { 90 },
             spoiled: chance.pick(&[3, 10, 10, 25]),
             agreeing: chance.pick(&[0, 5, 15, 40]),
             amounts,

@@ -44,7 +44,7 @@ impl Generator {
         match self.chance.below(10) {
             0 => self.chance.pick(&[0, u64::MAX]),
             1 => self.chance.number(),
-            _ => self.chance.within(1, 90),
+            _ => self.chance.within(1, self.plan.ids),
         }
     }
 
