@@ -71,7 +71,7 @@ module _ {A : Type 0} (g : Found A → A) (h : (r : A) → g (here r) ≡ r) (in
 module _ {b : Book} (k : Shelved b) where
   pub account-step : (a : ℕ) (u : Rule Account) (p : AccountPosted) → p ≡ answered Account.posted (accountIn (modelOf b) a .row) u
       → record { answer = p .answer; book = bookOf (storedAccounts (adjust (accountsOf (b .accounts)) a (λ old. p .row))) (b .invoices) (b .offers) (b .totals) (b .settings) }
-        ≡ answered stepOf (modelOf b) (onAccount (modelOf b) a u)
+      ≡ answered stepOf (modelOf b) (onAccount (modelOf b) a u)
   unfolding answered
   account-step a u p e =
       ap (λ z. record { answer = z .answer; book = bookOf (storedAccounts (adjust (accountsOf (b .accounts)) a (λ old. z .row))) (b .invoices) (b .offers) (b .totals) (b .settings) }) e
@@ -80,7 +80,7 @@ module _ {b : Book} (k : Shelved b) where
 
   pub invoice-step : (i : ℕ) (u : Rule declaredInvoice.Invoice) (p : InvoicePosted) → p ≡ answered Invoice.posted (invoiceIn (modelOf b) i .row) u
       → record { answer = p .answer; book = bookOf (b .accounts) (storedInvoices (adjust (invoicesOf (b .invoices)) i (λ old. p .row))) (b .offers) (b .totals) (b .settings) }
-        ≡ answered stepOf (modelOf b) (onInvoice (modelOf b) i u)
+      ≡ answered stepOf (modelOf b) (onInvoice (modelOf b) i u)
   unfolding answered
   invoice-step i u p e =
       ap (λ z. record { answer = z .answer; book = bookOf (b .accounts) (storedInvoices (adjust (invoicesOf (b .invoices)) i (λ old. z .row))) (b .offers) (b .totals) (b .settings) }) e
@@ -89,7 +89,7 @@ module _ {b : Book} (k : Shelved b) where
 
   pub offer-step : (o : ℕ) (u : Rule declaredDeal.Deal) (p : DealPosted) → p ≡ answered Offer.posted (offerIn (modelOf b) o .row) u
       → record { answer = p .answer; book = bookOf (b .accounts) (b .invoices) (storedDeals (adjust (dealsOf (b .offers)) o (λ old. p .row))) (b .totals) (b .settings) }
-        ≡ answered stepOf (modelOf b) (onOffer (modelOf b) o u)
+      ≡ answered stepOf (modelOf b) (onOffer (modelOf b) o u)
   unfolding answered
   offer-step o u p e =
       ap (λ z. record { answer = z .answer; book = bookOf (b .accounts) (b .invoices) (storedDeals (adjust (dealsOf (b .offers)) o (λ old. z .row))) (b .totals) (b .settings) }) e

@@ -42,7 +42,6 @@ use Rattle.book.specs.Fitting.{fits-opened, fits-registered, fits-created, fits
 use Rattle.table.specs.Keeping.{fine-adjust}
 use Rattle.book.specs.Shelving.{Fits}
 use Rattle.soundness.specs.Sound.{ModelSound, put-sound}
-
 use Rattle.soundness.specs.Parts.{Good, account-put, invoice-put, deal-put, settled-sound, agreed-sound, with-accounts, with-invoices, with-offers, with-totals, with-settings}
 
 -- what an amendment and a counter leave before they agree

@@ -112,4 +112,3 @@ module _ {m : Model} (s : ModelSound m) where
 
   pub with-settings : (t : Settings) → settingsSound t ≡ true → ModelSound (withSettings t m)
   with-settings t g = record { fits = record { accounts = s .fits .accounts; invoices = s .fits .invoices; offers = s .fits .offers }; accounts = s .accounts; invoices = s .invoices; offers = s .offers; totals = s .totals; settings = g }
-
