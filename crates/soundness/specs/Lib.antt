@@ -2,3 +2,4 @@ pub mod Sound
 pub mod Parts
 pub mod Keeps
 pub mod Session
+pub mod Books
