@@ -29,5 +29,5 @@ one-listed = one-said listedSays readListed back-listed
 -- two results that the contract of a list query allows
 pub one-list : {a b : Listed} {l m : List ℕ} {z : Reply × List ℕ} → (listedSays a, l) ≡ z → (listedSays b, m) ≡ z → (a ≡ b) × (l ≡ m)
 one-list {a} {b} {l} {m} {z} p q =
-    let e : (listedSays a, l) ≡ (listedSays b, m) = p ∙ sym q in
+    let e : _≡_ {A = Reply × List ℕ} (listedSays a, l) (listedSays b, m) = p ∙ sym q in
     (one-listed a b (ap (λ (x : Reply × List ℕ). x .0) e), ap (λ (x : Reply × List ℕ). x .1) e)

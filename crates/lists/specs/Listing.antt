@@ -31,6 +31,7 @@ pub record InUse (t : OfferRows) (n : ℕ) : Type 0 where
   pub rows-long : length (t .rows) ≡ 64
   pub counted : n ≡ length (offersOf t)
   pub few : n ≤ 64
+  pub most : n ≤ t .count
 
 -- the Rust's field order without currency: id, invoice, lender, amount, rate, duration, expires, status, funded, amount repaid
 abbrev pub numbersOf : ℕ → Offer → OfferNumbers

@@ -9,10 +9,8 @@ use lib.Dec.{eqb}
 use Rattle.refusal.specs.Choice.{pick}
 use Rattle.money.specs.Range.{inAmount, magnitudeOf}
 use Rattle.money.specs.Facts.{amount-le, magnitude-is}
-use Rattle.table.specs.Tables.{Table}
 use Rattle.table.specs.Shelf.{tableOf}
 use Rattle.table.specs.ShelfBack.{length-table}
-use Rattle.table.specs.Sound.{All}
 use Rattle.offer.specs.Offer.{noOffer}
 use Rattle.offer.specs.declared.Offer.{Offer}
 use Rattle.lists.specs.declared.OfferRows.{OfferRows}
@@ -32,11 +30,6 @@ module _ {A : Type 0} (d : A) where
   table-at (x ∷ ids) (r ∷ rows) (suc n) zero h = refl
   table-at (x ∷ ids) (r ∷ rows) (suc n) (suc i) h = table-at ids rows n i (omega arith)
 
-  all-entry : (p : A → Type 0) (t : Table A) (i : ℕ) → All p t → i < length t → p (getD t i (0, d) .1)
-  all-entry p [] i a h = absurd (omega arith)
-  all-entry p (e ∷ t) zero a h = a .0
-  all-entry p (e ∷ t) (suc i) a h = all-entry p t i (a .1) (omega arith)
-
 -- a count past the arrays uses all of them
 length-all : {A : Type 0} (ids : List ℕ) (rows : List A) (n : ℕ) → length ids ≡ length rows → length rows ≤ n → length (tableOf ids rows n) ≡ length rows
 unfolding tableOf
@@ -49,10 +42,19 @@ length-all (x ∷ ids) (r ∷ rows) (suc n) e h = ap suc (length-all ids rows n 
 -- ── How many rows are in use ──────────────────────────────────────
 module _ (t : OfferRows) (a : length (t .ids) ≡ 64) (b : length (t .rows) ≡ 64) where
   pub use-some : t .count < 64 → InUse t (t .count)
-  use-some h = record { ids-long = a; rows-long = b; counted = sym (length-table (t .ids) (t .rows) (t .count) (omega arith) (omega arith)); few = omega arith }
+  use-some h = record { ids-long = a; rows-long = b; counted = sym (length-table (t .ids) (t .rows) (t .count) (omega arith) (omega arith)); few = omega arith; most = omega arith }
 
   pub use-all : 64 ≤ t .count → InUse t 64
-  use-all h = record { ids-long = a; rows-long = b; counted = sym (length-all (t .ids) (t .rows) (t .count) (omega arith) (omega arith) ∙ b); few = omega arith }
+  use-all h = record { ids-long = a; rows-long = b; counted = sym (length-all (t .ids) (t .rows) (t .count) (omega arith) (omega arith) ∙ b); few = omega arith; most = omega arith }
+
+-- an offer adds its amount at most, and that is at most 10^12
+active-small : (lender : ℕ) (o : Offer) → inAmount (o .terms .amount) ≡ true → activeIn lender o ≤ 1000000000000
+unfolding activeIn pick
+active-small lender o h = go (eqb (o .lender) lender && (eqb (o .status) 1 || eqb (o .status) 3))
+  where
+    go : (b : Bool) → pick b (magnitudeOf (o .terms .amount)) 0 ≤ 1000000000000
+    go true = omega (arith, magnitude-is 1 1000000000000 (o .terms .amount) h, amount-le (o .terms .amount) h .1)
+    go false = omega arith
 
 -- ── A row that the walk is at ─────────────────────────────────────
 abbrev pub none : ℕ × Offer
@@ -75,19 +77,8 @@ module _ {t : OfferRows} {n : ℕ} (u : InUse t n) where
     pub active-at : (lender : ℕ) → activeIn lender (getD (t .rows) i noOffer) ≡ activeIn lender (getD (offersOf t) i none .1)
     active-at lender = ap (λ (x : ℕ × Offer). activeIn lender (x .1)) (sym entry)
 
-    pub in-range : InRange (offersOf t) → inAmount (getD (t .rows) i noOffer .terms .amount) ≡ true
-    in-range a =
-        ap (λ (x : ℕ × Offer). inAmount (x .1 .terms .amount)) (sym entry)
-        ∙ all-entry noOffer (λ o. inAmount (o .terms .amount) ≡ true) (offersOf t) i a inside
+    pub small-amount : InRange t → (lender : ℕ) → activeIn lender (getD (t .rows) i noOffer) ≤ 1000000000000
+    small-amount a lender = active-small lender (getD (t .rows) i noOffer) (a i (omega (arith, u .most)))
 
   pub few-listed : (w : Wanted) → length (listing w (offersOf t)) ≤ 64
   few-listed w = omega (arith, pick-short (taking w) 0 (offersOf t), u .counted, u .few)
-
--- an offer adds its amount at most, and that is at most 10^12
-pub active-small : (lender : ℕ) (o : Offer) → inAmount (o .terms .amount) ≡ true → activeIn lender o ≤ 1000000000000
-unfolding activeIn pick
-active-small lender o h = go (eqb (o .lender) lender && (eqb (o .status) 1 || eqb (o .status) 3))
-  where
-    go : (b : Bool) → pick b (magnitudeOf (o .terms .amount)) 0 ≤ 1000000000000
-    go true = omega (arith, magnitude-is 1 1000000000000 (o .terms .amount) h, amount-le (o .terms .amount) h .1)
-    go false = omega arith

@@ -220,7 +220,7 @@ impl OfferRows {
     }
 
     pub fn active_total(self, lender: u64) -> u64
-        requires { ⌜ InRange (offersOf self) ⌝ }
+        requires { ⌜ InRange self ⌝ }
         ensures { λ r. ⌜ r ≡ activeOf lender (offersOf self) ⌝ }
     {
         let m = self.in_use();

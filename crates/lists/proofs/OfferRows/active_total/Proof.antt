@@ -1,13 +1,11 @@
 use Prim.Native.Nat.{_-_, _≤_}
 use native.Mathlib.Omega.{arith}
 use mathlib.Core.Path.{_∙_}
-use lib.ListN.{getD}
 use borrow.Author.Needs.{needs}
-use Rattle.offer.specs.Offer.{noOffer}
 use Rattle.lists.specs.Sum.{Summed, sum-start, sum-turn, sum-done}
 use Rattle.lists.specs.Listing.{offersOf}
 use Rattle.lists.specs.Active.{activeIn}
-use Rattle.lists.specs.Rows.{none, past, inside, active-at, in-range, active-small}
+use Rattle.lists.specs.Rows.{none, past, inside, active-at, small-amount}
 use Rattle.lists.proofs.OfferRows.active_total.Statement.{statement}
 use Rattle.lists.proofs.OfferRows.active_total.Tie as tie
 
@@ -20,9 +18,8 @@ abbrev μ-loop : tie.MeasureT-loop
 small : (c : tie.After-active Inv-loop μ-loop) → c .active .result ≤ 1000000000000
 small c =
     let s = c .before .before .before .before .before in
-    let i = c .before .before .before .loop .i in
-    let r = in-range (c .before .before .before .before .in-use .ensures) i (c .before .before .loop-test .taken) (s .pre) in
-    omega (arith, c .active .ensures, active-small (s .args .lender) (getD (s .args .t1 .rows) i noOffer) r)
+    omega
+    (arith, c .active .ensures, small-amount (c .before .before .before .before .in-use .ensures) (c .before .before .before .loop .i) (c .before .before .loop-test .taken) (s .pre) (s .args .lender))
 
 in-use-requires : tie.Need-in-use-requires Inv-loop μ-loop
 in-use-requires c κs = search needs
