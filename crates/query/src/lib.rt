@@ -340,9 +340,12 @@ fn told(sound: bool, n: u64) -> NumberAnswer
 pub fn get_offers_count(book: Book) -> NumberAnswer
     ensures { λ r. ⌜ numberSays r ≡ asked book countRead ⌝ }
 {
+    if !book.sound() {
+        return NumberAnswer::Unsound;
+    }
     let offers = book.offers;
     let n = offers.count;
-    told(book.sound(), n as u64)
+    NumberAnswer::Number(n as u64)
 }
 
 pub fn get_stats(book: Book) -> TotalsAnswer
