@@ -1,0 +1,27 @@
+use borrow.Author.Needs.{needs}
+use Rattle.money.specs.Facts.{back}
+use Rattle.lists.proofs.OfferNumbers.of.Statement.{statement}
+use Rattle.lists.proofs.OfferNumbers.of.Tie as tie
+
+bits-requires : tie.Need-bits-requires
+bits-requires c κs = search needs
+
+bits-requires-2 : tie.Need-bits-requires-2
+bits-requires-2 c κs = search needs
+
+cast-t6 : tie.Need-cast-t6
+cast-t6 c = search needs
+
+cast-t7 : tie.Need-cast-t7
+cast-t7 c = search needs
+
+returns : tie.Need-returns
+returns c =
+    let s = c .before .before .before .before .before .before .before in
+    rw (
+      simp (back (s .args .o .terms .amount) (c .before .before .before .before .before .struct-told .given .0 .1)) at (c .before .before .before .before .bits .ensures),
+      simp (back (s .args .o .repaid) (c .before .before .before .struct-told2 .given .1 .1 .1 .1 .1 .0 .1)) at (c .before .before .bits2 .ensures),
+    )
+
+pub of-spec : {M : Type 1} → statement M
+of-spec = tie.close (tie.spec bits-requires bits-requires-2 cast-t6 cast-t7 returns)

@@ -1,0 +1,111 @@
+use Prim.Native.Nat.{ℕ, _*_, _-_}
+use native.Mathlib.Omega.{arith}
+use mathlib.Core.Path.{refl, sym, ap, _∙_}
+use mathlib.Core.Logic.{⊎-elim}
+use mathlib.Core.List.{List}
+use borrow.Author.Needs.{needs}
+use Rattle.lists.specs.Placed.{placed}
+use Rattle.lists.specs.Pick.{walk-few}
+use Rattle.lists.specs.Written.{Wrote, write-start, write-on, write-off, write-done, write-length, write-room}
+use Rattle.lists.specs.Listing.{offersOf, taking, tenOf, inOrder, laid}
+use Rattle.lists.specs.Rows.{none, past, inside, entry, asked}
+use Rattle.lists.proofs.OfferRows.write.Statement.{statement}
+use Rattle.lists.proofs.OfferRows.write.Tie as tie
+
+abbrev Inv-loop : tie.InvT-loop
+Inv-loop w out₀ self m n₀ i₀ out n i = Wrote (taking w) tenOf (offersOf self) out₀ i n out
+
+abbrev μ-loop : tie.MeasureT-loop
+μ-loop w out₀ self m n₀ i₀ out n i = m - i
+
+in-use-requires : tie.Need-in-use-requires Inv-loop μ-loop
+in-use-requires c κs = search needs
+
+loop-holds : tie.Need-loop-holds Inv-loop μ-loop
+loop-holds c = write-start _ _ _ _
+
+mul-row : tie.Need-mul-row Inv-loop μ-loop
+mul-row c = search needs
+
+element-copy-out-row : tie.Need-element-copy-out-row Inv-loop μ-loop
+element-copy-out-row c = search needs
+
+takes-requires : tie.Need-takes-requires Inv-loop μ-loop
+takes-requires c κs = search needs
+
+mul-id : tie.Need-mul-id Inv-loop μ-loop
+mul-id c = search needs
+
+element-copy-out-id : tie.Need-element-copy-out-id Inv-loop μ-loop
+element-copy-out-id c = search needs
+
+of-requires : tie.Need-of-requires Inv-loop μ-loop
+of-requires c κs = search needs
+
+in-order-requires : tie.Need-in-order-requires Inv-loop μ-loop
+in-order-requires c κs = search needs
+
+mul-put : tie.Need-mul-put Inv-loop μ-loop
+mul-put c = omega (arith, walk-few (c .before .before .before .before .before .before .before .before .loop .inv .walked))
+
+put-requires : tie.Need-put-requires Inv-loop μ-loop
+put-requires c κs =
+    let u = c .before .before .before .before .before .before .before .before .before .in-use .ensures in
+    let l = c .before .before .before .before .before .before .before .before .loop in
+    let h = c .before .before .before .before .before .before .before .loop-test .taken in
+    let s = c .before .before .before .before .before .before .before .before .before .before .before in
+    write-room (l .inv) 10 (λ a. refl) (s .pre) none (inside u (l .i) h) (asked u (l .i) h (s .args .w) _ _ (c .before .before .before .before .before .takes .ensures) (c .before .before .before .before .if1 .taken))
+
+add-n : tie.Need-add-n Inv-loop μ-loop
+add-n c = omega (arith, walk-few (c .before .before .before .before .before .before .before .before .before .before .before .loop .inv .walked))
+
+add-i : tie.Need-add-i Inv-loop μ-loop
+add-i c = search needs
+
+loop-less : tie.Need-loop-less Inv-loop μ-loop
+loop-less c = search needs
+
+loop-again : tie.Need-loop-again Inv-loop μ-loop
+loop-again c =
+    let u = c .before .before .before .before .before .in-use .ensures in
+    let l = c .before .before .before .before .loop in
+    let h = c .before .before .before .loop-test .taken in
+    let s = c .before .before .before .before .before .before .before in
+    let e = asked u (l .i) h (s .args .w) in
+    ⊎-elim
+    (λ x. rw (x .8, x .9)
+    (write-on (l .inv) 10 (λ a. refl) (s .pre) none (inside u (l .i) h) (e _ _ (c .before .takes .ensures) (x .0 .taken)) _
+    (x .5 .ensures ∙ ap (λ (z : List ℕ). placed (10 * l .n) z (l .out)) (x .3 .ensures ∙ ap inOrder (x .2 .ensures) ∙ ap tenOf (sym (entry u (l .i) h))))))
+    (λ x. rw (x .1, x .2) (write-off (l .inv) 10 (λ a. refl) (s .pre) none (inside u (l .i) h) (e _ _ (c .before .takes .ensures) (x .0 .left))))
+    (c .if1 .came)
+
+same-length : tie.Need-same-length Inv-loop μ-loop
+same-length c = write-length (c .before .loop .inv) 10 (λ a. refl) (c .before .before .before .before .pre)
+
+returns : tie.Need-returns Inv-loop μ-loop
+unfolding laid
+returns c = write-done (c .before .loop .inv) 10 (λ a. refl) (c .before .before .before .before .pre) (past (c .before .before .in-use .ensures) _ (c .loop-test .left))
+
+pub write-spec : {M : Type 1} → statement M
+write-spec =
+    tie.close
+    (tie.spec
+    Inv-loop
+    μ-loop
+    in-use-requires
+    loop-holds
+    mul-row
+    element-copy-out-row
+    takes-requires
+    mul-id
+    element-copy-out-id
+    of-requires
+    in-order-requires
+    mul-put
+    put-requires
+    add-n
+    add-i
+    loop-less
+    loop-again
+    same-length
+    returns)

@@ -1,0 +1,93 @@
+use lib.ListN.{length, take, drop, getD, set, length-set}
+use Rattle.lists.specs.Placed.{placed}
+use native.Mathlib.Numerals.{add-one}
+use lib.Seq.{paste, paste-zero, paste-suc, length-paste, take-all}
+use Prim.Native.Nat.{ℕ, _+_, _*_, _≤_, _<_, _-_}
+use mathlib.Core.List.{List, [], _∷_, _++_, append-assoc}
+use native.Mathlib.Omega.{arith}
+use mathlib.Core.Path.{_≡_, refl, sym, ap, _∙_}
+use borrow.Author.Needs.{needs}
+use Rattle.lists.proofs.put.Statement.{statement}
+use Rattle.lists.proofs.put.Tie as tie
+
+abbrev Inv-loop : tie.InvT-loop
+Inv-loop out₀ at numbers j₀ out j = (j ≤ 10) × (out ≡ paste out₀ at numbers j)
+
+abbrev μ-loop : tie.MeasureT-loop
+μ-loop out₀ at numbers j₀ out j = 10 - j
+
+abbrev St : Type 0
+St = tie.Start Inv-loop μ-loop
+
+ten : (s : St) → length (s .args .t3) ≡ 10
+ten s = search needs
+
+kept : (s : St) (j : ℕ) → j ≤ 10 → length (paste (s .args .out .now) (s .args .at) (s .args .t3) j) ≡ length (s .args .out .now)
+kept s j h = length-paste (s .args .out .now) (s .args .at) (s .args .t3) j (omega (arith, s .pre)) (omega (arith, ten s))
+
+loop-holds : tie.Need-loop-holds Inv-loop μ-loop
+loop-holds c = (omega arith, paste-zero (c .args .out .now) (c .args .at) (c .args .t3))
+
+mul-out : tie.Need-mul-out Inv-loop μ-loop
+mul-out c = search needs
+
+array-read-out : tie.Need-array-read-out Inv-loop μ-loop
+array-read-out c = search needs
+
+add-out : tie.Need-add-out Inv-loop μ-loop
+add-out c = search needs
+
+mul-out-2 : tie.Need-mul-out-2 Inv-loop μ-loop
+mul-out-2 c = omega (arith, c .before .before .pre, ap length (c .before .loop .inv .1) ∙ kept (c .before .before) (c .before .loop .j) (c .before .loop .inv .0))
+
+slice-write-out : tie.Need-slice-write-out Inv-loop μ-loop
+slice-write-out c = omega (arith, c .before .before .pre, ap length (c .before .loop .inv .1) ∙ kept (c .before .before) (c .before .loop .j) (c .before .loop .inv .0))
+
+add-j : tie.Need-add-j Inv-loop μ-loop
+add-j c = search needs
+
+loop-less : tie.Need-loop-less Inv-loop μ-loop
+loop-less c = search needs
+
+loop-again : tie.Need-loop-again Inv-loop μ-loop
+loop-again c =
+    let s = c .before .before in
+    let l = c .before .loop in
+    let h : l .j < 10 = c .loop-test .taken in (
+      omega arith,
+      ap (λ (x : List ℕ). set x (s .args .at + l .j) (getD (s .args .t3) (l .j) 0)) (l .inv .1)
+          ∙ paste-suc (s .args .out .now) (s .args .at) (s .args .t3) (l .j) 0 (omega (arith, s .pre)) (omega (arith, ten s))
+          ∙ ap (λ (k : ℕ). paste (s .args .out .now) (s .args .at) (s .args .t3) k) (sym (add-one (l .j))),
+    )
+
+same-length : tie.Need-same-length Inv-loop μ-loop
+same-length c = ap length (c .before .loop .inv .1) ∙ kept (c .before .before) (c .before .loop .j) (c .before .loop .inv .0)
+
+returns : tie.Need-returns Inv-loop μ-loop
+unfolding placed
+returns c =
+    let s = c .before .before in
+    let e : c .before .loop .j ≡ length (s .args .t3) = omega (arith, ten s, c .before .loop .inv .0) in
+    let l = s .args .out .now in
+    c .before .loop .inv .1
+    ∙ ap (paste l (s .args .at) (s .args .t3)) e
+    ∙ ap (λ (x : List ℕ). take (s .args .at) l ++ x ++ drop (s .args .at + length (s .args .t3)) l) (take-all (length (s .args .t3)) (s .args .t3) (omega arith))
+    ∙ append-assoc (take (s .args .at) l) (s .args .t3) _
+
+pub put-spec : {M : Type 1} → statement M
+put-spec =
+    tie.close
+    (tie.spec
+    Inv-loop
+    μ-loop
+    loop-holds
+    mul-out
+    array-read-out
+    add-out
+    mul-out-2
+    slice-write-out
+    add-j
+    loop-less
+    loop-again
+    same-length
+    returns)

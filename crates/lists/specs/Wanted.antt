@@ -1,0 +1,30 @@
+-- Document 01, module 6: which offers a list query asks for. The first offer stands at place 0.
+use Prim.Native.Nat.{ℕ, _-_}
+use mathlib.Core.Bool.{Bool, true, _&&_}
+use lib.Dec.{leb, ltb, eqb}
+use Rattle.offer.specs.declared.Offer.{Offer}
+use Rattle.lists.specs.declared.Wanted.{Wanted}
+use Rattle.lists.specs.declared.Wanted.the-variants.{Invoice, Lender, Status, PendingOf, Page}
+use Rattle.lists.specs.declared.Wanted.the-variants as Wants
+
+-- from the offset on, at most as many as the limit
+unfoldable pub paged : ℕ → ℕ → ℕ → Bool
+paged offset limit place = leb offset place && ltb (place - offset) limit
+
+-- by invoice, lender, status, invoice and Pending, all, or a page
+unfoldable pub wants : Wanted → ℕ → Offer → Bool
+wants (Invoice i) place o = eqb (o .invoice) i
+wants (Lender l) place o = eqb (o .lender) l
+wants (Status s) place o = eqb (o .status) s
+wants (PendingOf i) place o = eqb (o .invoice) i && eqb (o .status) 0
+wants Wants.All place o = true
+wants (Page offset limit) place o = paged offset limit place
+
+-- a status that is asked for is a listed one
+unfoldable pub known : Wanted → Bool
+known (Invoice i) = true
+known (Lender l) = true
+known (Status s) = leb s 5
+known (PendingOf i) = true
+known Wants.All = true
+known (Page offset limit) = true

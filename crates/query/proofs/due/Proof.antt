@@ -1,0 +1,47 @@
+use Prim.Native.Nat.{ℕ}
+use mathlib.Core.Path.{_≡_, refl, sym, ap, _∙_}
+use Rattle.refusal.specs.Choice.{on, off}
+use Rattle.money.specs.Facts.{back}
+use Rattle.terms.specs.Due.{dueSays}
+use Rattle.query.specs.Numbers.{dueIn}
+use borrow.Author.Needs.{needs}
+use Rattle.query.proofs.due.Statement.{statement}
+use Rattle.query.proofs.due.Tie as tie
+
+schedule-zero-requires : tie.Need-schedule-zero-requires
+schedule-zero-requires c κs = search needs
+
+returns : tie.Need-returns
+unfolding dueIn
+returns c = on _ (sym (c .before .schedule-zero .ensures) ∙ c .if1 .taken) refl
+
+due-requires : tie.Need-due-requires
+due-requires c κs = search needs
+
+enum-known-n : tie.Need-enum-known-n
+enum-known-n c = search needs
+
+enum-told : tie.Need-enum-told
+enum-told c = search needs
+
+returns-2 : tie.Need-returns-2
+unfolding dueIn
+returns-2 c = off _ (sym (c .before .before .before .before .before .before .before .schedule-zero .ensures) ∙ c .before .before .before .before .before .before .if1 .left)
+    (ap (λ (x : ℕ × ℕ). x .1) (sym (ap dueSays (c .before .n .given .1)) ∙ simp (back (c .before .before .before .before .before .before .before .before .before .args .d .offer .repaid) (c .before .before .before .before .struct-told .given .1 .1 .1 .1 .1 .0 .1)) at (c .before .before .before .due .ensures)))
+
+returns-3 : tie.Need-returns-3
+unfolding dueIn
+returns-3 c = off _ (sym (c .before .before .before .before .before .before .schedule-zero .ensures) ∙ c .before .before .before .before .before .if1 .left)
+    (ap (λ (x : ℕ × ℕ). x .1) (sym (ap dueSays (c .enum-told .given .1)) ∙ simp (back (c .before .before .before .before .before .before .before .before .args .d .offer .repaid) (c .before .before .before .struct-told .given .1 .1 .1 .1 .1 .0 .1)) at (c .before .before .due .ensures)))
+
+pub due-spec : {M : Type 1} → statement M
+due-spec =
+    tie.close
+    (tie.spec
+    schedule-zero-requires
+    returns
+    due-requires
+    enum-known-n
+    enum-told
+    returns-2
+    returns-3)

@@ -1,0 +1,27 @@
+use mathlib.Core.Path.{_≡_, refl, sym, ap, _∙_}
+use mathlib.Core.Bool.{not}
+use mathlib.Core.List.{List, [], _∷_}
+use borrow.Author.Tests.{not-false}
+use Rattle.refusal.specs.Refusal.{bookUnsound}
+use Rattle.refusal.specs.Rule.{refuses, goes-on, does}
+use Rattle.query.specs.Reads.{reply}
+use Rattle.offer.specs.declared.SeenDeal.{SeenDeal}
+use borrow.Author.Needs.{needs}
+use Rattle.query.proofs.get_negotiation_deadline.Statement.{statement}
+use Rattle.query.proofs.get_negotiation_deadline.Tie as tie
+
+sound-requires : tie.Need-sound-requires
+sound-requires c κs = search needs
+
+returns : tie.Need-returns
+returns c = refuses reply bookUnsound _ _ _ (ap not (sym (c .before .sound .ensures .0)) ∙ c .if1 .taken)
+
+get-requires : tie.Need-get-requires
+get-requires c κs = (c .before .before .sound .ensures .1 (not-false (c .before .before .sound .result) (c .before .if1 .left))) .offers
+
+returns-2 : tie.Need-returns-2
+returns-2 c = goes-on reply bookUnsound _ _ _ (ap not (sym (c .before .before .before .before .before .sound .ensures .0)) ∙ c .before .before .before .before .if1 .left)
+    (does reply _ _ (ap (λ (s : SeenDeal). s .row .negotiation .deadline ∷ []) (c .before .before .get .ensures)))
+
+pub get-negotiation-deadline-spec : {M : Type 1} → statement M
+get-negotiation-deadline-spec = tie.close (tie.spec sound-requires returns get-requires returns-2)

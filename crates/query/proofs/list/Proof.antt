@@ -1,0 +1,39 @@
+use mathlib.Core.Path.{_≡_, refl, sym, ap, _∙_}
+use mathlib.Core.Bool.{not}
+use mathlib.Core.List.{[]}
+use borrow.Author.Tests.{not-false}
+use Rattle.refusal.specs.Refusal.{bookUnsound}
+use Rattle.refusal.specs.Rule.{answered, refuses, goes-on}
+use Rattle.table.specs.Tables.{Table}
+use Rattle.offer.specs.declared.Offer.{Offer}
+use Rattle.lists.specs.Listing.{offersOf, listRule, told}
+use Rattle.query.specs.Held.{offers-held}
+use borrow.Author.Needs.{needs}
+use Rattle.query.proofs.list.Statement.{statement}
+use Rattle.query.proofs.list.Tie as tie
+
+sound-requires : tie.Need-sound-requires
+sound-requires c κs = search needs
+
+returns : tie.Need-returns
+returns c = refuses told bookUnsound _ _ _ (ap not (sym (c .before .sound .ensures .0)) ∙ c .if1 .taken)
+
+offers-only-requires : tie.Need-offers-only-requires
+offers-only-requires c κs = search needs
+
+list-requires : tie.Need-list-requires
+list-requires c κs = search needs
+
+same-length : tie.Need-same-length
+same-length c = search needs
+
+returns-2 : tie.Need-returns-2
+returns-2 c = goes-on told bookUnsound _ _ _ (ap not (sym (c .before .before .before .before .before .before .before .sound .ensures .0)) ∙ c .before .before .before .before .before .before .if1 .left)
+    (c .before .before .list .ensures
+    ∙ ap (λ (t : Table Offer). answered told ([], c .before .before .before .before .before .before .before .before .before .args .out .now) (listRule (c .before .before .before .before .before .before .before .before .before .args .w) t (c .before .before .before .before .before .before .before .before .before .args .out .now)))
+      (ap offersOf (c .before .before .before .before .offers-only .ensures) ∙ offers-held (c .before .before .before .before .before .before .before .sound .ensures .1 (not-false (c .before .before .before .before .before .before .before .sound .result) (c .before .before .before .before .before .before .if1 .left)))))
+
+pub list-spec : {M : Type 1} → statement M
+list-spec =
+    tie.close
+    (tie.spec sound-requires returns offers-only-requires list-requires same-length returns-2)

@@ -1,0 +1,100 @@
+-- What a sound book holds that the queries go by. Assumes nothing.
+use Prim.Native.Nat.{ℕ, zero, suc, _≤_, _<_}
+use native.Mathlib.Omega.{arith}
+use mathlib.Core.Path.{_≡_, refl, sym, ap, _∙_}
+use mathlib.Core.Bool.{Bool, true, false, _&&_, _||_}
+use mathlib.Core.List.{List, [], _∷_, map}
+use lib.ListN.{length, getD}
+use lib.Dec.{leb}
+use Rattle.refusal.specs.Choice.{pick, pick-on, pick-off}
+use Rattle.money.specs.Range.{inAmount, inTotal}
+use Rattle.money.specs.Facts.{both}
+use Rattle.terms.specs.Terms.{termsOk}
+use Rattle.terms.specs.Schedule.{scheduleOk, scheduleZero}
+use Rattle.terms.specs.Due.{numberOf, dueOf, dueArguments}
+use Rattle.terms.specs.declared.Terms.{Terms}
+use Rattle.table.specs.Tables.{Table}
+use Rattle.table.specs.Shelf.{tableOf}
+use Rattle.table.specs.Columns.{getD-join}
+use Rattle.table.specs.Parts.{first-column}
+use Rattle.table.specs.All.{all-at}
+use Rattle.table.specs.Test.{idsTest, rowTest, rowsTest}
+use Rattle.table.specs.TestLaws.{used}
+use Rattle.negotiation.specs.Rounds.{noNegotiation}
+use Rattle.offer.specs.Offer.{noOffer, noSchedule, noDeal, dealSound, dealZero}
+use Rattle.offer.specs.Laws.{DealKept, kept-ranges}
+use Rattle.offer.specs.declared.Offer.{Offer}
+use Rattle.offer.specs.declared.Deal.{Deal}
+use Rattle.settings.specs.Settings.{settingsSound}
+use Rattle.settings.specs.Totals.{totalsSound}
+use Rattle.shelves.specs.Accounts.{accountsTest}
+use Rattle.shelves.specs.Invoices.{invoicesTest}
+use Rattle.shelves.specs.Offers.{dealOf, rowsOf, dealsTest}
+use Rattle.shelves.specs.Deals.{deal-parts}
+use Rattle.shelves.specs.declared.Offers.{Offers}
+use Rattle.lists.specs.Listing.{offersOf}
+use Rattle.lists.specs.Active.{InRange}
+use Rattle.book.specs.declared.Book.{Book}
+use Rattle.book.specs.Stored.{modelOf, bookTest, Shelved}
+use Rattle.query.specs.Numbers.{offersOnly, dueIn}
+use Rattle.query.specs.Reads.{offersIn}
+
+-- a part of each row of a table
+table-part : {A B : Type 0} (f : A → B) (ids : List ℕ) (rows : List A) (n : ℕ) → tableOf ids (map f rows) n ≡ map (λ e. (e .0, f (e .1))) (tableOf ids rows n)
+unfolding tableOf
+table-part f [] rows n = refl
+table-part f (i ∷ ids) [] n = refl
+table-part f (i ∷ ids) (r ∷ rows) zero = refl
+table-part f (i ∷ ids) (r ∷ rows) (suc n) = ap (λ z. (i, f r) ∷ z) (table-part f ids rows n)
+
+-- an amount of valid terms
+amount-in : (t : Terms) → termsOk t ≡ true → inAmount (t .amount) ≡ true
+unfolding termsOk
+amount-in t h = both _ _ (both _ _ (both _ _ (both _ _ h .0) .0) .0) .0
+
+amount-of : (d : Deal) → dealSound d ≡ true → inAmount (d .offer .terms .amount) ≡ true
+unfolding dealSound
+amount-of d h = amount-in (d .offer .terms) (both _ _ (both _ _ (both _ _ (both _ _ h .0) .0) .0) .0)
+
+deals-test : (b : Book) → bookTest b ≡ true → dealsTest (b .offers) ≡ true
+unfolding bookTest
+deals-test b e =
+    let rows = accountsTest (b .accounts) && invoicesTest (b .invoices) in
+    let s = both ((rows && dealsTest (b .offers)) && totalsSound (b .totals)) (settingsSound (b .settings)) e in
+    let t = both (rows && dealsTest (b .offers)) (totalsSound (b .totals)) (s .0) in
+    both rows (dealsTest (b .offers)) (t .0) .1
+
+rows-test : (t : Offers) → dealsTest t ≡ true → rowsTest dealSound dealZero noDeal 64 (t .count) (rowsOf t) ≡ true
+unfolding dealsTest
+rows-test t e = both (idsTest 64 (t .count) (t .ids)) (rowsTest dealSound dealZero noDeal 64 (t .count) (rowsOf t)) e .1
+
+module _ {b : Book} (k : Shelved b) where
+  pub offers-held : offersOf (offersOnly (b .offers)) ≡ offersIn (modelOf b)
+  offers-held =
+      ap (λ l. tableOf (b .offers .ids) l (b .offers .count)) (sym (first-column deal-parts (k .offers .level)))
+      ∙ table-part (λ (d : Deal). d .offer) (b .offers .ids) (rowsOf (b .offers)) (b .offers .count)
+
+  pub count-held : b .offers .count ≡ length (modelOf b .offers)
+  count-held = sym (k .offers .shelf .counted)
+
+  pub amounts-held : bookTest b ≡ true → InRange (offersOnly (b .offers))
+  amounts-held e i h =
+      let t = b .offers in
+      let row = all-at (rowTest dealSound dealZero noDeal (t .count) (rowsOf t)) 64 (rows-test t (deals-test b e)) i (omega (arith, k .offers .shelf .few)) in
+      let s = used (t .count) i (dealSound (getD (rowsOf t) i noDeal)) (dealZero (getD (rowsOf t) i noDeal)) row h in
+      let d = getD-join dealOf (t .rows) (t .negotiations) (t .schedules) (k .offers .level) i noOffer noNegotiation noSchedule in
+      ap (λ (x : Deal). inAmount (x .offer .terms .amount)) (sym d) ∙ amount-of (getD (rowsOf t) i noDeal) s
+
+-- on a sound row that has a schedule the due rule's arguments are in range, so the installment due is module 1's number
+or-else : (s t : Bool) → s || t ≡ true → s ≡ false → t ≡ true
+or-else true t h e = cc
+or-else false t h e = h
+
+pub due-number : (d : Deal) (now : ℕ) → DealKept d → scheduleZero (d .schedule) ≡ false
+    → dueIn d now ≡ numberOf (d .schedule) (d .offer .status) (d .offer .repaid) now
+unfolding dueIn dueOf dueArguments
+due-number d now h z =
+    let r = kept-ranges h in
+    let s = or-else (scheduleZero (d .schedule)) (scheduleOk (d .schedule)) (r .schedule-in) z in
+    let a : (scheduleOk (d .schedule) && leb (d .offer .status) 5) && inTotal (d .offer .repaid) ≡ true = rw (s, r .status-in, r .repaid-in) in
+    pick-off _ _ z ∙ ap (λ (x : ℕ × ℕ). x .1) (pick-on _ _ a)

@@ -1,0 +1,5 @@
+pub mod Numbers
+pub mod Reads
+pub mod Says
+pub mod Answers
+pub mod Held

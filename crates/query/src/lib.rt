@@ -1,0 +1,399 @@
+// What can be asked of a book. Every query tests the book first and leaves it as it is.
+use account::Account;
+use book::Book;
+use lists::Listed;
+use lists::OfferNumbers;
+use lists::OfferRows;
+use lists::Wanted;
+use negotiation::Negotiation;
+use offer::Deal;
+use settings::Totals;
+use shelves::Offers;
+use terms::DueAnswer;
+use terms::Schedule;
+ghost use mathlib.Core.Path.{_≡_};
+ghost use Rattle.refusal.specs.Rule.{answered};
+ghost use Rattle.negotiation.specs.Rounds.{noNegotiation};
+ghost use Rattle.lists.specs.Listing.{listedSays};
+ghost use Rattle.lists.specs.declared.Wanted.the-variants.{Invoice, Lender, Status, PendingOf, All, Page};
+ghost use Rattle.query.specs.Numbers.{offersOnly, scheduleNumbers, lenderNumbers, totalsNumbers, dueIn, flag};
+ghost use Rattle.query.specs.Reads.{listed, asked, onSound, offerRead, scheduleRead, negotiationRead, deadlineRead, statusRead, dueRead, lenderRead, activeRead, countRead, totalsRead, windowRead, seatsRead, thresholdRead, pauseRead};
+ghost use Rattle.query.specs.Says.{numberTold, numberSays, offerSays, scheduleSays, lenderSays, totalsSays, negotiationTold};
+
+// The numbers of a schedule: how many installments, the code of their period, the amount of each, when the first is due.
+pub struct ScheduleNumbers {
+    pub count: u64,
+    pub code: u64,
+    pub installment: u64,
+    pub first: u64,
+}
+
+// A lender's figures.
+pub struct LenderNumbers {
+    pub offered: u64,
+    pub accepted: u64,
+    pub pending: u64,
+    pub repaid: u64,
+}
+
+// The book's totals.
+pub struct TotalsNumbers {
+    pub offers: u64,
+    pub financed: u64,
+    pub repaid: u64,
+    pub fees: u64,
+}
+
+pub enum NumberAnswer {
+    Number(u64),
+    Unsound,
+}
+
+pub enum OfferAnswer {
+    Offer(OfferNumbers),
+    Absent,
+    Unsound,
+}
+
+// An absent schedule is no refusal.
+pub enum ScheduleAnswer {
+    Schedule(ScheduleNumbers),
+    Absent,
+    Unsound,
+}
+
+pub enum LenderAnswer {
+    Lender(LenderNumbers),
+    Unsound,
+}
+
+pub enum TotalsAnswer {
+    Totals(TotalsNumbers),
+    Unsound,
+}
+
+// The answer's number, and the negotiation, which has no rounds and deadline 0 where there is none.
+pub struct NegotiationAnswer {
+    pub answer: u64,
+    pub negotiation: Negotiation,
+}
+
+impl ScheduleNumbers {
+    fn of(s: Schedule) -> ScheduleNumbers
+        ensures { λ r. ⌜ r ≡ scheduleNumbers s ⌝ }
+    {
+        let installment = money::bits(s.installment);
+        ScheduleNumbers {
+            count: s.count as u64,
+            code: s.code as u64,
+            installment: installment,
+            first: s.first,
+        }
+    }
+}
+
+impl LenderNumbers {
+    fn of(a: Account) -> LenderNumbers
+        ensures { λ r. ⌜ r ≡ lenderNumbers a ⌝ }
+    {
+        let offered = money::bits(a.offered);
+        let accepted = money::bits(a.accepted);
+        LenderNumbers {
+            offered: offered,
+            accepted: accepted,
+            pending: a.pending as u64,
+            repaid: a.repaid as u64,
+        }
+    }
+}
+
+impl TotalsNumbers {
+    fn of(t: Totals) -> TotalsNumbers
+        ensures { λ r. ⌜ r ≡ totalsNumbers t ⌝ }
+    {
+        let financed = money::bits(t.financed);
+        let repaid = money::bits(t.repaid);
+        let fees = money::bits(t.fees);
+        TotalsNumbers {
+            offers: t.offers as u64,
+            financed: financed,
+            repaid: repaid,
+            fees: fees,
+        }
+    }
+}
+
+// ── Lists ──
+
+fn offers_only(t: Offers) -> OfferRows
+    ensures { λ r. ⌜ r ≡ offersOnly t ⌝ }
+{
+    let ids = t.ids;
+    let rows = t.rows;
+    OfferRows {
+        ids: ids,
+        rows: rows,
+        count: t.count,
+    }
+}
+
+pub fn list(book: Book, w: Wanted, out: &mut [u64]) -> Listed
+    ensures { λ r. ⌜ (listedSays r, now (out .exit)) ≡ listed book w (now (out .entry)) ⌝ }
+{
+    if !book.sound() {
+        return Listed::Unsound;
+    }
+    let offers = book.offers;
+    let t = offers_only(offers);
+    t.list(w, out)
+}
+
+pub fn get_offers_by_invoice(book: Book, invoice: u64, out: &mut [u64]) -> Listed
+    ensures { λ r. ⌜ (listedSays r, now (out .exit)) ≡ listed book (Invoice invoice) (now (out .entry)) ⌝ }
+{
+    list(book, Wanted::Invoice(invoice), out)
+}
+
+pub fn get_offers_by_lender(book: Book, lender: u64, out: &mut [u64]) -> Listed
+    ensures { λ r. ⌜ (listedSays r, now (out .exit)) ≡ listed book (Lender lender) (now (out .entry)) ⌝ }
+{
+    list(book, Wanted::Lender(lender), out)
+}
+
+pub fn get_offers_by_status(book: Book, status: u32, out: &mut [u64]) -> Listed
+    ensures { λ r. ⌜ (listedSays r, now (out .exit)) ≡ listed book (Status status) (now (out .entry)) ⌝ }
+{
+    list(book, Wanted::Status(status), out)
+}
+
+pub fn get_pending_offers_by_invoice(book: Book, invoice: u64, out: &mut [u64]) -> Listed
+    ensures { λ r. ⌜ (listedSays r, now (out .exit)) ≡ listed book (PendingOf invoice) (now (out .entry)) ⌝ }
+{
+    list(book, Wanted::PendingOf(invoice), out)
+}
+
+pub fn get_all_offers(book: Book, out: &mut [u64]) -> Listed
+    ensures { λ r. ⌜ (listedSays r, now (out .exit)) ≡ listed book All (now (out .entry)) ⌝ }
+{
+    list(book, Wanted::All, out)
+}
+
+pub fn get_offers_paginated(book: Book, offset: u64, limit: u64, out: &mut [u64]) -> Listed
+    ensures { λ r. ⌜ (listedSays r, now (out .exit)) ≡ listed book (Page offset limit) (now (out .entry)) ⌝ }
+{
+    list(book, Wanted::Page(offset, limit), out)
+}
+
+// ── One offer ──
+
+pub fn get_offer(book: Book, id: u64) -> OfferAnswer
+    ensures { λ r. ⌜ offerSays r ≡ asked book (offerRead id) ⌝ }
+{
+    if !book.sound() {
+        return OfferAnswer::Unsound;
+    }
+    let offers = book.offers;
+    let s = offers.get(id);
+    if !s.here {
+        return OfferAnswer::Absent;
+    }
+    let d = s.row;
+    let o = d.offer;
+    let numbers = OfferNumbers::of(id, o);
+    OfferAnswer::Offer(numbers)
+}
+
+pub fn get_schedule(book: Book, id: u64) -> ScheduleAnswer
+    ensures { λ r. ⌜ scheduleSays r ≡ asked book (scheduleRead id) ⌝ }
+{
+    if !book.sound() {
+        return ScheduleAnswer::Unsound;
+    }
+    let offers = book.offers;
+    let s = offers.get(id);
+    let d = s.row;
+    let p = d.schedule;
+    if terms::schedule_zero(p) {
+        return ScheduleAnswer::Absent;
+    }
+    let numbers = ScheduleNumbers::of(p);
+    ScheduleAnswer::Schedule(numbers)
+}
+
+pub fn get_negotiation(book: Book, id: u64) -> NegotiationAnswer
+    ensures { λ r. ⌜ r ≡ answered negotiationTold noNegotiation (onSound book (negotiationRead id)) ⌝ }
+{
+    if !book.sound() {
+        let none = Negotiation::none();
+        return NegotiationAnswer {
+            answer: refusal::BOOK_UNSOUND,
+            negotiation: none,
+        };
+    }
+    let offers = book.offers;
+    let s = offers.get(id);
+    let d = s.row;
+    let g = d.negotiation;
+    NegotiationAnswer {
+        answer: 0,
+        negotiation: g,
+    }
+}
+
+pub fn get_negotiation_deadline(book: Book, id: u64) -> NumberAnswer
+    ensures { λ r. ⌜ numberSays r ≡ asked book (deadlineRead id) ⌝ }
+{
+    if !book.sound() {
+        return NumberAnswer::Unsound;
+    }
+    let offers = book.offers;
+    let s = offers.get(id);
+    let d = s.row;
+    let g = d.negotiation;
+    NumberAnswer::Number(g.deadline)
+}
+
+pub fn get_negotiation_status(book: Book, now: u64, id: u64) -> NumberAnswer
+    ensures { λ r. ⌜ numberSays r ≡ asked book (statusRead now id) ⌝ }
+{
+    if !book.sound() {
+        return NumberAnswer::Unsound;
+    }
+    let offers = book.offers;
+    let s = offers.get(id);
+    let d = s.row;
+    let o = d.offer;
+    let status = o.status;
+    let g = d.negotiation;
+    let n = g.status(status == offer::PENDING, now);
+    NumberAnswer::Number(n as u64)
+}
+
+// The number of the installment that is due; 0 without a schedule.
+fn due(d: Deal, now: u64) -> u64
+    ensures { λ r. ⌜ r ≡ dueIn d now ⌝ }
+{
+    let p = d.schedule;
+    if terms::schedule_zero(p) {
+        return 0;
+    }
+    let o = d.offer;
+    let status = o.status;
+    match terms::due(p, status, o.repaid, now) {
+        DueAnswer::Number(n) => n,
+        DueAnswer::Invalid => 0,
+    }
+}
+
+pub fn get_installment_due(book: Book, now: u64, id: u64) -> NumberAnswer
+    ensures { λ r. ⌜ numberSays r ≡ asked book (dueRead now id) ⌝ }
+{
+    if !book.sound() {
+        return NumberAnswer::Unsound;
+    }
+    let offers = book.offers;
+    let s = offers.get(id);
+    let d = s.row;
+    let n = due(d, now);
+    NumberAnswer::Number(n)
+}
+
+// ── Lenders ──
+
+pub fn get_lender_stats(book: Book, lender: u64) -> LenderAnswer
+    ensures { λ r. ⌜ lenderSays r ≡ asked book (lenderRead lender) ⌝ }
+{
+    if !book.sound() {
+        return LenderAnswer::Unsound;
+    }
+    let accounts = book.accounts;
+    let s = accounts.get(lender);
+    let a = s.row;
+    let numbers = LenderNumbers::of(a);
+    LenderAnswer::Lender(numbers)
+}
+
+pub fn get_lender_active_total(book: Book, lender: u64) -> NumberAnswer
+    ensures { λ r. ⌜ numberSays r ≡ asked book (activeRead lender) ⌝ }
+{
+    if !book.sound() {
+        return NumberAnswer::Unsound;
+    }
+    let offers = book.offers;
+    let t = offers_only(offers);
+    let n = t.active_total(lender);
+    NumberAnswer::Number(n)
+}
+
+// ── The book ──
+
+// A number that is read of a sound book alone.
+fn told(sound: bool, n: u64) -> NumberAnswer
+    ensures { λ r. ⌜ numberSays r ≡ numberTold sound n ⌝ }
+{
+    if !sound {
+        return NumberAnswer::Unsound;
+    }
+    NumberAnswer::Number(n)
+}
+
+pub fn get_offers_count(book: Book) -> NumberAnswer
+    ensures { λ r. ⌜ numberSays r ≡ asked book countRead ⌝ }
+{
+    if !book.sound() {
+        return NumberAnswer::Unsound;
+    }
+    let offers = book.offers;
+    let n = offers.count;
+    NumberAnswer::Number(n as u64)
+}
+
+pub fn get_stats(book: Book) -> TotalsAnswer
+    ensures { λ r. ⌜ totalsSays r ≡ asked book totalsRead ⌝ }
+{
+    if !book.sound() {
+        return TotalsAnswer::Unsound;
+    }
+    let t = book.totals;
+    let numbers = TotalsNumbers::of(t);
+    TotalsAnswer::Totals(numbers)
+}
+
+pub fn get_negotiation_window(book: Book) -> NumberAnswer
+    ensures { λ r. ⌜ numberSays r ≡ asked book windowRead ⌝ }
+{
+    let s = book.settings;
+    told(book.sound(), s.window)
+}
+
+// The seats that may sign, a bit for each.
+pub fn get_signers(book: Book) -> NumberAnswer
+    ensures { λ r. ⌜ numberSays r ≡ asked book seatsRead ⌝ }
+{
+    let s = book.settings;
+    let n = s.seats;
+    told(book.sound(), n as u64)
+}
+
+pub fn get_threshold(book: Book) -> NumberAnswer
+    ensures { λ r. ⌜ numberSays r ≡ asked book thresholdRead ⌝ }
+{
+    let s = book.settings;
+    let n = s.threshold;
+    told(book.sound(), n as u64)
+}
+
+fn flag(b: bool) -> u64
+    ensures { λ r. ⌜ r ≡ flag b ⌝ }
+{
+    if b { 1 } else { 0 }
+}
+
+// 1 while the book is paused.
+pub fn contract_is_paused(book: Book) -> NumberAnswer
+    ensures { λ r. ⌜ numberSays r ≡ asked book pauseRead ⌝ }
+{
+    let s = book.settings;
+    let p = s.paused;
+    told(book.sound(), flag(p))
+}
