@@ -53,7 +53,7 @@ module _ {m : Model} (f : Fits m) where
   fits-offers : {t : Table Deal} → Tidy t → Fits (withOffers t m)
   fits-offers y = record { accounts = f .accounts; invoices = f .invoices; offers = y }
 
-  fits-settled : (now o : ℕ) → Fits (settling now o m .done)
+  pub fits-settled : (now o : ℕ) → Fits (settling now o m .done)
   unfolding settling
   fits-settled now o = record {
     accounts = tidy-adjust (tidy-adjust (tidy-adjust (f .accounts) _ _) _ _) _ _;
@@ -70,19 +70,19 @@ module _ {m : Model} (f : Fits m) where
   fits-agreed true now o = fits-concluded now o
   fits-agreed false now o = f
 
-  fits-opened : (a : ℕ) → first (opening m a .checks) ≡ 0 → Fits (opening m a .done)
+  pub fits-opened : (a : ℕ) → first (opening m a .checks) ≡ 0 → Fits (opening m a .done)
   fits-opened a e =
       let p = passed _ _ _ e in
       let q = passed _ _ _ (p .1) in
       fits-accounts (tidy-insert (f .accounts) a _ (has-room (m .accounts) a (q .0) (unseen-account (find (m .accounts) a) (p .0))))
 
-  fits-registered : (a i : ℕ) (x : ℤ) → first (registering m a i x .checks) ≡ 0 → Fits (registering m a i x .done)
+  pub fits-registered : (a i : ℕ) (x : ℤ) → first (registering m a i x .checks) ≡ 0 → Fits (registering m a i x .done)
   fits-registered a i x e =
       let p = passed _ _ _ (passed _ _ _ e .1) in
       let q = passed _ _ _ (p .1) in
       fits-invoices (tidy-insert (f .invoices) i _ (has-room (m .invoices) i (q .0) (unseen-invoice (find (m .invoices) i) (p .0))))
 
-  fits-created : (a o i : ℕ) (t : Terms) (e : ℕ) → first (creating m a o i t e .checks) ≡ 0 → Fits (creating m a o i t e .done)
+  pub fits-created : (a o i : ℕ) (t : Terms) (e : ℕ) → first (creating m a o i t e .checks) ≡ 0 → Fits (creating m a o i t e .done)
   fits-created a o i t e h =
       let p = passed _ _ _ (passed _ _ _ (passed _ _ _ (passed _ _ _ (passed _ _ _ (passed _ _ _ h .1) .1) .1) .1) .1) in
       let q = passed _ _ _ (p .1) in

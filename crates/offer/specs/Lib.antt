@@ -1,2 +1,4 @@
 pub mod Offer
 pub mod Rules
+pub mod Laws
+pub mod Kept

@@ -38,10 +38,10 @@ createChecks caller lender t paper exists full =
 abbrev pub withdrawOf : SeenDeal → ℕ → Rule Deal
 withdrawOf s caller = record {
   checks =
-    (not (s .here) gives notFound)
-    ∷ (not (eqb (s .row .offer .lender) caller) gives unauthorized)
-    ∷ (not (pending (s .row)) gives invalidTransition)
-    ∷ [];
+      (not (s .here) gives notFound)
+      ∷ (not (eqb (s .row .offer .lender) caller) gives unauthorized)
+      ∷ (not (pending (s .row)) gives invalidTransition)
+      ∷ [];
   done = withOffer (withStatus 2 (s .row .offer)) (s .row);
 }
 
@@ -49,11 +49,11 @@ withdrawOf s caller = record {
 abbrev pub rejectOf : SeenDeal → ℕ → SeenInvoice → Rule Deal
 rejectOf s caller paper = record {
   checks =
-    (not (s .here) gives notFound)
-    ∷ (not (pending (s .row)) gives invalidTransition)
-    ∷ (not (paper .here) gives notFound)
-    ∷ (not (eqb (paper .row .originator) caller) gives unauthorized)
-    ∷ [];
+      (not (s .here) gives notFound)
+      ∷ (not (pending (s .row)) gives invalidTransition)
+      ∷ (not (paper .here) gives notFound)
+      ∷ (not (eqb (paper .row .originator) caller) gives unauthorized)
+      ∷ [];
   done = withOffer (withStatus 2 (s .row .offer)) (s .row);
 }
 
@@ -112,12 +112,12 @@ outcomeAt status = pick (eqb status 4) 4 2
 abbrev pub closeOf : SeenDeal → ℕ → ℕ → SeenInvoice → Rule Deal
 closeOf s now caller paper = record {
   checks =
-    (not (eqb (s .row .negotiation .outcome) 0) gives invalidTransition)
-    ∷ (eqb (standing s now) 0 gives notFound)
-    ∷ (eqb (standing s now) 2 gives invalidTransition)
-    ∷ (outsider s now caller && not (paper .here) gives notFound)
-    ∷ (outsider s now caller && not (eqb (paper .row .originator) caller) gives unauthorized)
-    ∷ [];
+      (not (eqb (s .row .negotiation .outcome) 0) gives invalidTransition)
+      ∷ (eqb (standing s now) 0 gives notFound)
+      ∷ (eqb (standing s now) 2 gives invalidTransition)
+      ∷ (outsider s now caller && not (paper .here) gives notFound)
+      ∷ (outsider s now caller && not (eqb (paper .row .originator) caller) gives unauthorized)
+      ∷ [];
   done = withNegotiation (closedAs (outcomeAt (standing s now)) (s .row .negotiation)) (s .row);
 }
 

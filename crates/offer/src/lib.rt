@@ -18,10 +18,15 @@ ghost use Rattle.offer.specs.Rules.{createChecks, withdrawOf, rejectOf, 
 
 // Where an offer stands.
 pub const PENDING: u32 = 0;
+
 pub const ACCEPTED: u32 = 1;
+
 pub const REJECTED: u32 = 2;
+
 pub const FINANCED: u32 = 3;
+
 pub const REPAID: u32 = 4;
+
 pub const DEFAULTED: u32 = 5;
 
 pub struct Offer {

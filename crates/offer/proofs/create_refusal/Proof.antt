@@ -6,29 +6,24 @@ use borrow.Author.Needs.{needs}
 use Rattle.offer.proofs.create_refusal.Statement.{statement}
 use Rattle.offer.proofs.create_refusal.Tie as tie
 
--- src/lib.rt:270:9
 returns : tie.Need-returns
 returns c =
     fails blacklisted _ (c .if1 .taken)
 
--- src/lib.rt:272:9
 terms-valid-requires : tie.Need-terms-valid-requires
 terms-valid-requires c κs = search needs
 
--- src/lib.rt:273:9
 returns-2 : tie.Need-returns-2
 returns-2 c =
     passes blacklisted _ (c .before .before .if1 .left)
     (fails invalidInput _ (ap not (sym (c .before .terms-valid .ensures)) ∙ c .if2 .taken))
 
--- src/lib.rt:276:9
 returns-3 : tie.Need-returns-3
 returns-3 c =
     passes blacklisted _ (c .before .before .before .before .if1 .left)
     (passes invalidInput _ (ap not (sym (c .before .before .before .terms-valid .ensures)) ∙ c .before .before .if2 .left)
     (fails notFound _ (c .if3 .taken)))
 
--- src/lib.rt:281:9
 returns-4 : tie.Need-returns-4
 returns-4 c =
     passes blacklisted _ (c .before .before .before .before .before .before .if1 .left)
@@ -36,7 +31,6 @@ returns-4 c =
     (passes notFound _ (c .before .before .if3 .left)
     (fails invalidTransition _ (c .if4 .taken))))
 
--- src/lib.rt:285:9
 returns-5 : tie.Need-returns-5
 returns-5 c =
     passes blacklisted _ (c .before .before .before .before .before .before .before .if1 .left)
@@ -45,11 +39,9 @@ returns-5 c =
     (passes invalidTransition _ (c .before .if4 .left)
     (fails invalidInput _ (eq-eqb _ _ (c .if5 .taken))))))
 
--- src/lib.rt:287:9
 covers-requires : tie.Need-covers-requires
 covers-requires c κs = search needs
 
--- src/lib.rt:288:9
 returns-6 : tie.Need-returns-6
 returns-6 c =
     passes blacklisted _ (c .before .before .before .before .before .before .before .before .before .if1 .left)
@@ -59,7 +51,6 @@ returns-6 c =
     (passes invalidInput _ (ne-eqb _ _ (c .before .before .if5 .left))
     (fails invalidInput _ (ap not (sym (c .before .covers .ensures)) ∙ c .if6 .taken))))))
 
--- src/lib.rt:291:9
 returns-7 : tie.Need-returns-7
 returns-7 c =
     passes blacklisted _ (c .before .before .before .before .before .before .before .before .before .before .if1 .left)
@@ -70,7 +61,6 @@ returns-7 c =
     (passes invalidInput _ (ap not (sym (c .before .before .covers .ensures)) ∙ c .before .if6 .left)
     (fails alreadyExists _ (c .if7 .taken)))))))
 
--- src/lib.rt:294:9
 returns-8 : tie.Need-returns-8
 returns-8 c =
     passes blacklisted _ (c .before .before .before .before .before .before .before .before .before .before .before .if1 .left)
@@ -82,7 +72,6 @@ returns-8 c =
     (passes alreadyExists _ (c .before .if7 .left)
     (fails noRoom _ (c .if8 .taken))))))))
 
--- src/lib.rt:259:1
 returns-9 : tie.Need-returns-9
 returns-9 c =
     passes blacklisted _ (c .before .before .before .before .before .before .before .before .before .before .before .if1 .left)

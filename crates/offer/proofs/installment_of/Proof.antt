@@ -7,23 +7,18 @@ use borrow.Author.Needs.{needs}
 use Rattle.offer.proofs.installment_of.Statement.{statement}
 use Rattle.offer.proofs.installment_of.Tie as tie
 
--- src/lib.rt:303:36
 installment-requires : tie.Need-installment-requires
 installment-requires c κs = search needs
 
--- src/lib.rt:303:31
 enum-known-x : tie.Need-enum-known-x
 enum-known-x c = search needs
 
--- src/lib.rt:304:9
 enum-told : tie.Need-enum-told
 enum-told c = search needs
 
--- src/lib.rt:304:9
 returns : tie.Need-returns
 returns c = ap (λ (q : ℕ × ℤ). q .1) (ap installmentSays (sym (c .enum-told .given .1)) ∙ c .before .before .installment .ensures)
 
--- src/lib.rt:300:1
 returns-2 : tie.Need-returns-2
 returns-2 c = back (c .before .x .given .0 .0) (search needs) ∙ ap (λ (q : ℕ × ℤ). q .1) (ap installmentSays (sym (c .before .x .given .1)) ∙ c .before .before .before .installment .ensures)
 

@@ -5,12 +5,10 @@ use Rattle.offer.specs.Rules.{outcomeAt}
 use Rattle.offer.proofs.outcome_at.Statement.{statement}
 use Rattle.offer.proofs.outcome_at.Tie as tie
 
--- src/lib.rt:314:9
 returns : tie.Need-returns
 unfolding outcomeAt
 returns c = on _ (eq-eqb _ _ (c .if1 .taken)) refl
 
--- src/lib.rt:310:1
 returns-2 : tie.Need-returns-2
 unfolding outcomeAt
 returns-2 c = off _ (ne-eqb _ _ (c .if1 .left)) refl

@@ -4,29 +4,24 @@ use borrow.Author.Needs.{needs}
 use Rattle.offer.proofs.Deal.agreement_refusal.Statement.{statement}
 use Rattle.offer.proofs.Deal.agreement_refusal.Tie as tie
 
--- src/lib.rt:229:13
 returns : tie.Need-returns
 returns c =
     fails notFound _ (c .if1 .taken)
 
--- src/lib.rt:234:13
 returns-2 : tie.Need-returns-2
 returns-2 c =
     passes notFound _ (c .before .before .if1 .left)
     (fails invalidTransition _ (c .if2 .taken))
 
--- src/lib.rt:237:12
 expired-requires : tie.Need-expired-requires
 expired-requires c κs = search needs
 
--- src/lib.rt:238:13
 returns-3 : tie.Need-returns-3
 returns-3 c =
     passes notFound _ (c .before .before .before .before .before .if1 .left)
     (passes invalidTransition _ (c .before .before .before .if2 .left)
     (fails offerExpired _ (sym (c .before .expired .ensures) ∙ c .if3 .taken)))
 
--- src/lib.rt:241:13
 returns-4 : tie.Need-returns-4
 returns-4 c =
     passes notFound _ (c .before .before .before .before .before .before .before .if1 .left)
@@ -34,7 +29,6 @@ returns-4 c =
     (passes offerExpired _ (sym (c .before .before .before .expired .ensures) ∙ c .before .before .if3 .left)
     (fails notFound _ (c .if4 .taken))))
 
--- src/lib.rt:245:13
 returns-5 : tie.Need-returns-5
 returns-5 c =
     passes notFound _ (c .before .before .before .before .before .before .before .before .before .if1 .left)
@@ -43,7 +37,6 @@ returns-5 c =
     (passes notFound _ (c .before .before .if4 .left)
     (fails blacklisted _ (c .if5 .taken)))))
 
--- src/lib.rt:248:13
 returns-6 : tie.Need-returns-6
 returns-6 c =
     passes notFound _ (c .before .before .before .before .before .before .before .before .before .before .before .if1 .left)
@@ -53,7 +46,6 @@ returns-6 c =
     (passes blacklisted _ (c .before .before .if5 .left)
     (fails notFound _ (c .if6 .taken))))))
 
--- src/lib.rt:252:13
 returns-7 : tie.Need-returns-7
 returns-7 c =
     passes notFound _ (c .before .before .before .before .before .before .before .before .before .before .before .before .before .if1 .left)
@@ -64,7 +56,6 @@ returns-7 c =
     (passes notFound _ (c .before .before .if6 .left)
     (fails blacklisted _ (c .if7 .taken)))))))
 
--- src/lib.rt:219:5
 returns-8 : tie.Need-returns-8
 returns-8 c =
     passes notFound _ (c .before .before .before .before .before .before .before .before .before .before .before .before .before .if1 .left)

@@ -3,15 +3,12 @@ use borrow.Author.Needs.{needs}
 use Rattle.offer.proofs.Deal.amended.Statement.{statement}
 use Rattle.offer.proofs.Deal.amended.Tie as tie
 
--- src/lib.rt:198:13
 new-requires : tie.Need-new-requires
 new-requires c κs = search needs
 
--- src/lib.rt:199:13
 added-requires : tie.Need-added-requires
 added-requires c κs = search needs
 
--- src/lib.rt:194:5
 returns : tie.Need-returns
 unfolding amendedDeal
 returns c = rw (c .before .added .ensures, c .before .before .new .ensures)

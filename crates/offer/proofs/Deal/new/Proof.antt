@@ -1,13 +1,10 @@
-
 use borrow.Author.Needs.{needs}
 use Rattle.offer.proofs.Deal.new.Statement.{statement}
 use Rattle.offer.proofs.Deal.new.Tie as tie
 
--- src/lib.rt:129:13
 none-requires : tie.Need-none-requires
 none-requires c κs = search needs
 
--- src/lib.rt:126:5
 returns : tie.Need-returns
 returns c = rw (c .none .ensures)
 

@@ -1,17 +1,13 @@
-
 use borrow.Author.Needs.{needs}
 use Rattle.offer.proofs.Deal.none.Statement.{statement}
 use Rattle.offer.proofs.Deal.none.Tie as tie
 
--- src/lib.rt:112:13
 none-requires : tie.Need-none-requires
 none-requires c κs = search needs
 
--- src/lib.rt:113:13
 none-requires-2 : tie.Need-none-requires-2
 none-requires-2 c κs = search needs
 
--- src/lib.rt:109:5
 returns : tie.Need-returns
 returns c = rw (c .before .none .ensures, c .none2 .ensures)
 

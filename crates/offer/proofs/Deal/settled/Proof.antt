@@ -3,11 +3,9 @@ use borrow.Author.Needs.{needs}
 use Rattle.offer.proofs.Deal.settled.Statement.{statement}
 use Rattle.offer.proofs.Deal.settled.Tie as tie
 
--- src/lib.rt:184:13
 accepted-requires : tie.Need-accepted-requires
 accepted-requires c κs = search needs
 
--- src/lib.rt:180:5
 returns : tie.Need-returns
 unfolding settledDeal
 returns c = rw (c .before .accepted .ensures)

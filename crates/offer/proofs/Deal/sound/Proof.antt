@@ -4,27 +4,21 @@ use borrow.Author.Needs.{needs}
 use Rattle.offer.proofs.Deal.sound.Statement.{statement}
 use Rattle.offer.proofs.Deal.sound.Tie as tie
 
--- src/lib.rt:155:13
 terms-valid-requires : tie.Need-terms-valid-requires
 terms-valid-requires c κs = search needs
 
--- src/lib.rt:156:13
 in-total-range-requires : tie.Need-in-total-range-requires
 in-total-range-requires c κs = search needs
 
--- src/lib.rt:159:13
 sound-requires : tie.Need-sound-requires
 sound-requires c κs = search needs
 
--- src/lib.rt:161:13
 schedule-zero-requires : tie.Need-schedule-zero-requires
 schedule-zero-requires c κs = search needs
 
--- src/lib.rt:162:13
 schedule-ok-requires : tie.Need-schedule-ok-requires
 schedule-ok-requires c κs = search needs
 
--- src/lib.rt:150:5
 returns : tie.Need-returns
 unfolding dealSound
 returns c = rw (c .before .before .before .before .before .before .before .terms-valid .ensures, simp (back (c .before .before .before .before .before .before .before .before .before .before .args .self .offer .repaid) (search needs)) at (c .before .before .before .before .before .in-total-range .ensures), c .before .before .before .sound .ensures, c .before .schedule-zero .ensures, c .schedule-ok .ensures)

@@ -3,19 +3,15 @@ use borrow.Author.Needs.{needs}
 use Rattle.offer.proofs.Deal.zero.Statement.{statement}
 use Rattle.offer.proofs.Deal.zero.Tie as tie
 
--- src/lib.rt:171:13
 zero-requires : tie.Need-zero-requires
 zero-requires c κs = search needs
 
--- src/lib.rt:173:13
 zero-requires-2 : tie.Need-zero-requires-2
 zero-requires-2 c κs = search needs
 
--- src/lib.rt:175:13
 schedule-zero-requires : tie.Need-schedule-zero-requires
 schedule-zero-requires c κs = search needs
 
--- src/lib.rt:166:5
 returns : tie.Need-returns
 unfolding dealZero
 returns c = (rw (c .before .before .before .before .zero .ensures, c .before .before .zero2 .ensures .0, c .schedule-zero .ensures), c .before .before .zero2 .ensures .1)

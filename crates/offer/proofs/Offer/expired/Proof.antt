@@ -3,7 +3,6 @@ use Rattle.offer.specs.Offer.{expired}
 use Rattle.offer.proofs.Offer.expired.Statement.{statement}
 use Rattle.offer.proofs.Offer.expired.Tie as tie
 
--- src/lib.rt:84:5
 returns : tie.Need-returns
 unfolding expired
 returns c = refl

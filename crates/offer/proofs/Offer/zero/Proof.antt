@@ -4,15 +4,12 @@ use borrow.Author.Needs.{needs}
 use Rattle.offer.proofs.Offer.zero.Statement.{statement}
 use Rattle.offer.proofs.Offer.zero.Tie as tie
 
--- src/lib.rt:95:13
 is-zero-requires : tie.Need-is-zero-requires
 is-zero-requires c κs = search needs
 
--- src/lib.rt:102:13
 is-zero-requires-2 : tie.Need-is-zero-requires-2
 is-zero-requires-2 c κs = search needs
 
--- src/lib.rt:91:5
 returns : tie.Need-returns
 unfolding offerZero
 returns c = let s = c .before .before .before .before .before .args .self in rw (simp (back (s .terms .amount) (search needs)) at (c .before .before .is-zero .ensures), simp (back (s .repaid) (search needs)) at (c .is-zero2 .ensures))

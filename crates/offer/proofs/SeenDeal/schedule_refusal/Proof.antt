@@ -6,33 +6,27 @@ use borrow.Author.Needs.{needs}
 use Rattle.offer.proofs.SeenDeal.schedule_refusal.Statement.{statement}
 use Rattle.offer.proofs.SeenDeal.schedule_refusal.Tie as tie
 
--- src/lib.rt:511:13
 count-valid-requires : tie.Need-count-valid-requires
 count-valid-requires c κs = search needs
 
--- src/lib.rt:512:13
 returns : tie.Need-returns
 returns c =
     fails invalidInput _ (ap not (sym (c .before .count-valid .ensures)) ∙ c .if1 .taken)
 
--- src/lib.rt:515:13
 returns-2 : tie.Need-returns-2
 returns-2 c =
     passes invalidInput _ (ap not (sym (c .before .before .count-valid .ensures)) ∙ c .before .if1 .left)
     (fails invalidInput _ (le-leb _ _ (c .if2 .taken)))
 
--- src/lib.rt:517:13
 code-listed-requires : tie.Need-code-listed-requires
 code-listed-requires c κs = search needs
 
--- src/lib.rt:518:13
 returns-3 : tie.Need-returns-3
 returns-3 c =
     passes invalidInput _ (ap not (sym (c .before .before .before .before .count-valid .ensures)) ∙ c .before .before .before .if1 .left)
     (passes invalidInput _ (lt-leb _ _ (c .before .before .if2 .left))
     (fails invalidInput _ (ap not (sym (c .before .code-listed .ensures)) ∙ c .if3 .taken)))
 
--- src/lib.rt:521:13
 returns-4 : tie.Need-returns-4
 returns-4 c =
     passes invalidInput _ (ap not (sym (c .before .before .before .before .before .before .count-valid .ensures)) ∙ c .before .before .before .before .before .if1 .left)
@@ -40,7 +34,6 @@ returns-4 c =
     (passes invalidInput _ (ap not (sym (c .before .before .before .code-listed .ensures)) ∙ c .before .before .if3 .left)
     (fails notFound _ (c .if4 .taken))))
 
--- src/lib.rt:527:13
 returns-5 : tie.Need-returns-5
 returns-5 c =
     passes invalidInput _ (ap not (sym (c .before .before .before .before .before .before .before .before .before .count-valid .ensures)) ∙ c .before .before .before .before .before .before .before .before .if1 .left)
@@ -49,7 +42,6 @@ returns-5 c =
     (passes notFound _ (c .before .before .before .if4 .left)
     (fails invalidTransition _ (c .if5 .taken)))))
 
--- src/lib.rt:530:13
 returns-6 : tie.Need-returns-6
 returns-6 c =
     passes invalidInput _ (ap not (sym (c .before .before .before .before .before .before .before .before .before .before .before .count-valid .ensures)) ∙ c .before .before .before .before .before .before .before .before .before .before .if1 .left)
@@ -59,7 +51,6 @@ returns-6 c =
     (passes invalidTransition _ (c .before .before .if5 .left)
     (fails notFound _ (c .if6 .taken))))))
 
--- src/lib.rt:536:13
 returns-7 : tie.Need-returns-7
 returns-7 c =
     passes invalidInput _ (ap not (sym (c .before .before .before .before .before .before .before .before .before .before .before .before .before .count-valid .ensures)) ∙ c .before .before .before .before .before .before .before .before .before .before .before .before .if1 .left)
@@ -70,7 +61,6 @@ returns-7 c =
     (passes notFound _ (c .before .before .if6 .left)
     (fails unauthorized _ (c .if7 .taken)))))))
 
--- src/lib.rt:500:5
 returns-8 : tie.Need-returns-8
 returns-8 c =
     passes invalidInput _ (ap not (sym (c .before .before .before .before .before .before .before .before .before .before .before .before .before .count-valid .ensures)) ∙ c .before .before .before .before .before .before .before .before .before .before .before .before .if1 .left)

@@ -1,0 +1,71 @@
+use mathlib.Core.Path.{_≡_, refl, sym, ap, _∙_}
+use mathlib.Core.List.{List}
+use borrow.Author.Tests.{eqb-true, eqb-false, not-true, not-false}
+use Rattle.money.specs.Range.{isZero}
+use Rattle.money.specs.Facts.{back}
+use Rattle.refusal.specs.Refusal.{Check, invalidInput, refusal-not-0, first, fails, passes, none-left}
+use Rattle.refusal.specs.Rule.{refused, accepted, first-pass, first-stop}
+use Rattle.terms.specs.Installment.{installmentOf}
+use Rattle.offer.specs.Offer.{posted}
+use Rattle.offer.specs.Rules.{scheduleChecks}
+use borrow.Author.Needs.{needs}
+use Rattle.offer.proofs.SeenDeal.schedule.Statement.{statement}
+use Rattle.offer.proofs.SeenDeal.schedule.Tie as tie
+
+abbrev checked : tie.Start → List Check
+checked c = scheduleChecks (c .args .self) (c .args .now) (c .args .caller) (c .args .count) (c .args .code) (c .args .first) (c .args .paper)
+
+-- the checks before the installment pass
+clear : (c : tie.Else1) → first (checked (c .before .before .before .before)) ≡ 0
+clear c = sym (c .before .schedule-refusal .ensures) ∙ eqb-true _ _ (not-false _ (c .if1 .left))
+
+-- the installment that is tested is the one of the offer's terms
+tested : (c : tie.After-is-zero) → isZero (installmentOf (c .before .before .before .before .before .before .before .args .self .row .offer .terms) (c .before .before .before .before .before .before .before .args .count) .1) ≡ c .is-zero .result
+tested c =
+    let told = simp (back (c .before .installment-of .result) (search needs)) at (c .is-zero .ensures) in
+    sym (told ∙ ap isZero (c .before .installment-of .ensures))
+
+schedule-refusal-requires : tie.Need-schedule-refusal-requires
+schedule-refusal-requires c κs = search needs
+
+refused-requires : tie.Need-refused-requires
+refused-requires c κs = search needs
+
+returns : tie.Need-returns
+returns c =
+    let stopped = eqb-false (c .before .before .schedule-refusal .result) 0 (not-true _ (c .before .if1 .taken)) in
+    let told = c .before .before .schedule-refusal .ensures in
+    c .refused .ensures ∙ refused posted _ _ (told ∙ sym (first-stop (checked (c .before .before .before .before .before)) _ (λ q. stopped (told ∙ q)))) stopped
+
+installment-of-requires : tie.Need-installment-of-requires
+installment-of-requires c κs = search needs
+
+is-zero-requires : tie.Need-is-zero-requires
+is-zero-requires c κs = search needs
+
+refused-requires-2 : tie.Need-refused-requires-2
+refused-requires-2 c κs = search needs
+
+returns-2 : tie.Need-returns-2
+returns-2 c =
+    let t = tested (c .before .before) ∙ c .before .if2 .taken in
+    c .refused2 .ensures ∙ refused posted _ _ (fails invalidInput _ t ∙ sym (first-pass (checked (c .before .before .before .before .before .before .before .before .before)) _ (clear (c .before .before .before .before .before)))) (eqb-false _ _ (refusal-not-0 invalidInput))
+
+returns-3 : tie.Need-returns-3
+returns-3 c =
+    let t = tested (c .before) ∙ c .if2 .left in
+    let x = back (c .before .before .installment-of .result) (search needs) ∙ c .before .before .installment-of .ensures in
+    accepted posted _ _ (passes invalidInput _ t none-left ∙ sym (first-pass (checked (c .before .before .before .before .before .before .before .before)) _ (clear (c .before .before .before .before)))) refl (rw x)
+
+pub schedule-spec : {M : Type 1} → statement M
+schedule-spec =
+    tie.close
+    (tie.spec
+    schedule-refusal-requires
+    refused-requires
+    returns
+    installment-of-requires
+    is-zero-requires
+    refused-requires-2
+    returns-2
+    returns-3)

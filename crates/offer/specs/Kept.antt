@@ -1,0 +1,135 @@
+-- That every rule on an offer's row, and every part of a command put on it, leaves a sound row sound where the checks pass. Assumes nothing.
+use Prim.Native.Nat.{ℕ}
+use mathlib.Core.Path.{_≡_, refl, sym, ap, _∙_}
+use mathlib.Core.Bool.{Bool, true, false}
+use lib.Dec.{leb, eqb}
+use lib.IntN.{ℤ}
+use borrow.Author.Tests.{eqb-true, ltb-false, le-leb, not-false}
+use Rattle.money.specs.Range.{inTotal, inInstallment, isZero}
+use Rattle.refusal.specs.Choice.{pick, pick-on, pick-off}
+use Rattle.refusal.specs.Refusal.{first}
+use Rattle.refusal.specs.Rule.{Rule, after, passed}
+use Rattle.terms.specs.Terms.{termsOk, countOk}
+use Rattle.terms.specs.Schedule.{listed}
+use Rattle.terms.specs.Installment.{installmentOf}
+use Rattle.terms.specs.Laws.{terms-in, installment-valid, installment-in, made-ok}
+use Rattle.terms.specs.declared.Terms.{Terms}
+use Rattle.terms.specs.declared.Schedule.{Schedule}
+use Rattle.negotiation.specs.Rounds.{roundLimit, negotiable, roundOf, addedOf, acceptedOf, closedAs}
+use Rattle.negotiation.specs.Laws.{stored, round-sound, added-sound, added-whole, closed-sound, closed-whole, accepted-sound, accepted-whole}
+use Rattle.negotiation.specs.declared.Negotiation.{Negotiation}
+use Rattle.account.specs.declared.Account.{Account}
+use Rattle.invoice.specs.declared.SeenInvoice.{SeenInvoice}
+use Rattle.offer.specs.declared.Deal.{Deal}
+use Rattle.offer.specs.declared.SeenDeal.{SeenDeal}
+use Rattle.offer.specs.Offer.{pending, withFunded, withStatus, withRepaid, withTerms, settledDeal, amendedDeal, counteredDeal}
+use Rattle.offer.specs.Rules.{withdrawOf, rejectOf, amendChecks, counterChecks, standing, outcomeAt, closeOf, scheduleOf, statusUpdateOf, repaidUpdateOf}
+use Rattle.offer.specs.Laws.{DealKept, Ranges, kept-ranges, offer-kept, negotiation-kept, schedule-kept}
+
+-- ── Settlement ────────────────────────────────────────────────────
+pub settled-kept : (now : ℕ) (d : Deal) → DealKept d → DealKept (settledDeal now d)
+unfolding settledDeal
+settled-kept now d h =
+    let r = kept-ranges h in
+    negotiation-kept (offer-kept h (withFunded now (withStatus 1 (d .offer))) (r .terms-in) (r .repaid-in) refl)
+    (acceptedOf (d .negotiation)) (accepted-sound roundLimit (d .negotiation) (r .rounds-in)) (accepted-whole roundLimit (d .negotiation) (h .whole))
+
+-- ── A round more ──────────────────────────────────────────────────
+-- where one may be added there is room for it
+pub room-left : (limit : ℕ) (n : Negotiation) (pending : Bool) (now round : ℕ) → first (negotiable limit n pending now round) ≡ 0 → leb limit (n .len) ≡ false
+room-left limit n pending now round e = passed _ _ _ (passed _ _ _ (passed _ _ _ (passed _ _ _ e .1) .1) .1) .0
+
+round-kept : (now window : ℕ) (t : Terms) (party : ℕ) {d : Deal} → leb party 1 ≡ true → termsOk t ≡ true → leb roundLimit (d .negotiation .len) ≡ false → DealKept d
+    → DealKept (record { offer = d .offer; negotiation = addedOf roundLimit (d .negotiation) (roundOf now t party) window; schedule = d .schedule })
+round-kept now window t party {d} l k room h =
+    let n = d .negotiation in
+    negotiation-kept h (addedOf roundLimit n (roundOf now t party) window)
+    (added-sound roundLimit n (h .whole) room (roundOf now t party) window (round-sound now t party l k) (kept-ranges h .rounds-in))
+    (added-whole roundLimit n (h .whole) room (roundOf now t party) window)
+
+pub amended-kept : (s : SeenDeal) (now caller : ℕ) (lender : Account) (t : Terms) (round window : ℕ)
+    → DealKept (s .row) → first (amendChecks s now caller lender t round) ≡ 0 → DealKept (amendedDeal now window t (s .row))
+unfolding amendedDeal
+amended-kept s now caller lender t round window h e =
+    let a = passed _ _ _ (passed _ _ _ e .1) in
+    let k = not-false (termsOk t) (a .0) in
+    let room = room-left roundLimit (s .row .negotiation) (pending (s .row)) now round (passed _ _ _ (passed _ _ _ (a .1) .1) .1) in
+    let r = kept-ranges h in
+    round-kept now window t 0 refl k room (offer-kept h (withTerms t (s .row .offer)) k (r .repaid-in) (r .status-in))
+
+pub countered-kept : (s : SeenDeal) (now caller : ℕ) (originator : Account) (t : Terms) (round : ℕ) (paper : SeenInvoice) (window : ℕ)
+    → DealKept (s .row) → first (counterChecks s now caller originator t round paper) ≡ 0 → DealKept (counteredDeal now window t (s .row))
+unfolding counteredDeal
+countered-kept s now caller originator t round paper window h e =
+    let a = passed _ _ _ (passed _ _ _ e .1) in
+    let k = not-false (termsOk t) (a .0) in
+    let room = room-left roundLimit (s .row .negotiation) (pending (s .row)) now round (passed _ _ _ (passed _ _ _ (passed _ _ _ (a .1) .1) .1) .1) in
+    round-kept now window t 1 refl k room h
+
+-- ── Rules ─────────────────────────────────────────────────────────
+-- a rule keeps a row sound where its checks pass
+abbrev pub Keeps : Deal → Rule Deal → Type 0
+Keeps d u = DealKept d → first (u .checks) ≡ 0 → DealKept (u .done)
+
+-- so the row is sound after it
+pub after-kept : (d : Deal) (u : Rule Deal) → Keeps d u → DealKept d → DealKept (after d u)
+unfolding after
+after-kept d u k h = go (eqb (first (u .checks)) 0) refl
+  where
+    go : (t : Bool) → eqb (first (u .checks)) 0 ≡ t → DealKept (pick (eqb (first (u .checks)) 0) (u .done) d)
+    go true e = rw (pick-on (u .done) d e) (k h (eqb-true _ _ e))
+    go false e = rw (pick-off (u .done) d e) h
+
+rejected-kept : (d : Deal) → DealKept d → DealKept (record { offer = withStatus 2 (d .offer); negotiation = d .negotiation; schedule = d .schedule })
+rejected-kept d h = let r = kept-ranges h in offer-kept h (withStatus 2 (d .offer)) (r .terms-in) (r .repaid-in) refl
+
+pub withdraw-keeps : (s : SeenDeal) (caller : ℕ) → Keeps (s .row) (withdrawOf s caller)
+withdraw-keeps s caller h e = rejected-kept (s .row) h
+
+pub reject-keeps : (s : SeenDeal) (caller : ℕ) (paper : SeenInvoice) → Keeps (s .row) (rejectOf s caller paper)
+reject-keeps s caller paper h e = rejected-kept (s .row) h
+
+-- what a close stores can be stored
+outcome-stored : (status : ℕ) → stored (outcomeAt status) ≡ true
+unfolding outcomeAt pick
+outcome-stored status = go (eqb status 4)
+  where
+    go : (b : Bool) → stored (pick b 4 2) ≡ true
+    go true = refl
+    go false = refl
+
+pub close-keeps : (s : SeenDeal) (now caller : ℕ) (paper : SeenInvoice) → Keeps (s .row) (closeOf s now caller paper)
+close-keeps s now caller paper h e =
+    let n = s .row .negotiation in
+    let o = outcomeAt (standing s now) in
+    negotiation-kept h (closedAs o n) (closed-sound roundLimit o n (outcome-stored (standing s now)) (kept-ranges h .rounds-in)) (closed-whole roundLimit o n (h .whole))
+
+-- an installment that is not 0, of valid terms
+stored-installment : (t : Terms) (count : ℕ) → termsOk t ≡ true → countOk count ≡ true → isZero (installmentOf t count .1) ≡ false
+    → inInstallment (installmentOf t count .1) ≡ true
+stored-installment t count h k z =
+    let v = ap (λ (q : ℕ × ℤ). q .1) (installment-valid t count h k) in
+    ap inInstallment v ∙ installment-in t count (terms-in t h) (ap isZero (sym v) ∙ z)
+
+pub schedule-keeps : (s : SeenDeal) (now caller count code first : ℕ) (paper : SeenInvoice) → Keeps (s .row) (scheduleOf s now caller count code first paper)
+schedule-keeps s now caller count code first paper h e =
+    let t = s .row .offer .terms in
+    let a = passed _ _ _ e in
+    let b = passed _ _ _ (passed _ _ _ (a .1) .1) in
+    let z = passed _ _ _ (passed _ _ _ (passed _ _ _ (passed _ _ _ (passed _ _ _ (b .1) .1) .1) .1) .1) in
+    let k = not-false (countOk count) (a .0) in
+    let x = stored-installment t count (kept-ranges h .terms-in) k (z .0) in
+    let made : Schedule = record { count = count; code = code; installment = installmentOf t count .1; first = first } in
+    schedule-kept h made (made-ok made k (not-false (listed code) (b .0)) x)
+
+pub status-update-keeps : (s : SeenDeal) (allowed : Bool) (code : ℕ) → Keeps (s .row) (statusUpdateOf s allowed code)
+status-update-keeps s allowed code h e =
+    let r = kept-ranges h in
+    let l = ltb-false 5 code (passed _ _ _ (passed _ _ _ e .1) .0) in
+    offer-kept h (withStatus code (s .row .offer)) (r .terms-in) (r .repaid-in) (le-leb code 5 l)
+
+pub repaid-update-keeps : (s : SeenDeal) (allowed : Bool) (x : ℤ) → Keeps (s .row) (repaidUpdateOf s allowed x)
+repaid-update-keeps s allowed x h e =
+    let r = kept-ranges h in
+    let l = not-false (inTotal x) (passed _ _ _ (passed _ _ _ (passed _ _ _ e .1) .1) .0) in
+    offer-kept h (withRepaid x (s .row .offer)) (r .terms-in) l (r .status-in)

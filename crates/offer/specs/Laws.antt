@@ -1,0 +1,125 @@
+-- What the crates above need of offers' rows: which row is zero, what a sound row holds, and that a new one, and one with a part put anew, is sound. Assumes nothing.
+use Prim.Native.Nat.{ℕ}
+use mathlib.Core.Path.{_≡_, refl}
+use mathlib.Core.Bool.{Bool, true, false, _||_}
+use lib.Dec.{leb}
+use lib.IntN.{pos}
+use borrow.Author.Tests.{eqb-true}
+use Rattle.money.specs.Range.{inTotal}
+use Rattle.money.specs.Facts.{both, zero-is}
+use Rattle.terms.specs.Terms.{termsOk}
+use Rattle.terms.specs.Schedule.{scheduleOk, scheduleZero}
+use Rattle.terms.specs.declared.Terms.{Terms}
+use Rattle.terms.specs.declared.Schedule.{Schedule}
+use Rattle.negotiation.specs.Rounds.{roundLimit, noNegotiation, negotiationSound}
+use Rattle.negotiation.specs.Whole.{Whole}
+use Rattle.negotiation.specs.Laws.{negotiation-zero, none-zero, none-sound, none-whole}
+use Rattle.negotiation.specs.declared.Negotiation.{Negotiation}
+use Rattle.offer.specs.declared.Offer.{Offer}
+use Rattle.offer.specs.declared.Deal.{Deal}
+use Rattle.offer.specs.Offer.{noOffer, noSchedule, noDeal, newDeal, withOffer, withNegotiation, withSchedule, dealSound, offerZero, dealZero}
+
+-- ── Zero rows ─────────────────────────────────────────────────────
+no-schedule : (s : Schedule) → s .count ≡ 0 → s .code ≡ 0 → s .installment ≡ pos 0 → s .first ≡ 0 → s ≡ noSchedule
+no-schedule s n k x f i = record { count = n i; code = k i; installment = x i; first = f i }
+
+pub schedule-zero : (s : Schedule) → scheduleZero s ≡ true → s ≡ noSchedule
+unfolding scheduleZero
+schedule-zero s e =
+    let c = both _ _ e in
+    let b = both _ _ (c .0) in
+    let a = both _ _ (b .0) in
+    no-schedule s (eqb-true _ _ (a .0)) (eqb-true _ _ (a .1)) (zero-is _ (b .1)) (eqb-true _ _ (c .1))
+
+no-offer : (o : Offer) → o .terms .amount ≡ pos 0 → o .terms .rate ≡ 0 → o .terms .duration ≡ 0 → o .invoice ≡ 0 → o .lender ≡ 0 → o .expires ≡ 0
+    → o .funded ≡ 0 → o .repaid ≡ pos 0 → o .status ≡ 0 → o ≡ noOffer
+no-offer o a p q n l e f b s i = record {
+  terms = record { amount = a i; rate = p i; duration = q i };
+  invoice = n i;
+  lender = l i;
+  expires = e i;
+  funded = f i;
+  repaid = b i;
+  status = s i;
+}
+
+pub offer-zero : (o : Offer) → offerZero o ≡ true → o ≡ noOffer
+unfolding offerZero
+offer-zero o z =
+    let s = both _ _ z in
+    let b = both _ _ (s .0) in
+    let f = both _ _ (b .0) in
+    let e = both _ _ (f .0) in
+    let l = both _ _ (e .0) in
+    let n = both _ _ (l .0) in
+    let q = both _ _ (n .0) in
+    let a = both _ _ (q .0) in
+    no-offer o (zero-is _ (a .0)) (eqb-true _ _ (a .1)) (eqb-true _ _ (q .1)) (eqb-true _ _ (n .1)) (eqb-true _ _ (l .1)) (eqb-true _ _ (e .1))
+    (eqb-true _ _ (f .1)) (zero-is _ (b .1)) (eqb-true _ _ (s .1))
+
+parts : (d : Deal) → d .offer ≡ noOffer → d .negotiation ≡ noNegotiation → d .schedule ≡ noSchedule → d ≡ noDeal
+parts d o n s i = record { offer = o i; negotiation = n i; schedule = s i }
+
+-- a zero row is the row of no offer, and that one is zero
+pub deal-zero : (d : Deal) → Whole roundLimit (d .negotiation) → dealZero d ≡ true → d ≡ noDeal
+unfolding dealZero
+deal-zero d w e =
+    let b = both _ _ e in
+    let a = both _ _ (b .0) in
+    parts d (offer-zero (d .offer) (a .0)) (negotiation-zero (d .negotiation) w (a .1)) (schedule-zero (d .schedule) (b .1))
+
+pub no-deal-zero : dealZero noDeal ≡ true
+unfolding dealZero offerZero scheduleZero
+no-deal-zero = rw none-zero
+
+-- ── Sound rows ────────────────────────────────────────────────────
+-- a row passes the test, and its negotiation has room for all its rounds
+pub record DealKept (d : Deal) : Type 0 where
+  pub test : dealSound d ≡ true
+  pub whole : Whole roundLimit (d .negotiation)
+
+-- what that says of each part
+pub record Ranges (d : Deal) : Type 0 where
+  pub terms-in : termsOk (d .offer .terms) ≡ true
+  pub repaid-in : inTotal (d .offer .repaid) ≡ true
+  pub status-in : leb (d .offer .status) 5 ≡ true
+  pub rounds-in : negotiationSound roundLimit (d .negotiation) ≡ true
+  pub schedule-in : scheduleZero (d .schedule) || scheduleOk (d .schedule) ≡ true
+
+pub kept-ranges : {d : Deal} → DealKept d → Ranges d
+unfolding dealSound
+kept-ranges {d} h =
+    let e = both _ _ (h .test) in
+    let c = both _ _ (e .0) in
+    let b = both _ _ (c .0) in
+    let a = both _ _ (b .0) in
+    record { terms-in = a .0; repaid-in = a .1; status-in = b .1; rounds-in = c .1; schedule-in = e .1 }
+
+pub ranges-kept : {d : Deal} → Ranges d → Whole roundLimit (d .negotiation) → DealKept d
+unfolding dealSound
+ranges-kept {d} r w = record { test = rw (r .terms-in, r .repaid-in, r .status-in, r .rounds-in, r .schedule-in); whole = w }
+
+-- a new offer of valid terms
+pub new-kept : (lender invoice : ℕ) (t : Terms) (expires : ℕ) → termsOk t ≡ true → DealKept (newDeal lender invoice t expires)
+unfolding scheduleZero
+new-kept lender invoice t expires h = ranges-kept (record { terms-in = h; repaid-in = refl; status-in = refl; rounds-in = none-sound; schedule-in = refl }) none-whole
+
+module _ {d : Deal} (h : DealKept d) where
+  pub offer-kept : (o : Offer) → termsOk (o .terms) ≡ true → inTotal (o .repaid) ≡ true → leb (o .status) 5 ≡ true → DealKept (withOffer o d)
+  offer-kept o a b s =
+      let r = kept-ranges h in
+      ranges-kept (record { terms-in = a; repaid-in = b; status-in = s; rounds-in = r .rounds-in; schedule-in = r .schedule-in }) (h .whole)
+
+  pub negotiation-kept : (n : Negotiation) → negotiationSound roundLimit n ≡ true → Whole roundLimit n → DealKept (withNegotiation n d)
+  negotiation-kept n s w =
+      let r = kept-ranges h in
+      ranges-kept (record { terms-in = r .terms-in; repaid-in = r .repaid-in; status-in = r .status-in; rounds-in = s; schedule-in = r .schedule-in }) w
+
+  pub schedule-kept : (s : Schedule) → scheduleOk s ≡ true → DealKept (withSchedule s d)
+  schedule-kept s e =
+      let r = kept-ranges h in
+      ranges-kept (record { terms-in = r .terms-in; repaid-in = r .repaid-in; status-in = r .status-in; rounds-in = r .rounds-in; schedule-in = either (scheduleZero s) }) (h .whole)
+    where
+      either : (b : Bool) → b || scheduleOk s ≡ true
+      either true = refl
+      either false = e

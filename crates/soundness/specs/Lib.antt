@@ -1,0 +1,4 @@
+pub mod Sound
+pub mod Parts
+pub mod Keeps
+pub mod Session

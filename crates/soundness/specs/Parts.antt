@@ -1,0 +1,114 @@
+-- Rows put anew and settlement leave a sound model sound
+use Prim.Native.Nat.{ℕ}
+use mathlib.Core.Path.{_≡_, refl, sym, ap, _∙_}
+use mathlib.Core.Bool.{Bool, true, false}
+use mathlib.Core.List.{List, [], _∷_, _++_}
+use lib.IntN.{ℤ}
+use lib.Dec.{eqb}
+use borrow.Author.Tests.{not-false, eqb-true}
+use Rattle.refusal.specs.Choice.{pick, pick-on, pick-off}
+use Rattle.refusal.specs.Refusal.{first}
+use Rattle.refusal.specs.Rule.{Rule, after, passed, both-pass}
+use Rattle.money.specs.Range.{inAmount}
+use Rattle.table.specs.Tables.{Found, absent, here, Table, find, adjust, full}
+use Rattle.table.specs.Sound.{All, all-insert}
+use Rattle.terms.specs.Terms.{termsOk}
+use Rattle.terms.specs.declared.Terms.{Terms}
+use Rattle.account.specs.Account.{noAccount, accountSound}
+use Rattle.account.specs.declared.Account.{Account}
+use Rattle.account.specs.Rules.{debitOf, creditOf, acceptOf, offerOf, reofferOf}
+use Rattle.account.specs.Laws as Account
+use Rattle.invoice.specs.Invoice.{invoiceOf, invoiceSound}
+use Rattle.invoice.specs.declared.Invoice.{Invoice}
+use Rattle.invoice.specs.Laws as Invoice
+use Rattle.offer.specs.declared.Deal.{Deal}
+use Rattle.offer.specs.Offer.{newDeal}
+use Rattle.offer.specs.Rules.{createChecks, acceptChecks, amendChecks, counterChecks, agreementChecks}
+use Rattle.offer.specs.Laws.{DealKept, new-kept}
+use Rattle.offer.specs.Kept as Deal
+use Rattle.settings.specs.declared.Settings.{Settings}
+use Rattle.settings.specs.declared.Totals.{Totals}
+use Rattle.settings.specs.Settings.{settingsSound, adminPasses, isRepayer}
+use Rattle.settings.specs.Totals.{totalsSound}
+use Rattle.settings.specs.Laws as Settings
+use Rattle.shelves.specs.Accounts.{seenAccount, seenAt, onRow, settleAccounts}
+use Rattle.shelves.specs.Invoices.{seenInvoice}
+use Rattle.shelves.specs.Offers.{seenDeal}
+use Rattle.command.specs.declared.Command.{Command}
+use Rattle.command.specs.declared.Command.the-variants.{OpenAccount, Deposit, Payout, Approve, RegisterInvoice, CancelInvoice, CreateOffer, WithdrawOffer, AcceptOffer, RejectOffer, AmendOffer, CounterOffer, CloseNegotiation, ScheduleRepayment, UpdateStatus, UpdateRepaid, UpdateLenderRepaid, UpdateTotalsRepaid, Pause, Unpause, SetWindow, SetRepaymentAccount, SetBlacklisted, SetSeats}
+use Rattle.book.specs.Model.{Model, withAccounts, withInvoices, withOffers, withTotals, withSettings, accountIn, invoiceIn, offerIn, paperOf, onAccount, onInvoice, onOffer, onTotals, onSettings}
+use Rattle.book.specs.Rules.{gateChecks, opening, registering, creating, settling, concluding, agreeing, termsIn, lenderOf, originatorOf, amendedIn, counteredIn, amending, countering, rule, commanded}
+use Rattle.book.specs.Fitting.{fits-opened, fits-registered, fits-created, fits-settled}
+use Rattle.book.specs.Shelving.{Fits, tidy-adjust}
+use Rattle.soundness.specs.Sound.{ModelSound, put-sound}
+
+abbrev pub Good : Table Account → Type 0
+Good t = All (λ r. accountSound r ≡ true) t
+
+-- ── Rows put anew, in each table ──────────────────────────────────
+pub account-put : (t : Table Account) (a : ℕ) (x : Account) → Good t → (accountSound (seenAccount (find t a) .row) ≡ true → accountSound x ≡ true) → Good (adjust t a (λ old. x))
+account-put t a x = put-sound (λ r. accountSound r ≡ true) (λ o. seenAccount o .row) (λ r. refl) t a x
+
+pub invoice-put : (t : Table Invoice) (i : ℕ) (x : Invoice) → All (λ r. invoiceSound r ≡ true) t → (invoiceSound (seenInvoice (find t i) .row) ≡ true → invoiceSound x ≡ true)
+    → All (λ r. invoiceSound r ≡ true) (adjust t i (λ old. x))
+invoice-put t i x = put-sound (λ r. invoiceSound r ≡ true) (λ o. seenInvoice o .row) (λ r. refl) t i x
+
+pub deal-put : (t : Table Deal) (o : ℕ) (x : Deal) → All DealKept t → (DealKept (seenDeal (find t o) .row) → DealKept x) → All DealKept (adjust t o (λ old. x))
+deal-put t o x = put-sound DealKept (λ o. seenDeal o .row) (λ r. refl) t o x
+
+on-row : (a : ℕ) (f : Account → Rule Account) (t : Table Account) → ((r : Account) → Account.Keeps r (f r)) → Good t → first (onRow a f t .checks) ≡ 0 → Good (onRow a f t .done)
+on-row a f t k g e = account-put t a (f (seenAt t a .row) .done) g (λ s. k (seenAt t a .row) s (passed _ _ _ e .1))
+
+-- settlement's transfer
+moved-sound : (t : Table Account) (lender originator : ℕ) (x : Terms) → Good t → first (settleAccounts t lender originator x .checks) ≡ 0 → Good (settleAccounts t lender originator x .done)
+moved-sound t lender originator x g e =
+    let u = onRow lender (λ r. debitOf r x) t .done in
+    let v = onRow originator (λ r. creditOf r x) u .done in
+    let p = both-pass (onRow lender (λ r. debitOf r x) t .checks) _ e in
+    let q = both-pass (onRow originator (λ r. creditOf r x) u .checks) _ (p .1) in
+    on-row lender (λ r. acceptOf r x) v (λ r. Account.accept-keeps r x)
+    (on-row originator (λ r. creditOf r x) u (λ r. Account.credit-keeps r x)
+    (on-row lender (λ r. debitOf r x) t (λ r. Account.debit-keeps r x) g (p .0))
+    (q .0))
+    (q .1)
+
+module _ {m : Model} (s : ModelSound m) where
+  pub settled-sound : (now o : ℕ) → first (settling now o m .checks) ≡ 0 → ModelSound (settling now o m .done)
+  unfolding settling
+  settled-sound now o e =
+      let p = both-pass (settleAccounts (m .accounts) (lenderOf m o) (originatorOf m o) (termsIn m o) .checks) _ e in
+      record {
+        fits = fits-settled (s .fits) now o;
+        accounts = moved-sound (m .accounts) (lenderOf m o) (originatorOf m o) (termsIn m o) (s .accounts) (p .0);
+        invoices = invoice-put (m .invoices) _ _ (s .invoices) (λ z. Invoice.status-sound 1 (paperOf m o .row) refl z);
+        offers = deal-put (m .offers) o _ (s .offers) (λ z. Deal.settled-kept now (offerIn m o .row) z);
+        totals = Settings.finance-keeps (m .totals) (termsIn m o) (s .totals) (p .1);
+        settings = s .settings;
+      }
+
+  concluded-sound : (now o : ℕ) → first (concluding now o m .checks) ≡ 0 → ModelSound (concluding now o m .done)
+  unfolding concluding
+  concluded-sound now o e =
+      settled-sound now o (both-pass (agreementChecks (offerIn m o .row) now (paperOf m o) (accountIn m (lenderOf m o)) (accountIn m (originatorOf m o))) (settling now o m .checks) e .1)
+
+  pub agreed-sound : (agreed : Bool) (now o : ℕ) → first (agreeing agreed now o m .checks) ≡ 0 → ModelSound (agreeing agreed now o m .done)
+  unfolding agreeing pick
+  agreed-sound true now o e = concluded-sound now o e
+  agreed-sound false now o e = s
+
+  -- a part put anew
+  pub with-accounts : (t : Table Account) → Good t → Fits (withAccounts t m) → ModelSound (withAccounts t m)
+  with-accounts t g f = record { fits = f; accounts = g; invoices = s .invoices; offers = s .offers; totals = s .totals; settings = s .settings }
+
+  pub with-invoices : (t : Table Invoice) → All (λ r. invoiceSound r ≡ true) t → Fits (withInvoices t m) → ModelSound (withInvoices t m)
+  with-invoices t g f = record { fits = f; accounts = s .accounts; invoices = g; offers = s .offers; totals = s .totals; settings = s .settings }
+
+  pub with-offers : (t : Table Deal) → All DealKept t → Fits (withOffers t m) → ModelSound (withOffers t m)
+  with-offers t g f = record { fits = f; accounts = s .accounts; invoices = s .invoices; offers = g; totals = s .totals; settings = s .settings }
+
+  pub with-totals : (t : Totals) → totalsSound t ≡ true → ModelSound (withTotals t m)
+  with-totals t g = record { fits = record { accounts = s .fits .accounts; invoices = s .fits .invoices; offers = s .fits .offers }; accounts = s .accounts; invoices = s .invoices; offers = s .offers; totals = g; settings = s .settings }
+
+  pub with-settings : (t : Settings) → settingsSound t ≡ true → ModelSound (withSettings t m)
+  with-settings t g = record { fits = record { accounts = s .fits .accounts; invoices = s .fits .invoices; offers = s .fits .offers }; accounts = s .accounts; invoices = s .invoices; offers = s .offers; totals = s .totals; settings = g }
+

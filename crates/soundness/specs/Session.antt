@@ -1,0 +1,66 @@
+-- Document 01's session of ten commands, computed on the definitions: its answers and the figures it leaves
+use Prim.Native.Nat.{ℕ}
+use mathlib.Core.Path.{_≡_, refl}
+use mathlib.Core.List.{List, [], _∷_}
+use lib.IntN.{ℤ, pos}
+use Rattle.refusal.specs.Choice.{pick}
+use Rattle.refusal.specs.Refusal.{first}
+use Rattle.refusal.specs.Rule.{after}
+use Rattle.money.specs.Range.{inAmount}
+use Rattle.table.specs.Tables.{find, adjust, insert}
+use Rattle.terms.specs.Terms.{termsOk, sameTerms}
+use Rattle.terms.specs.declared.Terms.{Terms}
+use Rattle.negotiation.specs.Rounds.{deadlineOf, statusOf, addedOf, acceptedOf, latestBelow, matches, agreesOf}
+use Rattle.account.specs.declared.Account.{Account}
+use Rattle.offer.specs.Offer.{expired, settledDeal, amendedDeal, counteredDeal}
+use Rattle.command.specs.Caller.{callerOf, stoppedByPause}
+use Rattle.command.specs.declared.Command.{Command}
+use Rattle.command.specs.declared.Command.the-variants.{OpenAccount, Deposit, Approve, RegisterInvoice, CreateOffer, AcceptOffer, AmendOffer, CounterOffer}
+use Rattle.book.specs.Model.{Model, freshModel, accountIn}
+use Rattle.book.specs.Rules.{unknown, settling, concluding, agreeing, rule, commanded}
+
+unfoldable pub answersOf : Model → List Command → List ℕ
+answersOf m [] = []
+answersOf m (c ∷ cs) = first (commanded m c .checks) ∷ answersOf (after m (commanded m c)) cs
+
+unfoldable pub leaves : Model → List Command → Model
+leaves m [] = m
+leaves m (c ∷ cs) = leaves (after m (commanded m c)) cs
+
+abbrev terms : ℕ → Terms
+terms x = record { amount = pos x; rate = 500; duration = 86400 }
+
+-- all at time 100: open 1; open 2; 1 deposits 5000; 1 approves 5000; 2 registers invoice 10, 2000; 1 creates 20; 2 counters 900; 1 amends the same, round 0; again, round 1; 2 accepts
+unfoldable pub session : List Command
+session =
+    OpenAccount 100 1
+    ∷ OpenAccount 100 2
+    ∷ Deposit 100 1 (pos 5000)
+    ∷ Approve 100 1 (pos 5000)
+    ∷ RegisterInvoice 100 2 10 (pos 2000)
+    ∷ CreateOffer 100 1 20 10 (terms 1000) 0
+    ∷ CounterOffer 100 2 20 (terms 900) 0
+    ∷ AmendOffer 100 1 20 (terms 900) 0
+    ∷ AmendOffer 100 1 20 (terms 900) 1
+    ∷ AcceptOffer 100 2 20
+    ∷ []
+
+pub session-answers : answersOf freshModel session ≡ 0 ∷ 0 ∷ 0 ∷ 0 ∷ 0 ∷ 0 ∷ 0 ∷ 3 ∷ 0 ∷ 7 ∷ []
+unfolding answersOf session pick first after find adjust insert termsOk sameTerms deadlineOf statusOf addedOf acceptedOf latestBelow matches agreesOf expired settledDeal amendedDeal counteredDeal callerOf stoppedByPause unknown settling concluding agreeing rule
+session-answers = refl
+
+-- balance, allowance, offered, accepted
+abbrev figures : Model → ℕ → List ℤ
+figures m a = accountIn m a .row .balance ∷ accountIn m a .row .allowance ∷ accountIn m a .row .offered ∷ accountIn m a .row .accepted ∷ []
+
+pub session-lender : figures (leaves freshModel session) 1 ≡ pos 4100 ∷ pos 4100 ∷ pos 900 ∷ pos 900 ∷ []
+unfolding leaves session pick first after find adjust insert termsOk sameTerms deadlineOf statusOf addedOf acceptedOf latestBelow matches agreesOf expired settledDeal amendedDeal counteredDeal callerOf stoppedByPause unknown settling concluding agreeing rule
+session-lender = refl
+
+pub session-originator : figures (leaves freshModel session) 2 ≡ pos 900 ∷ pos 0 ∷ pos 0 ∷ pos 0 ∷ []
+unfolding leaves session pick first after find adjust insert termsOk sameTerms deadlineOf statusOf addedOf acceptedOf latestBelow matches agreesOf expired settledDeal amendedDeal counteredDeal callerOf stoppedByPause unknown settling concluding agreeing rule
+session-originator = refl
+
+pub session-totals : leaves freshModel session .totals ≡ record { financed = pos 900; repaid = pos 0; fees = pos 0; offers = 1 }
+unfolding leaves session pick first after find adjust insert termsOk sameTerms deadlineOf statusOf addedOf acceptedOf latestBelow matches agreesOf expired settledDeal amendedDeal counteredDeal callerOf stoppedByPause unknown settling concluding agreeing rule
+session-totals = refl

@@ -1,0 +1,1 @@
+// That every command leaves a sound book sound: specs/Keeps.antt.
