@@ -1,0 +1,3 @@
+pub mod Replay
+pub mod Text
+pub mod Ahead
