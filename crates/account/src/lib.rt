@@ -1,7 +1,10 @@
 use terms::Terms;
 ghost use mathlib.Core.Path.{_≡_};
+ghost use lib.IntN.{_-ℤ_};
+ghost use Rattle.money.specs.Range.{movedOf};
 ghost use Rattle.refusal.specs.Rule.{answered};
 ghost use Rattle.account.specs.Account.{noAccount, accountSound, accountZero};
+ghost use Rattle.account.specs.Post.{withOffered, postedTo};
 ghost use Rattle.account.specs.Rules.{posted, depositOf, payoutOf, approveOf, offerOf, reofferOf, debitOf, creditOf, acceptOf, lenderRepaidOf, blacklistOf};
 
 pub const COUNT_LIMIT: u32 = 1000000;
@@ -27,6 +30,31 @@ pub struct SeenAccount {
 pub struct AccountPosted {
     pub answer: u64,
     pub row: Account,
+}
+
+// What comes of posting to a row: the row with its new total, or as it was where the posting is refused.
+struct MovedAccount {
+    pub ok: bool,
+    pub row: Account,
+}
+
+// The row's offered total moves in place by the new amount minus the old, with its sign, and no other field changes. Where the
+// posting is refused the total stays too.
+pub fn post(row: &mut Account, old: i64, new: i64) -> bool
+    ensures { λ r. ⌜ (r ≡ movedOf (now (row .entry) .offered) (new -ℤ old) .ok)
+        × (now (row .exit) ≡ withOffered (now (row .entry)) (movedOf (now (row .entry) .offered) (new -ℤ old) .total)) ⌝ }
+{
+    let m = money::change(row.offered, old, new);
+    row.offered = m.total;
+    m.ok
+}
+
+// The same of a row by value, which is lent for the posting: whoever calls it needs no reference.
+fn posted_to(mut row: Account, old: i64, new: i64) -> MovedAccount
+    ensures { λ r. ⌜ r ≡ postedTo row (new -ℤ old) ⌝ }
+{
+    let ok = post(&mut row, old, new);
+    MovedAccount { ok: ok, row: row }
 }
 
 impl Account {
@@ -158,20 +186,20 @@ impl Account {
     }
 
     // An amended offer: the offered total moves by the new amount minus the old.
-    pub fn reoffer(mut self, old: Terms, new: Terms) -> AccountPosted
+    pub fn reoffer(self, old: Terms, new: Terms) -> AccountPosted
         ensures { λ r. ⌜ r ≡ answered posted self (reofferOf self old new) ⌝ }
     {
-        let m = money::change(self.offered, old.amount, new.amount);
+        let m = posted_to(self, old.amount, new.amount);
         if !m.ok {
             return AccountPosted {
                 answer: refusal::OUT_OF_RANGE,
                 row: self,
             };
         }
-        self.offered = m.total;
+        let row = m.row;
         AccountPosted {
             answer: 0,
-            row: self,
+            row: row,
         }
     }
 

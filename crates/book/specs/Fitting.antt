@@ -25,7 +25,8 @@ use Rattle.command.specs.declared.Command.{Command}
 use Rattle.command.specs.declared.Command.the-variants.{OpenAccount, Deposit, Payout, Approve, RegisterInvoice, CancelInvoice, CreateOffer, WithdrawOffer, AcceptOffer, RejectOffer, AmendOffer, CounterOffer, CloseNegotiation, ScheduleRepayment, UpdateStatus, UpdateRepaid, UpdateLenderRepaid, UpdateTotalsRepaid, Pause, Unpause, SetWindow, SetRepaymentAccount, SetBlacklisted, SetSeats}
 use Rattle.book.specs.Model.{Model, withAccounts, withInvoices, withOffers}
 use Rattle.book.specs.Rules.{gateChecks, opening, registering, creating, settling, concluding, agreeing, rule, commanded}
-use Rattle.book.specs.Shelving.{Tidy, tidy-adjust, tidy-insert, Fits}
+use Rattle.table.specs.Keeping.{Fine, fine-adjust, fine-insert}
+use Rattle.book.specs.Shelving.{Fits}
 
 -- a row that is not seen is absent
 pub unseen-account : (o : Found Account) → seenAccount o .here ≡ false → o ≡ absent
@@ -44,21 +45,21 @@ pub has-room : {A : Type 0} (t : Table A) (i : ℕ) → full 64 t ≡ false → 
 has-room t i f e = record { small = leb-false 64 (length t) f; new = e }
 
 module _ {m : Model} (f : Fits m) where
-  fits-accounts : {t : Table Account} → Tidy t → Fits (withAccounts t m)
+  fits-accounts : {t : Table Account} → Fine 64 t → Fits (withAccounts t m)
   fits-accounts y = record { accounts = y; invoices = f .invoices; offers = f .offers }
 
-  fits-invoices : {t : Table Invoice} → Tidy t → Fits (withInvoices t m)
+  fits-invoices : {t : Table Invoice} → Fine 64 t → Fits (withInvoices t m)
   fits-invoices y = record { accounts = f .accounts; invoices = y; offers = f .offers }
 
-  fits-offers : {t : Table Deal} → Tidy t → Fits (withOffers t m)
+  fits-offers : {t : Table Deal} → Fine 64 t → Fits (withOffers t m)
   fits-offers y = record { accounts = f .accounts; invoices = f .invoices; offers = y }
 
   pub fits-settled : (now o : ℕ) → Fits (settling now o m .done)
   unfolding settling
   fits-settled now o = record {
-    accounts = tidy-adjust (tidy-adjust (tidy-adjust (f .accounts) _ _) _ _) _ _;
-    invoices = tidy-adjust (f .invoices) _ _;
-    offers = tidy-adjust (f .offers) _ _;
+    accounts = fine-adjust (fine-adjust (fine-adjust (f .accounts) _ _) _ _) _ _;
+    invoices = fine-adjust (f .invoices) _ _;
+    offers = fine-adjust (f .offers) _ _;
   }
 
   fits-concluded : (now o : ℕ) → Fits (concluding now o m .done)
@@ -74,13 +75,13 @@ module _ {m : Model} (f : Fits m) where
   fits-opened a e =
       let p = passed _ _ _ e in
       let q = passed _ _ _ (p .1) in
-      fits-accounts (tidy-insert (f .accounts) a _ (has-room (m .accounts) a (q .0) (unseen-account (find (m .accounts) a) (p .0))))
+      fits-accounts (fine-insert (f .accounts) (has-room (m .accounts) a (q .0) (unseen-account (find (m .accounts) a) (p .0))) _)
 
   pub fits-registered : (a i : ℕ) (x : ℤ) → first (registering m a i x .checks) ≡ 0 → Fits (registering m a i x .done)
   fits-registered a i x e =
       let p = passed _ _ _ (passed _ _ _ e .1) in
       let q = passed _ _ _ (p .1) in
-      fits-invoices (tidy-insert (f .invoices) i _ (has-room (m .invoices) i (q .0) (unseen-invoice (find (m .invoices) i) (p .0))))
+      fits-invoices (fine-insert (f .invoices) (has-room (m .invoices) i (q .0) (unseen-invoice (find (m .invoices) i) (p .0))) _)
 
   pub fits-created : (a o i : ℕ) (t : Terms) (e : ℕ) → first (creating m a o i t e .checks) ≡ 0 → Fits (creating m a o i t e .done)
   fits-created a o i t e h =
@@ -88,37 +89,37 @@ module _ {m : Model} (f : Fits m) where
       let q = passed _ _ _ (p .1) in
       let r = passed _ _ _ (q .1) in
       record {
-        accounts = tidy-adjust (f .accounts) _ _;
+        accounts = fine-adjust (f .accounts) _ _;
         invoices = f .invoices;
-        offers = tidy-insert (f .offers) o _ (has-room (m .offers) o (r .0) (unseen-deal (find (m .offers) o) (q .0)));
+        offers = fine-insert (f .offers) (has-room (m .offers) o (r .0) (unseen-deal (find (m .offers) o) (q .0))) _;
       }
 
 module _ {m : Model} (f : Fits m) where
   fits-ruled : (c : Command) → first (rule m c .checks) ≡ 0 → Fits (rule m c .done)
   unfolding rule
   fits-ruled (OpenAccount now a) e = fits-opened f a e
-  fits-ruled (Deposit now a x) e = fits-accounts f (tidy-adjust (f .accounts) _ _)
-  fits-ruled (Payout now a x) e = fits-accounts f (tidy-adjust (f .accounts) _ _)
-  fits-ruled (Approve now a x) e = fits-accounts f (tidy-adjust (f .accounts) _ _)
+  fits-ruled (Deposit now a x) e = fits-accounts f (fine-adjust (f .accounts) _ _)
+  fits-ruled (Payout now a x) e = fits-accounts f (fine-adjust (f .accounts) _ _)
+  fits-ruled (Approve now a x) e = fits-accounts f (fine-adjust (f .accounts) _ _)
   fits-ruled (RegisterInvoice now a i x) e = fits-registered f a i x e
-  fits-ruled (CancelInvoice now a i) e = fits-invoices f (tidy-adjust (f .invoices) _ _)
+  fits-ruled (CancelInvoice now a i) e = fits-invoices f (fine-adjust (f .invoices) _ _)
   fits-ruled (CreateOffer now a o i t x) e = fits-created f a o i t x e
-  fits-ruled (WithdrawOffer now a o) e = fits-offers f (tidy-adjust (f .offers) _ _)
+  fits-ruled (WithdrawOffer now a o) e = fits-offers f (fine-adjust (f .offers) _ _)
   fits-ruled (AcceptOffer now a o) e = fits-settled f now o
-  fits-ruled (RejectOffer now a o) e = fits-offers f (tidy-adjust (f .offers) _ _)
-  fits-ruled (AmendOffer now a o t n) e = fits-agreed (record { accounts = tidy-adjust (f .accounts) _ _; invoices = f .invoices; offers = tidy-adjust (f .offers) _ _ }) _ now o
-  fits-ruled (CounterOffer now a o t n) e = fits-agreed (fits-offers f (tidy-adjust (f .offers) _ _)) _ now o
-  fits-ruled (CloseNegotiation now a o) e = fits-offers f (tidy-adjust (f .offers) _ _)
-  fits-ruled (ScheduleRepayment now a o k c d) e = fits-offers f (tidy-adjust (f .offers) _ _)
-  fits-ruled (UpdateStatus now a o c) e = fits-offers f (tidy-adjust (f .offers) _ _)
-  fits-ruled (UpdateRepaid now a o x) e = fits-offers f (tidy-adjust (f .offers) _ _)
-  fits-ruled (UpdateLenderRepaid now a l c) e = fits-accounts f (tidy-adjust (f .accounts) _ _)
+  fits-ruled (RejectOffer now a o) e = fits-offers f (fine-adjust (f .offers) _ _)
+  fits-ruled (AmendOffer now a o t n) e = fits-agreed (record { accounts = fine-adjust (f .accounts) _ _; invoices = f .invoices; offers = fine-adjust (f .offers) _ _ }) _ now o
+  fits-ruled (CounterOffer now a o t n) e = fits-agreed (fits-offers f (fine-adjust (f .offers) _ _)) _ now o
+  fits-ruled (CloseNegotiation now a o) e = fits-offers f (fine-adjust (f .offers) _ _)
+  fits-ruled (ScheduleRepayment now a o k c d) e = fits-offers f (fine-adjust (f .offers) _ _)
+  fits-ruled (UpdateStatus now a o c) e = fits-offers f (fine-adjust (f .offers) _ _)
+  fits-ruled (UpdateRepaid now a o x) e = fits-offers f (fine-adjust (f .offers) _ _)
+  fits-ruled (UpdateLenderRepaid now a l c) e = fits-accounts f (fine-adjust (f .accounts) _ _)
   fits-ruled (UpdateTotalsRepaid now a x y) e = record { accounts = f .accounts; invoices = f .invoices; offers = f .offers }
   fits-ruled (Pause now p) e = record { accounts = f .accounts; invoices = f .invoices; offers = f .offers }
   fits-ruled (Unpause now p) e = record { accounts = f .accounts; invoices = f .invoices; offers = f .offers }
   fits-ruled (SetWindow now p w) e = record { accounts = f .accounts; invoices = f .invoices; offers = f .offers }
   fits-ruled (SetRepaymentAccount now i p) e = record { accounts = f .accounts; invoices = f .invoices; offers = f .offers }
-  fits-ruled (SetBlacklisted now i c p) e = fits-accounts f (tidy-adjust (f .accounts) _ _)
+  fits-ruled (SetBlacklisted now i c p) e = fits-accounts f (fine-adjust (f .accounts) _ _)
   fits-ruled (SetSeats now p h q) e = record { accounts = f .accounts; invoices = f .invoices; offers = f .offers }
 
   pub fits-kept : (c : Command) → first (commanded m c .checks) ≡ 0 → Fits (commanded m c .done)

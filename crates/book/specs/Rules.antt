@@ -51,8 +51,8 @@ registering m a i x = record {
 abbrev pub creating : Model → ℕ → ℕ → ℕ → Terms → ℕ → Rule Model
 creating m a o i t e = record {
   checks =
-    createChecks a (accountIn m a .row) t (invoiceIn m i) (offerIn m o .here) (full 64 (m .offers))
-    ++ (offerOf (accountIn m a .row) t .checks ++ countOf (m .totals) .checks);
+      createChecks a (accountIn m a .row) t (invoiceIn m i) (offerIn m o .here) (full 64 (m .offers))
+      ++ (offerOf (accountIn m a .row) t .checks ++ countOf (m .totals) .checks);
   done = record {
     accounts = adjust (m .accounts) a (λ old. offerOf (accountIn m a .row) t .done);
     invoices = m .invoices;

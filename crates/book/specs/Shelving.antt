@@ -1,18 +1,8 @@
 -- A book whose arrays are tables is its model, stored; and a model whose tables fit is the model of what it is stored as
-use Prim.Native.Nat.{ℕ, _≤_, _<_}
-use native.Mathlib.Omega.{arith}
 use mathlib.Core.Path.{_≡_, refl, sym, ap, _∙_}
-use lib.ListN.{length}
-use Rattle.table.specs.Tables.{Table, find, adjust, insert, keys, Room}
-use Rattle.table.specs.TableLaws.{length-adjust, length-insert}
-use Rattle.table.specs.Rising.{Rises}
-use Rattle.table.specs.Shelf.{Shelf}
-use Rattle.table.specs.ShelfBack.{shelf-stored, table-stored}
-use Rattle.table.specs.ShelfLaws.{kept}
-use Rattle.table.specs.Sound.{rises-adjust, rises-insert}
-use Rattle.account.specs.Account.{noAccount}
+use Rattle.table.specs.Tables.{Table}
+use Rattle.table.specs.Keeping.{Fine}
 use Rattle.account.specs.declared.Account.{Account}
-use Rattle.invoice.specs.Invoice.{noInvoice}
 use Rattle.invoice.specs.declared.Invoice.{Invoice}
 use Rattle.offer.specs.declared.Deal.{Deal}
 use Rattle.settings.specs.declared.Settings.{Settings}
@@ -20,10 +10,11 @@ use Rattle.settings.specs.declared.Totals.{Totals}
 use Rattle.shelves.specs.declared.Accounts.{Accounts}
 use Rattle.shelves.specs.declared.Invoices.{Invoices}
 use Rattle.shelves.specs.declared.Offers.{Offers}
-use Rattle.shelves.specs.Accounts.{accountsOf, asAccounts, storedAccounts}
-use Rattle.shelves.specs.Invoices.{invoicesOf, asInvoices, storedInvoices}
-use Rattle.shelves.specs.Offers.{dealsOf, storedDeals, DealShelf}
-use Rattle.shelves.specs.DealLaws.{deals-kept, deals-shelf, deals-stored}
+use Rattle.shelves.specs.Accounts.{accountsOf, storedAccounts}
+use Rattle.shelves.specs.Laws.{accounts-keeping, invoices-keeping}
+use Rattle.shelves.specs.OfferLaws.{deals-keeping}
+use Rattle.shelves.specs.Invoices.{invoicesOf, storedInvoices}
+use Rattle.shelves.specs.Offers.{dealsOf, storedDeals}
 use Rattle.book.specs.declared.Book.{Book}
 use Rattle.book.specs.Model.{Model, withAccounts, withInvoices, withOffers, withTotals, withSettings}
 use Rattle.book.specs.Stored.{modelOf, stored, Shelved}
@@ -36,13 +27,13 @@ same-book {a} {a′} {i} {i′} {o} {o′} t s p q r = ap (λ z. bookOf z i o t 
 
 module _ {b : Book} (k : Shelved b) where
   accounts-back : b .accounts ≡ storedAccounts (accountsOf (b .accounts))
-  accounts-back = kept asAccounts (k .accounts)
+  accounts-back = sym (accounts-keeping .kept (b .accounts) (k .accounts))
 
   invoices-back : b .invoices ≡ storedInvoices (invoicesOf (b .invoices))
-  invoices-back = kept asInvoices (k .invoices)
+  invoices-back = sym (invoices-keeping .kept (b .invoices) (k .invoices))
 
   offers-back : b .offers ≡ storedDeals (dealsOf (b .offers))
-  offers-back = deals-kept (k .offers)
+  offers-back = sym (deals-keeping .kept (b .offers) (k .offers))
 
   pub back : b ≡ stored (modelOf b)
   back = same-book (b .totals) (b .settings) accounts-back invoices-back offers-back
@@ -68,42 +59,24 @@ module _ {b : Book} (k : Shelved b) where
   new-moneys t u x = same-book x (b .settings) refl invoices-back refl
 
 -- ── Tables that fit: at most 64 rows, ids that ascend ─────────────
-pub record Tidy {A : Type 0} (t : Table A) : Type 0 where
-  pub few : length t ≤ 64
-  pub rises : Rises (keys t)
-
-module _ {A : Type 0} {t : Table A} (f : Tidy t) where
-  pub tidy-adjust : (i : ℕ) (g : A → A) → Tidy (adjust t i g)
-  tidy-adjust i g = record { few = omega (arith, length-adjust t i g, f .few); rises = rises-adjust t i g (f .rises) }
-
-  pub tidy-insert : (i : ℕ) (r : A) → Room 64 t i → Tidy (insert t i r)
-  tidy-insert i r o = record { few = omega (arith, length-insert t i r, o .small); rises = rises-insert t i r (f .rises) (o .new) }
-
 pub record Fits (m : Model) : Type 0 where
-  pub accounts : Tidy (m .accounts)
-  pub invoices : Tidy (m .invoices)
-  pub offers : Tidy (m .offers)
+  pub accounts : Fine 64 (m .accounts)
+  pub invoices : Fine 64 (m .invoices)
+  pub offers : Fine 64 (m .offers)
 
 pub fits-of : {b : Book} → Shelved b → Fits (modelOf b)
-fits-of k = record {
-  accounts = record { few = omega (arith, k .accounts .counted, k .accounts .few); rises = k .accounts .rising };
-  invoices = record { few = omega (arith, k .invoices .counted, k .invoices .few); rises = k .invoices .rising };
-  offers = record { few = omega (arith, k .offers .shelf .counted, k .offers .shelf .few); rises = k .offers .shelf .rising };
+fits-of {b} k = record {
+  accounts = accounts-keeping .fine (b .accounts) (k .accounts);
+  invoices = invoices-keeping .fine (b .invoices) (k .invoices);
+  offers = deals-keeping .fine (b .offers) (k .offers);
 }
 
 module _ {m : Model} (f : Fits m) where
   pub shelved-stored : Shelved (stored m)
-  shelved-stored = record {
-    accounts = shelf-stored noAccount 64 (m .accounts) (f .accounts .few) (f .accounts .rises);
-    invoices = shelf-stored noInvoice 64 (m .invoices) (f .invoices .few) (f .invoices .rises);
-    offers = deals-shelf (m .offers) (f .offers .few) (f .offers .rises);
-  }
+  shelved-stored = record { accounts = accounts-keeping .good (f .accounts); invoices = invoices-keeping .good (f .invoices); offers = deals-keeping .good (f .offers) }
 
   pub model-stored : modelOf (stored m) ≡ m
   model-stored =
-      ap (λ z. record { accounts = z; invoices = invoicesOf (storedInvoices (m .invoices)); offers = dealsOf (storedDeals (m .offers)); totals = m .totals; settings = m .settings })
-        (table-stored noAccount 64 (m .accounts) (f .accounts .few))
-      ∙ ap (λ z. record { accounts = m .accounts; invoices = z; offers = dealsOf (storedDeals (m .offers)); totals = m .totals; settings = m .settings })
-        (table-stored noInvoice 64 (m .invoices) (f .invoices .few))
-      ∙ ap (λ z. record { accounts = m .accounts; invoices = m .invoices; offers = z; totals = m .totals; settings = m .settings })
-        (deals-stored (m .offers) (f .offers .few))
+      ap (λ z. record { accounts = z; invoices = invoicesOf (storedInvoices (m .invoices)); offers = dealsOf (storedDeals (m .offers)); totals = m .totals; settings = m .settings }) (accounts-keeping .back (f .accounts))
+      ∙ ap (λ z. record { accounts = m .accounts; invoices = z; offers = dealsOf (storedDeals (m .offers)); totals = m .totals; settings = m .settings }) (invoices-keeping .back (f .invoices))
+      ∙ ap (λ z. record { accounts = m .accounts; invoices = m .invoices; offers = z; totals = m .totals; settings = m .settings }) (deals-keeping .back (f .offers))

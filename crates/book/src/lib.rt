@@ -257,7 +257,15 @@ impl Book {
         }
     }
 
-    fn scheduled(mut self, now: u64, caller: u64, id: u64, count: u32, code: u32, first: u64) -> Step
+    fn scheduled(
+        mut self,
+        now: u64,
+        caller: u64,
+        id: u64,
+        count: u32,
+        code: u32,
+        first: u64,
+    ) -> Step
         requires { ⌜ Shelved self ⌝ }
         ensures { λ r. ⌜ r ≡ answered stepOf (modelOf self) (onOffer (modelOf self) id (scheduleOf (offerIn (modelOf self) id) now caller count code first (paperOf (modelOf self) id))) ⌝ }
     {
@@ -434,14 +442,7 @@ impl Book {
         }
     }
 
-    fn created(
-        mut self,
-        caller: u64,
-        id: u64,
-        invoice: u64,
-        t: Terms,
-        expires: u64,
-    ) -> Step
+    fn created(mut self, caller: u64, id: u64, invoice: u64, t: Terms, expires: u64) -> Step
         requires { ⌜ Shelved self ⌝ }
         ensures { λ r. ⌜ r ≡ answered stepOf (modelOf self) (creating (modelOf self) caller id invoice t expires) ⌝ }
     {
@@ -737,10 +738,7 @@ impl Book {
         ensures { λ r. ⌜ r ≡ answered stepOf (modelOf self) (rule (modelOf self) c) ⌝ }
     {
         match c {
-            Command::OpenAccount {
-                now: _,
-                caller,
-            } => self.opened(caller),
+            Command::OpenAccount { now: _, caller } => self.opened(caller),
             Command::Deposit {
                 now: _,
                 caller,
@@ -762,11 +760,7 @@ impl Book {
                 id,
                 amount,
             } => self.registered(caller, id, amount),
-            Command::CancelInvoice {
-                now: _,
-                caller,
-                id,
-            } => self.cancelled(caller, id),
+            Command::CancelInvoice { now: _, caller, id } => self.cancelled(caller, id),
             Command::CreateOffer {
                 now: _,
                 caller,
@@ -775,21 +769,9 @@ impl Book {
                 terms,
                 expires,
             } => self.created(caller, id, invoice, terms, expires),
-            Command::WithdrawOffer {
-                now: _,
-                caller,
-                id,
-            } => self.withdrawn(caller, id),
-            Command::AcceptOffer {
-                now,
-                caller,
-                id,
-            } => self.accepted(now, caller, id),
-            Command::RejectOffer {
-                now: _,
-                caller,
-                id,
-            } => self.rejected(caller, id),
+            Command::WithdrawOffer { now: _, caller, id } => self.withdrawn(caller, id),
+            Command::AcceptOffer { now, caller, id } => self.accepted(now, caller, id),
+            Command::RejectOffer { now: _, caller, id } => self.rejected(caller, id),
             Command::AmendOffer {
                 now,
                 caller,
@@ -804,11 +786,7 @@ impl Book {
                 terms,
                 round,
             } => self.countered(now, caller, id, terms, round),
-            Command::CloseNegotiation {
-                now,
-                caller,
-                id,
-            } => self.closed(now, caller, id),
+            Command::CloseNegotiation { now, caller, id } => self.closed(now, caller, id),
             Command::ScheduleRepayment {
                 now,
                 caller,
@@ -841,24 +819,14 @@ impl Book {
                 amount,
                 fee,
             } => self.totals_repaid(caller, amount, fee),
-            Command::Pause {
-                now: _,
-                seats,
-            } => self.pause_set(seats, true),
-            Command::Unpause {
-                now: _,
-                seats,
-            } => self.pause_set(seats, false),
+            Command::Pause { now: _, seats } => self.pause_set(seats, true),
+            Command::Unpause { now: _, seats } => self.pause_set(seats, false),
             Command::SetWindow {
                 now: _,
                 seats,
                 window,
             } => self.window_set(seats, window),
-            Command::SetRepaymentAccount {
-                now: _,
-                id,
-                seats,
-            } => self.repayer_set(id, seats),
+            Command::SetRepaymentAccount { now: _, id, seats } => self.repayer_set(id, seats),
             Command::SetBlacklisted {
                 now: _,
                 id,
@@ -962,7 +930,15 @@ impl Book {
         })
     }
 
-    pub fn create_offer(self, now: u64, caller: u64, id: u64, invoice: u64, terms: Terms, expires: u64) -> Step
+    pub fn create_offer(
+        self,
+        now: u64,
+        caller: u64,
+        id: u64,
+        invoice: u64,
+        terms: Terms,
+        expires: u64,
+    ) -> Step
         ensures { λ r. ⌜ r ≡ answers self (CreateOffer now caller id invoice terms expires) ⌝ }
     {
         self.apply(Command::CreateOffer {
@@ -1039,7 +1015,15 @@ impl Book {
         })
     }
 
-    pub fn schedule_repayment(self, now: u64, caller: u64, id: u64, count: u32, code: u32, first: u64) -> Step
+    pub fn schedule_repayment(
+        self,
+        now: u64,
+        caller: u64,
+        id: u64,
+        count: u32,
+        code: u32,
+        first: u64,
+    ) -> Step
         ensures { λ r. ⌜ r ≡ answers self (ScheduleRepayment now caller id count code first) ⌝ }
     {
         self.apply(Command::ScheduleRepayment {

@@ -151,10 +151,7 @@ impl Command {
         ensures { λ r. ⌜ r ≡ callerOf self ⌝ }
     {
         match self {
-            Command::OpenAccount {
-                now: _,
-                caller: _,
-            } => Caller::Nobody,
+            Command::OpenAccount { now: _, caller: _ } => Caller::Nobody,
             Command::Deposit {
                 now: _,
                 caller: caller,
@@ -255,14 +252,8 @@ impl Command {
                 amount: _,
                 fee: _,
             } => Caller::Account(caller),
-            Command::Pause {
-                now: _,
-                seats: _,
-            } => Caller::Nobody,
-            Command::Unpause {
-                now: _,
-                seats: _,
-            } => Caller::Nobody,
+            Command::Pause { now: _, seats: _ } => Caller::Nobody,
+            Command::Unpause { now: _, seats: _ } => Caller::Nobody,
             Command::SetWindow {
                 now: _,
                 seats: _,
@@ -293,10 +284,7 @@ impl Command {
         ensures { λ r. ⌜ r ≡ stoppedByPause self ⌝ }
     {
         match self {
-            Command::OpenAccount {
-                now: _,
-                caller: _,
-            } => true,
+            Command::OpenAccount { now: _, caller: _ } => true,
             Command::Deposit {
                 now: _,
                 caller: _,
@@ -397,14 +385,8 @@ impl Command {
                 amount: _,
                 fee: _,
             } => true,
-            Command::Pause {
-                now: _,
-                seats: _,
-            } => false,
-            Command::Unpause {
-                now: _,
-                seats: _,
-            } => false,
+            Command::Pause { now: _, seats: _ } => false,
+            Command::Unpause { now: _, seats: _ } => false,
             Command::SetWindow {
                 now: _,
                 seats: _,

@@ -1,7 +1,7 @@
 -- The table of accounts: the rows by id that its arrays hold, how a table is stored in them, and the test of a sound one.
 use Prim.Native.Nat.{ℕ}
 use mathlib.Core.Bool.{Bool, true, false, not, _&&_}
-use mathlib.Core.List.{List, [], _∷_}
+use mathlib.Core.List.{List, _∷_}
 use Rattle.refusal.specs.Refusal.{_gives_, notFound}
 use Rattle.refusal.specs.Rule.{Rule, next}
 use Rattle.terms.specs.declared.Terms.{Terms}

@@ -2,4 +2,8 @@ pub mod Sized
 pub mod Accounts
 pub mod Invoices
 pub mod Offers
-pub mod DealLaws
+pub mod Deals
+pub mod Laws
+pub mod OfferLaws
+pub mod Steps
+pub mod Settling

@@ -89,10 +89,7 @@ impl Accounts {
             };
         };
         let r = self.rows[k];
-        SeenAccount {
-            here: true,
-            row: r,
-        }
+        SeenAccount { here: true, row: r }
     }
 
     // The row of `id` made `row`; without such a row nothing changes.
@@ -203,10 +200,7 @@ impl Invoices {
             };
         };
         let r = self.rows[k];
-        SeenInvoice {
-            here: true,
-            row: r,
-        }
+        SeenInvoice { here: true, row: r }
     }
 
     // The row of `id` made `row`; without such a row nothing changes.

@@ -39,7 +39,8 @@ use Rattle.command.specs.declared.Command.the-variants.{OpenAccount, Deposit, P
 use Rattle.book.specs.Model.{Model, withAccounts, withInvoices, withOffers, withTotals, withSettings, accountIn, invoiceIn, offerIn, paperOf, onAccount, onInvoice, onOffer, onTotals, onSettings}
 use Rattle.book.specs.Rules.{gateChecks, opening, registering, creating, settling, concluding, agreeing, termsIn, lenderOf, originatorOf, amendedIn, counteredIn, amending, countering, rule, commanded}
 use Rattle.book.specs.Fitting.{fits-opened, fits-registered, fits-created, fits-settled}
-use Rattle.book.specs.Shelving.{Fits, tidy-adjust}
+use Rattle.table.specs.Keeping.{fine-adjust}
+use Rattle.book.specs.Shelving.{Fits}
 use Rattle.soundness.specs.Sound.{ModelSound, put-sound}
 
 use Rattle.soundness.specs.Parts.{Good, account-put, invoice-put, deal-put, settled-sound, agreed-sound, with-accounts, with-invoices, with-offers, with-totals, with-settings}
@@ -50,7 +51,7 @@ module _ {m : Model} (s : ModelSound m) (now a o : ℕ) (t : Terms) (n : ℕ) wh
   amended-sound e =
       let p = both-pass (amendChecks (offerIn m o) now a (accountIn m a .row) t n) _ e in
       record {
-        fits = record { accounts = tidy-adjust (s .fits .accounts) _ _; invoices = s .fits .invoices; offers = tidy-adjust (s .fits .offers) _ _ };
+        fits = record { accounts = fine-adjust (s .fits .accounts) _ _; invoices = s .fits .invoices; offers = fine-adjust (s .fits .offers) _ _ };
         accounts = account-put (m .accounts) a _ (s .accounts) (λ z. Account.reoffer-keeps (accountIn m a .row) (termsIn m o) t z (p .1));
         invoices = s .invoices;
         offers = deal-put (m .offers) o _ (s .offers) (λ z. Deal.amended-kept (offerIn m o) now a (accountIn m a .row) t n (m .settings .window) z (p .0));
@@ -61,7 +62,7 @@ module _ {m : Model} (s : ModelSound m) (now a o : ℕ) (t : Terms) (n : ℕ) wh
   countered-sound : first (counterChecks (offerIn m o) now a (accountIn m a .row) t n (paperOf m o)) ≡ 0 → ModelSound (counteredIn m now o t)
   countered-sound e =
       with-offers s _ (deal-put (m .offers) o _ (s .offers) (λ z. Deal.countered-kept (offerIn m o) now a (accountIn m a .row) t n (paperOf m o) (m .settings .window) z e))
-      (record { accounts = s .fits .accounts; invoices = s .fits .invoices; offers = tidy-adjust (s .fits .offers) _ _ })
+      (record { accounts = s .fits .accounts; invoices = s .fits .invoices; offers = fine-adjust (s .fits .offers) _ _ })
 
   amending-sound : first (amending m now a o t n .checks) ≡ 0 → ModelSound (amending m now a o t n .done)
   amending-sound e =
@@ -76,11 +77,11 @@ module _ {m : Model} (s : ModelSound m) (now a o : ℕ) (t : Terms) (n : ℕ) wh
 module _ {m : Model} (s : ModelSound m) where
   posted : (a : ℕ) (u : Rule Account) → Account.Keeps (accountIn m a .row) u → first (u .checks) ≡ 0 → ModelSound (onAccount m a u .done)
   posted a u k e =
-      with-accounts s _ (account-put (m .accounts) a (u .done) (s .accounts) (λ z. k z e)) (record { accounts = tidy-adjust (s .fits .accounts) _ _; invoices = s .fits .invoices; offers = s .fits .offers })
+      with-accounts s _ (account-put (m .accounts) a (u .done) (s .accounts) (λ z. k z e)) (record { accounts = fine-adjust (s .fits .accounts) _ _; invoices = s .fits .invoices; offers = s .fits .offers })
 
   dealt : (o : ℕ) (u : Rule Deal) → Deal.Keeps (offerIn m o .row) u → first (u .checks) ≡ 0 → ModelSound (onOffer m o u .done)
   dealt o u k e =
-      with-offers s _ (deal-put (m .offers) o (u .done) (s .offers) (λ z. k z e)) (record { accounts = s .fits .accounts; invoices = s .fits .invoices; offers = tidy-adjust (s .fits .offers) _ _ })
+      with-offers s _ (deal-put (m .offers) o (u .done) (s .offers) (λ z. k z e)) (record { accounts = s .fits .accounts; invoices = s .fits .invoices; offers = fine-adjust (s .fits .offers) _ _ })
 
   created-sound : (a o i : ℕ) (t : Terms) (x : ℕ) → first (creating m a o i t x .checks) ≡ 0 → ModelSound (creating m a o i t x .done)
   created-sound a o i t x e =
@@ -107,7 +108,7 @@ module _ {m : Model} (s : ModelSound m) where
   ruled-sound (RegisterInvoice now a i x) e =
       with-invoices s _ (all-insert (λ r. invoiceSound r ≡ true) (m .invoices) i (invoiceOf a x) (s .invoices) (Invoice.registered-sound a x (not-false (inAmount x) (passed _ _ _ e .0)))) (fits-registered (s .fits) a i x e)
   ruled-sound (CancelInvoice now a i) e =
-      with-invoices s _ (invoice-put (m .invoices) i _ (s .invoices) (λ z. Invoice.status-sound 2 (invoiceIn m i .row) refl z)) (record { accounts = s .fits .accounts; invoices = tidy-adjust (s .fits .invoices) _ _; offers = s .fits .offers })
+      with-invoices s _ (invoice-put (m .invoices) i _ (s .invoices) (λ z. Invoice.status-sound 2 (invoiceIn m i .row) refl z)) (record { accounts = s .fits .accounts; invoices = fine-adjust (s .fits .invoices) _ _; offers = s .fits .offers })
   ruled-sound (CreateOffer now a o i t x) e = created-sound a o i t x e
   ruled-sound (WithdrawOffer now a o) e = dealt o _ (Deal.withdraw-keeps (offerIn m o) a) e
   ruled-sound (AcceptOffer now a o) e = settled-sound s now o (both-pass (acceptChecks (offerIn m o) now a (paperOf m o)) _ e .1)

@@ -39,7 +39,8 @@ use Rattle.command.specs.declared.Command.the-variants.{OpenAccount, Deposit, P
 use Rattle.book.specs.Model.{Model, withAccounts, withInvoices, withOffers, withTotals, withSettings, accountIn, invoiceIn, offerIn, paperOf, onAccount, onInvoice, onOffer, onTotals, onSettings}
 use Rattle.book.specs.Rules.{gateChecks, opening, registering, creating, settling, concluding, agreeing, termsIn, lenderOf, originatorOf, amendedIn, counteredIn, amending, countering, rule, commanded}
 use Rattle.book.specs.Fitting.{fits-opened, fits-registered, fits-created, fits-settled}
-use Rattle.book.specs.Shelving.{Fits, tidy-adjust}
+use Rattle.table.specs.Keeping.{fine-adjust}
+use Rattle.book.specs.Shelving.{Fits}
 use Rattle.soundness.specs.Sound.{ModelSound, put-sound}
 
 abbrev pub Good : Table Account → Type 0

@@ -27,9 +27,9 @@ pub fresh-model : ModelSound freshModel
 unfolding keys
 fresh-model = record {
   fits = record {
-    accounts = record { few = omega arith; rises = tt };
-    invoices = record { few = omega arith; rises = tt };
-    offers = record { few = omega arith; rises = tt };
+    accounts = record { fits = omega arith; rises = tt };
+    invoices = record { fits = omega arith; rises = tt };
+    offers = record { fits = omega arith; rises = tt };
   };
   accounts = tt;
   invoices = tt;

@@ -49,3 +49,11 @@ all-make p (suc n) f = rw (all-make p n (λ i l. f i (omega arith)), f n (omega 
 
 pub both-same : {a a′ b b′ : Bool} → a ≡ a′ → b ≡ b′ → a && b ≡ a′ && b′
 both-same {a} {a′} {b} {b′} p q = ap (λ (x : Bool). x && b) p ∙ ap (λ (x : Bool). a′ && x) q
+
+-- what holds below i, and at i, holds below i + 1
+pub below-on : {P : ℕ → Type 0} {i : ℕ} → ((k : ℕ) → k < i → P k) → P i → (k : ℕ) → k < i + 1 → P k
+below-on {P} {i} f p k h = go (ltb k i) refl
+  where
+    go : (b : Bool) → ltb k i ≡ b → P k
+    go true q = f k (ltb-true k i q)
+    go false q = let s : k ≡ i = omega (arith, ltb-false k i q) in rw s p

@@ -68,6 +68,11 @@ module _ {X Y Z A : Type 0} (mk : X → Y → Z → A) where
   getD-join (x ∷ xs) (y ∷ ys) (z ∷ zs) v zero dx dy dz = refl
   getD-join (x ∷ xs) (y ∷ ys) (z ∷ zs) v (suc k) dx dy dz = getD-join xs ys zs (level-tail v) k dx dy dz
 
+  -- the same at a place that is there, whatever is given for the places that are not
+  pub join-at : (xs : List X) (ys : List Y) (zs : List Z) → Level xs ys zs → (k : ℕ) → k < length xs → (d : A) (dx : X) (dy : Y) (dz : Z)
+      → getD (join xs ys zs) k d ≡ mk (getD xs k dx) (getD ys k dy) (getD zs k dz)
+  join-at xs ys zs v k h d dx dy dz = any-default (join xs ys zs) k d (mk dx dy dz) (omega (arith, length-join xs ys zs v)) ∙ getD-join xs ys zs v k dx dy dz
+
   -- a part that each row shows is the list that it came from
   pub first-of : (f : A → X) → ((x : X) (y : Y) (z : Z) → f (mk x y z) ≡ x) → (xs : List X) (ys : List Y) (zs : List Z) → Level xs ys zs → column f (join xs ys zs) ≡ xs
   unfolding join

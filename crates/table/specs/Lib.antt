@@ -14,6 +14,7 @@ pub mod ShelfBack
 pub mod ShelfPlaces
 pub mod ShelfLaws
 pub mod Sound
+pub mod Keeping
 pub mod All
 pub mod Test
 pub mod TestLaws

@@ -1,6 +1,5 @@
 -- A shelf searched, and a row put anew or let in: what the arrays then hold is the table adjusted or with the row inserted
 use mathlib.Core.Path.{_≡_, sym, ap, _∙_}
-use mathlib.Core.Bool.{true, false}
 use mathlib.Core.List.{List}
 use Prim.Native.Nat.{ℕ, _+_, _≤_, _<_}
 use native.Mathlib.Omega.{arith}
@@ -15,7 +14,7 @@ use Rattle.table.specs.Padded.{padded}
 use Rattle.table.specs.Shelf.{tableOf, Shelf, shelve}
 use Rattle.table.specs.ShelfBack.{take-keys, ids-adjust}
 use Rattle.table.specs.ShelfPlaces.{find-there, put-there, find-gone, insert-there}
-use borrow.Author.Tests.{le-leb, lt-leb}
+use lib.Dec.{leb}
 
 module _ {A : Type 0} {d : A} {n : ℕ} {ids : List ℕ} {rows : List A} {c : ℕ} (s : Shelf d n ids rows c) where
   searched : take c ids ≡ keys (tableOf ids rows c)
@@ -35,6 +34,9 @@ module _ {A : Type 0} {d : A} {n : ℕ} {ids : List ℕ} {rows : List A} {c : �
 
   pub at-inside : (i k : ℕ) → findIn (take c ids) i ≡ At k → k < c
   at-inside i k e = omega (arith, (stands i k e) .within, length-keys (tableOf ids rows c), s .counted)
+
+  pub at-below : (i k : ℕ) → findIn (take c ids) i ≡ At k → k < n
+  at-below i k e = omega (arith, at-inside i k e, s .few)
 
   pub at-found : (i k : ℕ) → findIn (take c ids) i ≡ At k → find (tableOf ids rows c) i ≡ here (getD rows k d)
   at-found i k e = find-there d n (tableOf ids rows c) i k fits (stands i k e) ∙ ap (λ z. here (getD z k d)) (s .rows-kept)
@@ -65,11 +67,8 @@ module _ {A : Type 0} {d : A} {n : ℕ} {ids : List ℕ} {rows : List A} {c : �
   in-count i r = omega (arith, length-insert (tableOf ids rows c) i r, s .counted)
 
   -- whether there is room
-  pub full-yes : n ≤ c → full n (tableOf ids rows c) ≡ true
-  full-yes h = le-leb n (length (tableOf ids rows c)) (omega (arith, s .counted))
-
-  pub full-no : c < n → full n (tableOf ids rows c) ≡ false
-  full-no h = lt-leb n (length (tableOf ids rows c)) (omega (arith, s .counted))
+  pub full-is : leb n c ≡ full n (tableOf ids rows c)
+  full-is = ap (leb n) (sym (s .counted))
 
   pub room : (i : ℕ) → c < n → find (tableOf ids rows c) i ≡ absent → Room n (tableOf ids rows c) i
   room i h e = record { small = omega (arith, s .counted); new = e }

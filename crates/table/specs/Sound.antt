@@ -1,17 +1,13 @@
 -- What adjusting and inserting keep: ids that rise, rows that pass a test
 use mathlib.Core.Path.{_≡_}
-use mathlib.Core.List.{List, [], _∷_}
-use Prim.Native.Nat.{ℕ, _≤_, _<_}
+use mathlib.Core.List.{[], _∷_}
+use Prim.Native.Nat.{ℕ, _<_}
 use native.Mathlib.Omega.{arith}
 use lib.Dec.{leb, eqb}
-use lib.ListN.{length}
 use borrow.Author.Tests.{leb-true, leb-false, eqb-false}
-use Rattle.table.specs.Tables.{absent, here, Table, find, adjust, insert, key, held, keys, Is, is-true, is-false, decide}
-use Rattle.table.specs.TableLaws.{keys-adjust, length-adjust}
+use Rattle.table.specs.Tables.{absent, here, Table, find, adjust, insert, keys, Is, is-true, is-false, decide}
+use Rattle.table.specs.TableLaws.{keys-adjust}
 use Rattle.table.specs.Rising.{Above, Rises}
-use Rattle.table.specs.Padded.{padded}
-use Rattle.table.specs.Shelf.{tableOf, Shelf}
-use Rattle.table.specs.ShelfBack.{table-stored, shelf-stored}
 
 module _ {A : Type 0} where
   above-insert : (p : ℕ) (t : Table A) (i : ℕ) (r : A) → p < i → Above p (keys t) → find t i ≡ absent → Above p (keys (insert t i r))
@@ -43,6 +39,10 @@ module _ {A : Type 0} where
   All q [] = Unit {0}
   All q (e ∷ t) = q (e .1) × All q t
 
+  pub all-map : (p q : A → Type 0) (t : Table A) → ((r : A) → p r → q r) → All p t → All q t
+  all-map p q [] f a = tt
+  all-map p q (e ∷ t) f a = (f (e .1) (a .0), all-map p q t f (a .1))
+
   pub all-found : (q : A → Type 0) (t : Table A) (i : ℕ) (r : A) → All q t → find t i ≡ here r → q r
   unfolding find
   all-found q [] i r a n = let y : _≡_ {A = ℕ} 0 1 = cc in absurd (omega arith)
@@ -69,14 +69,3 @@ module _ {A : Type 0} where
       go : Is (leb (e .0) i) → All q (insert t i r) → All q (insert (e ∷ t) i r)
       go (is-true l) k = rw l (a .0, k)
       go (is-false l) k = rw l (h, a)
-
--- a shelf after a row is put anew is a shelf again, and its table the table adjusted
-module _ {A : Type 0} {d : A} {n : ℕ} {ids : List ℕ} {rows : List A} {c : ℕ} (s : Shelf d n ids rows c) (i : ℕ) (f : A → A) where
-  still : length (adjust (tableOf ids rows c) i f) ≤ n
-  still = omega (arith, length-adjust (tableOf ids rows c) i f, s .counted, s .few)
-
-  pub shelf-adjust : Shelf d n (padded 0 key n (adjust (tableOf ids rows c) i f)) (padded d held n (adjust (tableOf ids rows c) i f)) (length (adjust (tableOf ids rows c) i f))
-  shelf-adjust = shelf-stored d n (adjust (tableOf ids rows c) i f) still (rises-adjust (tableOf ids rows c) i f (s .rising))
-
-  pub table-adjust : tableOf (padded 0 key n (adjust (tableOf ids rows c) i f)) (padded d held n (adjust (tableOf ids rows c) i f)) (length (adjust (tableOf ids rows c) i f)) ≡ adjust (tableOf ids rows c) i f
-  table-adjust = table-stored d n (adjust (tableOf ids rows c) i f) still

@@ -2,7 +2,7 @@
 use Prim.Native.Nat.{ℕ, zero, suc, _≤_, _<_}
 use native.Mathlib.Omega.{arith}
 use mathlib.Core.Path.{_≡_, refl, sym, ap, _∙_}
-use mathlib.Core.Bool.{Bool, true, false, _||_}
+use mathlib.Core.Bool.{Bool, true, false, _&&_, _||_}
 use mathlib.Core.List.{List, [], _∷_}
 use lib.ListN.{length, getD}
 use lib.Dec.{ltb, leb, eqb}
@@ -82,29 +82,36 @@ module _ {A : Type 0} where
   row-at p d (j ∷ ids) (r ∷ rows) (suc n) zero a h = a .0
   row-at p d (j ∷ ids) (r ∷ rows) (suc n) (suc i) a h = row-at p d ids rows n i (a .1) (omega arith)
 
--- the tests make a shelf whose rows all pass
-module _ {A : Type 0} (q z : A → Bool) (d : A) (zero-is : (r : A) → z r ≡ true → r ≡ d) (size n : ℕ) (ids : List ℕ) (rows : List A)
-    (a : length ids ≡ size) (b : length rows ≡ size) (x : idsTest size n ids ≡ true) (y : rowsTest q z d size n rows ≡ true) where
+-- the tests make a shelf whose rows all pass; that a row which tests as zero is zero is asked of the rows that are there
+module _ {A : Type 0} (q z : A → Bool) (d : A) (size n : ℕ) (ids : List ℕ) (rows : List A)
+    (a : length ids ≡ size) (b : length rows ≡ size) (t : idsTest size n ids && rowsTest q z d size n rows ≡ true) where
+  ids-passed : idsTest size n ids ≡ true
+  ids-passed = both-true (idsTest size n ids) (rowsTest q z d size n rows) t .0
+
   few : n ≤ size
-  few = leb-true n size (both-true (leb n size) (allBelow size (idTest n ids)) x .0)
+  few = leb-true n size (both-true (leb n size) (allBelow size (idTest n ids)) ids-passed .0)
 
   id-at : (i : ℕ) → i < size → idTest n ids i ≡ true
-  id-at = all-at (idTest n ids) size (both-true (leb n size) (allBelow size (idTest n ids)) x .1)
+  id-at = all-at (idTest n ids) size (both-true (leb n size) (allBelow size (idTest n ids)) ids-passed .1)
 
   row-is : (i : ℕ) → i < size → rowTest q z d n rows i ≡ true
-  row-is = all-at (rowTest q z d n rows) size y
+  row-is = all-at (rowTest q z d n rows) size (both-true (idsTest size n ids) (rowsTest q z d size n rows) t .1)
 
-  pub shelf-of : Shelf d size ids rows n
-  shelf-of = record {
+  pub shelf-of : ((i : ℕ) → i < size → z (getD rows i d) ≡ true → getD rows i d ≡ d) → Shelf d size ids rows n
+  shelf-of zero-is = record {
     ids-kept = ids-back d ids rows n size a b (λ i h l. eqb-true (getD ids i 0) 0 (free n i (above ids i) (eqb (getD ids i 0) 0) (id-at i l) h));
-    rows-kept = rows-back d ids rows n size a b (λ i h l. zero-is (getD rows i d) (free n i (q (getD rows i d)) (z (getD rows i d)) (row-is i l) h));
+    rows-kept = rows-back d ids rows n size a b (λ i h l. zero-is i l (free n i (q (getD rows i d)) (z (getD rows i d)) (row-is i l) h));
     counted = length-table ids rows n (omega (arith, few)) (omega (arith, few));
     few = few;
     rising = rises-of ids rows n (omega (arith, few)) (λ m h. ltb-true (getD ids m 0) (getD ids (suc m) 0) (rw (later m) at (used n (suc m) (above ids (suc m)) (eqb (getD ids (suc m) 0) 0) (id-at (suc m) (omega (arith, few))) h)));
   }
 
-  pub rows-of : All (λ r. q r ≡ true) (tableOf ids rows n)
-  rows-of = all-of (λ r. q r ≡ true) d ids rows n (λ i h. used n i (q (getD rows i d)) (z (getD rows i d)) (row-is i (omega (arith, few))) h)
+  pub rows-of : (p : A → Type 0) → ((i : ℕ) → i < size → q (getD rows i d) ≡ true → p (getD rows i d)) → All p (tableOf ids rows n)
+  rows-of p f = all-of p d ids rows n (λ i h. f i (omega (arith, few)) (used n i (q (getD rows i d)) (z (getD rows i d)) (row-is i (omega (arith, few))) h))
+
+-- past its count a shelf has zero rows
+free-row : {A : Type 0} {d : A} {size n : ℕ} {ids : List ℕ} {rows : List A} → Shelf d size ids rows n → (i : ℕ) → n ≤ i → getD rows i d ≡ d
+free-row {A} {d} {size} {n} {ids} {rows} s i h = ap (λ u. getD u i d) (sym (s .rows-kept)) ∙ pad-rest d held size (tableOf ids rows n) i (omega (arith, s .counted))
 
 -- a shelf whose rows all pass passes the tests
 module _ {A : Type 0} (q z : A → Bool) (d : A) (zero-yes : z d ≡ true) {size n : ℕ} {ids : List ℕ} {rows : List A} (s : Shelf d size ids rows n) (o : All (λ r. q r ≡ true) (tableOf ids rows n)) where
@@ -112,11 +119,22 @@ module _ {A : Type 0} (q z : A → Bool) (d : A) (zero-yes : z d ≡ true) {size
   above-yes zero h = refl
   above-yes (suc m) h = rw (later m) (lt-ltb (getD ids m 0) (getD ids (suc m) 0) (rises-at ids rows n m (s .rising) (omega (arith, s .counted))))
 
-  pub ids-pass : idsTest size n ids ≡ true
+  ids-pass : idsTest size n ids ≡ true
   ids-pass = rw (le-leb n size (s .few)) (all-make (idTest n ids) size (λ i l. make n i (above ids i) (eqb (getD ids i 0) 0) (above-yes i)
       (λ h. eq-eqb (getD ids i 0) 0 (ap (λ u. getD u i 0) (sym (s .ids-kept)) ∙ pad-rest 0 key size (tableOf ids rows n) i (omega (arith, s .counted))))))
 
-  pub rows-pass : rowsTest q z d size n rows ≡ true
+  rows-pass : rowsTest q z d size n rows ≡ true
   rows-pass = all-make (rowTest q z d n rows) size (λ i l. make n i (q (getD rows i d)) (z (getD rows i d))
       (λ h. row-at (λ r. q r ≡ true) d ids rows n i o (omega (arith, s .counted)))
-      (λ h. ap z (ap (λ u. getD u i d) (sym (s .rows-kept)) ∙ pad-rest d held size (tableOf ids rows n) i (omega (arith, s .counted))) ∙ zero-yes))
+      (λ h. ap z (free-row s i h) ∙ zero-yes))
+
+  pub passes : idsTest size n ids && rowsTest q z d size n rows ≡ true
+  passes = rw (ids-pass, rows-pass)
+
+-- what holds of the rows and of a zero row holds at every place
+pub everywhere : {A : Type 0} {d : A} {size n : ℕ} {ids : List ℕ} {rows : List A} (p : A → Type 0) → Shelf d size ids rows n → All p (tableOf ids rows n) → p d → (i : ℕ) → p (getD rows i d)
+everywhere {A} {d} {size} {n} {ids} {rows} p s o y i = go (ltb i n) refl
+  where
+    go : (b : Bool) → ltb i n ≡ b → p (getD rows i d)
+    go true q = row-at p d ids rows n i o (omega (arith, s .counted, ltb-true i n q))
+    go false q = rw (free-row s i (ltb-false i n q)) y

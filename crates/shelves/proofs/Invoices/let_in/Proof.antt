@@ -1,0 +1,39 @@
+use native.Mathlib.Omega.{arith}
+use mathlib.Core.Path.{sym, _∙_}
+use borrow.Author.Needs.{needs}
+use Rattle.table.specs.Rows.{here-absent}
+use Rattle.table.specs.ShelfLaws.{at-found, in-kept}
+use Rattle.shelves.specs.Invoices.{asInvoices}
+use Rattle.shelves.proofs.Invoices.let_in.Statement.{statement}
+use Rattle.shelves.proofs.Invoices.let_in.Tie as tie
+
+find-requires : tie.Need-find-requires
+find-requires c κs = search needs
+
+enum-known-f : tie.Need-enum-known-f
+enum-known-f c = search needs
+
+enum-told : tie.Need-enum-told
+enum-told c = search needs
+
+returns : tie.Need-returns
+returns c = absurd (here-absent _ (sym (at-found (c .before .before .before .before .before .before .pre .0) _ _ (sym (c .before .before .find .ensures) ∙ c .enum-told .given .1)) ∙ c .before .before .before .before .before .before .pre .1 .new))
+
+insert-id-requires : tie.Need-insert-id-requires
+insert-id-requires c κs = search needs
+
+insert-invoice-requires : tie.Need-insert-invoice-requires
+insert-invoice-requires c κs = search needs
+
+add-self : tie.Need-add-self
+add-self c = omega (arith, c .before .before .before .before .before .before .before .before .before .before .before .pre .0 .few)
+
+returns-2 : tie.Need-returns-2
+returns-2 c =
+    rw (c .before .before .insert-id .ensures, c .insert-invoice .ensures)
+    (in-kept asInvoices (c .before .before .before .before .before .before .before .before .before .before .before .pre .0) _ _ _
+    (omega (arith, c .before .before .before .before .before .before .before .before .before .before .before .pre .1 .small, c .before .before .before .before .before .before .before .before .before .before .before .pre .0 .counted))
+    (sym (c .before .before .before .before .before .before .before .find .ensures) ∙ c .before .before .before .before .before .f .given .1))
+
+pub let-in-spec : {M : Type 1} → statement M
+let-in-spec = tie.close (tie.spec find-requires enum-known-f enum-told returns insert-id-requires insert-invoice-requires add-self returns-2)

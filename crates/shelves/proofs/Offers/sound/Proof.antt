@@ -1,0 +1,112 @@
+use Prim.Native.Nat.{ℕ, _-_, _<_}
+use native.Mathlib.Omega.{arith}
+use mathlib.Core.Path.{_≡_, sym, ap, subst}
+use lib.ListN.{length, getD, length-map}
+use borrow.Author.Needs.{needs}
+use Rattle.table.specs.Columns.{any-default, Level, level, join-at}
+use Rattle.table.specs.All.{Checked, check-start, check-turn, check-done, both-same, below-on}
+use Rattle.table.specs.Test.{either, rowTest}
+use Rattle.negotiation.specs.Rounds.{roundLimit, noNegotiation}
+use Rattle.negotiation.specs.Whole.{Whole}
+use Rattle.offer.specs.Offer.{noDeal, dealSound, dealZero}
+use Rattle.shelves.specs.Offers.{dealOf, rowsOf, dealsTest}
+use Rattle.shelves.proofs.Offers.sound.Statement.{statement}
+use Rattle.shelves.proofs.Offers.sound.Tie as tie
+
+abbrev Inv-loop : tie.InvT-loop
+Inv-loop self n t ok₀ i₀ ok i =
+    Checked 64 (rowTest dealSound dealZero noDeal n (rowsOf self)) i ok × ((k : ℕ) → k < i → Whole roundLimit (getD (self .negotiations) k noNegotiation))
+
+abbrev μ-loop : tie.MeasureT-loop
+μ-loop self n t ok₀ i₀ ok i = 64 - i
+
+ids-sound-requires : tie.Need-ids-sound-requires Inv-loop μ-loop
+ids-sound-requires c κs = search needs
+
+loop-holds : tie.Need-loop-holds Inv-loop μ-loop
+loop-holds c = (check-start _ _, λ k h. absurd (omega arith))
+
+mul-o : tie.Need-mul-o Inv-loop μ-loop
+mul-o c = search needs
+
+element-copy-out-o : tie.Need-element-copy-out-o Inv-loop μ-loop
+element-copy-out-o c = search needs
+
+mul-g : tie.Need-mul-g Inv-loop μ-loop
+mul-g c = search needs
+
+element-copy-out-g : tie.Need-element-copy-out-g Inv-loop μ-loop
+element-copy-out-g c = search needs
+
+mul-p : tie.Need-mul-p Inv-loop μ-loop
+mul-p c = search needs
+
+element-copy-out-p : tie.Need-element-copy-out-p Inv-loop μ-loop
+element-copy-out-p c = search needs
+
+sound-requires : tie.Need-sound-requires Inv-loop μ-loop
+sound-requires c κs = search needs
+
+zero-requires : tie.Need-zero-requires Inv-loop μ-loop
+zero-requires c κs = search needs
+
+add-i : tie.Need-add-i Inv-loop μ-loop
+add-i c = search needs
+
+loop-less : tie.Need-loop-less Inv-loop μ-loop
+loop-less c = search needs
+
+rows-long : (c : tie.Start Inv-loop μ-loop) → length (c .args .t1 .rows) ≡ 64
+rows-long c = simp length-map at (c .good .0 .1 .1 .1 .0 .1 .0 .1)
+
+negotiations-long : (c : tie.Start Inv-loop μ-loop) → length (c .args .t1 .negotiations) ≡ 64
+negotiations-long c = simp length-map at (c .good .0 .1 .1 .1 .1 .0 .1 .0 .1)
+
+schedules-long : (c : tie.Start Inv-loop μ-loop) → length (c .args .t1 .schedules) ≡ 64
+schedules-long c = simp length-map at (c .good .0 .1 .1 .1 .1 .1 .0 .1 .0 .1)
+
+even : (c : tie.Start Inv-loop μ-loop) → Level (c .args .t1 .rows) (c .args .t1 .negotiations) (c .args .t1 .schedules)
+even c = level _ _ _ (rows-long c) (negotiations-long c) (schedules-long c)
+
+loop-again : tie.Need-loop-again Inv-loop μ-loop
+loop-again c =
+    let i = c .before .before .before .before .before .before .loop .i in
+    let l = c .before .before .before .before .before .loop-test .taken in
+    let e = join-at dealOf _ _ _ (even (c .before .before .before .before .before .before .before .before .before .before)) i (omega (arith, rows-long (c .before .before .before .before .before .before .before .before .before .before))) noDeal _ _ _ in (
+      check-turn (c .before .before .before .before .before .before .loop .inv .0) l (rw (c .before .sound .ensures, c .zero .ensures .0) (sym (ap (λ r. either (c .before .before .before .before .before .before .before .before .before .before .args .t1 .count) i (dealSound r) (dealZero r)) e))),
+      below-on (c .before .before .before .before .before .before .loop .inv .1) (subst (λ n. Whole roundLimit n) (any-default (c .before .before .before .before .before .before .before .before .before .before .args .t1 .negotiations) i _ noNegotiation (omega (arith, negotiations-long (c .before .before .before .before .before .before .before .before .before .before)))) (c .zero .ensures .1)),
+    )
+
+returns : tie.Need-returns Inv-loop μ-loop
+unfolding dealsTest
+returns c = (
+  both-same (c .before .before .ids-sound .ensures) (check-done (c .before .loop .inv .0) (c .loop-test .left)),
+  record {
+    ids-long = search needs;
+    rows-long = rows-long (c .before .before .before .before .before);
+    negotiations-long = negotiations-long (c .before .before .before .before .before);
+    schedules-long = schedules-long (c .before .before .before .before .before);
+    whole = λ k h. c .before .loop .inv .1 k (omega (arith, c .loop-test .left));
+  },
+)
+
+pub sound-spec : {M : Type 1} → statement M
+sound-spec =
+    tie.close
+    (tie.spec
+    Inv-loop
+    μ-loop
+    ids-sound-requires
+    loop-holds
+    mul-o
+    element-copy-out-o
+    mul-g
+    element-copy-out-g
+    mul-p
+    element-copy-out-p
+    sound-requires
+    zero-requires
+    add-i
+    loop-less
+    loop-again
+    returns)
