@@ -1,65 +1,38 @@
--- What stands at a place leads on, within the journal: a record has at least two fields of eleven bytes. Assumes nothing.
+-- What the walk over a journal goes by: where its header and its records lead. Assumes nothing.
 use mathlib.Core.Path.{_≡_, refl, sym, ap, _∙_}
 use mathlib.Core.Bool.{Bool, true, false, _&&_}
-use mathlib.Core.List.{List, [], _∷_}
-use Prim.Native.Nat.{ℕ, _+_, _*_, _≤_, _<_}
+use mathlib.Core.List.{List}
+use Prim.Native.Nat.{ℕ, _≤_, _<_}
 use native.Mathlib.Omega.{arith}
 use lib.Dec.{eqb, leb}
-use lib.ListN.{length, getD, drop}
-use borrow.Author.Tests.{leb-true, leb-false, eqb-true}
+use lib.ListN.{length, drop}
+use borrow.Author.Tests.{leb-true}
 use Rattle.refusal.specs.Choice.{pick}
+use Rattle.refusal.specs.Refusal.{number, journalMalformed}
 use Rattle.wire.specs.Field.{begins, numberAt}
-use Rattle.wire.specs.FieldLaws.{and-left, and-right, begins-room}
+use Rattle.wire.specs.FieldLaws.{and-left}
 use Rattle.command.specs.declared.Command.{Command}
-use Rattle.journal.specs.Answers.{Reading, found, refused, ended, malformed}
-use Rattle.journal.specs.Table.{Row, rows, fieldsIn, fieldsOf, named, madeIn, made}
-use Rattle.journal.specs.declared.Values.{Values}
-use Rattle.journal.specs.Format.{openingOf, wellIn, numbersIn, zeros, recordAt, readAt}
+use Rattle.journal.specs.Answers.{Reading, found, refused, ended}
+use Rattle.journal.specs.Format.{openingOf, readAt}
+use Rattle.journal.specs.Ahead.{Goes, goes}
 
-unfoldable pub Goes : List ℕ → ℕ → Reading → Type 0
-Goes s at (found c next) = (at + 25 ≤ next) × (next ≤ length s)
-Goes s at (refused n p) = (p ≡ at) × (at < length s)
-Goes s at ended = length s ≤ at
+module _ (s : List ℕ) (at : ℕ) where
+  -- a record leads on, within the journal; a fault is there
+  pub ahead : {c : Command} {next : ℕ} → readAt s at ≡ found c next → (at < next) × (next ≤ length s)
+  unfolding Goes
+  ahead e = rw e at (goes s at)
 
--- what holds both ways holds of the choice
-either : {A : Type 0} (P : A → Type 0) (t : Bool) {x y : A} → (t ≡ true → P x) → (t ≡ false → P y) → P (pick t x y)
+  pub inside : {n p : ℕ} → readAt s at ≡ refused n p → (p ≡ at) × (at < length s)
+  unfolding Goes
+  inside e = let g = rw e at (goes s at) in (g .1 .0, g .1 .1)
+
+-- the first record stands within the journal
+opened-by : (s : List ℕ) (t : Bool) {at : ℕ} → (t ≡ true → 5 ≤ length s) → _≡_ {A = ℕ × ℕ} (pick t (0, 5) (number journalMalformed, 0)) (0, at) → at ≤ length s
 unfolding pick
-either P true f g = f refl
-either P false f g = g refl
+opened-by s true h e = let z = ap (λ (x : ℕ × ℕ). x .1) e in omega (arith, h refl)
+opened-by s false h e = let z = ap (λ (x : ℕ × ℕ). x .0) e in absurd (omega arith)
 
-abbrev isLong : List Row → Bool
-isLong [] = true
-isLong (r ∷ rs) = leb 2 (length (r .fields)) && isLong rs
-
-made-goes : (rs : List Row) → isLong rs ≡ true → (s : List ℕ) (at t : ℕ) (f : Values) → at < length s → at + (3 + 11 * length (fieldsIn rs t)) ≤ length s
-    → Goes s at (madeIn rs t f at (at + (3 + 11 * length (fieldsIn rs t))))
-unfolding madeIn fieldsIn Goes
-made-goes [] l s at t f h k = (refl, h)
-made-goes (r ∷ rs) l s at t f h k = go (eqb t (r .tag)) k
-  where
-    go : (b : Bool) → at + (3 + 11 * length (pick b (r .fields) (fieldsIn rs t))) ≤ length s
-        → Goes s at (pick b (found (r .make f) (at + (3 + 11 * length (pick b (r .fields) (fieldsIn rs t))))) (madeIn rs t f at (at + (3 + 11 * length (pick b (r .fields) (fieldsIn rs t))))))
-    unfolding pick
-    go true q = (omega (arith, leb-true 2 (length (r .fields)) (and-left _ _ l)), q)
-    go false q = made-goes rs (and-right _ _ l) s at t f h q
-
-record-goes : (s : List ℕ) (at t : ℕ) → at < length s → Goes s at (recordAt t (fieldsOf t) (drop at s) at)
-unfolding recordAt fieldsOf made Goes
-record-goes s at t h =
-    either (Goes s at) (begins t (11 * length (fieldsIn rows t)) (drop at s) && wellIn (fieldsIn rows t) (drop 3 (drop at s)))
-    (λ e. made-goes rows refl s at t _ h (begins-room t (11 * length (fieldsIn rows t)) at s (and-left _ _ e)))
-    (λ e. (refl, h))
-
-pub goes : (s : List ℕ) (at : ℕ) → Goes s at (readAt s at)
-unfolding readAt Goes
-goes s at = either (Goes s at) (leb (length s) at) (λ e. leb-true (length s) at e) (λ e. record-goes s at (getD s at 0) (leb-false (length s) at e))
-
--- the three answers of the reader
-module _ {s : List ℕ} {at : ℕ} where
-  pub ahead : {c : Command} {next : ℕ} → found c next ≡ readAt s at → (at + 25 ≤ next) × (next ≤ length s)
-  unfolding Goes
-  ahead e = rw (sym e) at (goes s at)
-
-  pub inside : {n p : ℕ} → refused n p ≡ readAt s at → (p ≡ at) × (at < length s)
-  unfolding Goes
-  inside e = rw (sym e) at (goes s at)
+pub opened : (s : List ℕ) {at : ℕ} → openingOf s ≡ (0, at) → at ≤ length s
+unfolding openingOf begins
+opened s e =
+    opened-by s (begins 0x10 2 s && eqb (numberAt 2 (drop 3 s)) 1) (λ h. leb-true 5 (length s) (and-left _ _ (and-left _ _ h))) e

@@ -39,8 +39,8 @@ listed (Done n) = (0, n)
 listed Short = (number bufferShort, 0)
 
 -- what is answered for a text t and a buffer l: the length of t, or 14; and the buffer after it: t and what stood past it, or l as it was
-unfoldable pub listing : List ℕ → List ℕ → ℕ × ℕ
-listing t l = pick (leb (length t) (length l)) (0, length t) (number bufferShort, 0)
+unfoldable pub listedIn : List ℕ → List ℕ → ℕ × ℕ
+listedIn t l = pick (leb (length t) (length l)) (0, length t) (number bufferShort, 0)
 
-unfoldable pub shown : List ℕ → List ℕ → List ℕ
-shown t l = pick (leb (length t) (length l)) (t ++ drop (length t) l) l
+unfoldable pub shownIn : List ℕ → List ℕ → List ℕ
+shownIn t l = pick (leb (length t) (length l)) (t ++ drop (length t) l) l
