@@ -4,3 +4,5 @@ pub mod Stored
 pub mod Shelving
 pub mod Steps
 pub mod Fitting
+pub mod Chains
+pub mod Tested

@@ -120,3 +120,7 @@ module _ {b : Book} (k : Shelved b) where
       ap (λ z. record { answer = z .answer; book = bookOf (b .accounts) (b .invoices) (b .offers) (b .totals) (z .row) }) e
       ∙ ap (λ z. record { answer = first (u .checks); book = z }) (new-settings k _)
       ∙ part-step (λ s. withSettings s (modelOf b)) (b .settings) u
+
+  -- the book as it was, with a number
+  pub same : (n : ℕ) → record { answer = n; book = b } ≡ stepOf n (modelOf b)
+  same n = ap (λ z. record { answer = n; book = z }) (back k)

@@ -1,0 +1,107 @@
+-- Every accepted command keeps a book in agreement with its ledger.
+use Prim.Native.Nat.{ℕ}
+use mathlib.Core.Path.{_≡_, refl, sym, subst}
+use mathlib.Core.Bool.{Bool}
+use mathlib.Core.List.{_++_}
+use lib.Dec.{eqb}
+use lib.IntN.{negℤ}
+use borrow.Author.Tests.{eqb-true, not-false}
+use Rattle.refusal.specs.Choice.{pick}
+use Rattle.table.specs.Tables.{here, find}
+use Rattle.terms.specs.Terms.{sameTerms}
+use Rattle.terms.specs.declared.Terms.{Terms}
+use Rattle.negotiation.specs.Rounds.{roundLimit, matches, agreesOf}
+use Rattle.negotiation.specs.Whole.{Whole}
+use Rattle.account.specs.declared.Account.{Account}
+use Rattle.account.specs.Account.{offers}
+use Rattle.account.specs.Rules.{reofferOf}
+use Rattle.offer.specs.declared.Deal.{Deal}
+use Rattle.offer.specs.Rules.{acceptChecks, amendChecks, counterChecks}
+use Rattle.invoice.specs.Invoice.{invoiceOf}
+use Rattle.command.specs.Caller.{callerOf}
+use Rattle.command.specs.declared.Command.{Command}
+use Rattle.command.specs.declared.Command.the-variants.{OpenAccount, Deposit, Payout, Approve, RegisterInvoice, CancelInvoice, CreateOffer, WithdrawOffer, AcceptOffer, RejectOffer, AmendOffer, CounterOffer, CloseNegotiation, ScheduleRepayment, UpdateStatus, UpdateRepaid, UpdateLenderRepaid, UpdateTotalsRepaid, Pause, Unpause, SetWindow, SetRepaymentAccount, SetBlacklisted, SetSeats}
+use Rattle.book.specs.Model.{Model, accountIn, offerIn, paperOf, withAccounts, withOffers}
+use Rattle.book.specs.Rules.{lenderOf, termsIn, unknown, rule, commanded, settling, agreeing, amendedIn, counteredIn}
+use Rattle.history.specs.History.{amends, counters, deals, entryOf, settles}
+use Rattle.history.specs.Figures.{put}
+use Rattle.history.specs.Passed.{Passes, passes-right, account-there, account-new, invoice-new, offer-there, offer-new}
+use Rattle.history.specs.Ledger.{Ledger, Bargain, raised, noted, sold, post, bargainOf}
+use Rattle.history.specs.Agrees.{Agrees}
+use Rattle.history.specs.Purses.{Like}
+use Rattle.history.specs.Purses as Purses
+use Rattle.history.specs.Papers as Papers
+use Rattle.history.specs.Bargains as Bargains
+use Rattle.history.specs.Settled.{settled, agreed, noted-accept, noted-amend, noted-counter}
+
+module _ {l : Ledger} {m : Model} (A : Agrees l m) where
+  -- commands that no ledger reads: only one row changes, and nothing that it shows
+  on-account : (a : ℕ) (new : Account) → Like (accountIn m a .row) new → Agrees l (withAccounts (put (m .accounts) a new) m)
+  on-account a new h = record { bargains = A .bargains; papers = A .papers; purses = Purses.kept (A .purses) a new h; financed = A .financed }
+
+  on-offer : (o : ℕ) (new : Deal) → bargainOf (here new) ≡ bargainOf (find (m .offers) o) → Whole roundLimit (new .negotiation) → Agrees l (withOffers (put (m .offers) o new) m)
+  on-offer o new h w = record { bargains = Bargains.kept (A .bargains) o new h w; papers = A .papers; purses = A .purses; financed = A .financed }
+
+  elsewhere : {n : Model} → n .offers ≡ m .offers → n .invoices ≡ m .invoices → n .accounts ≡ m .accounts → n .totals .financed ≡ m .totals .financed → Agrees l n
+  elsewhere {n} p q r s = record { bargains = rw p (A .bargains); papers = rw q (A .papers); purses = rw r (A .purses); financed = rw s (A .financed) }
+
+  keeps-amend : (now a o : ℕ) (t : Terms) (n : ℕ) → Passes (commanded m (AmendOffer now a o t n) .checks) → Agrees (post (deals o (amends t)) l) (commanded m (AmendOffer now a o t n) .done)
+  unfolding rule post unknown callerOf settles agreesOf
+  keeps-amend now a o t n p =
+      let g : Bool = agreesOf roundLimit (offerIn m o .row .negotiation) t in
+      let e : lenderOf m o ≡ a = eqb-true (lenderOf m o) a (not-false (eqb (lenderOf m o) a) (search)) in
+      let B : Agrees (noted o (amends t) l) (amendedIn m now a o t) =
+      noted-amend A now o t (offer-there (find (m .offers) o) (search)) (search) a (account-there (find (m .accounts) a) (search)) (sym e) in
+      let q : Passes (agreeing g now o (amendedIn m now a o t) .checks) =
+      passes-right (amendChecks (offerIn m o) now a (accountIn m a .row) t n ++ reofferOf (accountIn m a .row) (termsIn m o) t .checks) (agreeing g now o (amendedIn m now a o t) .checks) (p .1 .1) in
+      subst (λ (k : Bargain). Agrees (pick (matches t (k .counter)) (sold o (noted o (amends t) l)) (noted o (amends t) l)) (agreeing g now o (amendedIn m now a o t) .done)) (A .bargains .shown o)
+      (agreed B now o g q)
+
+  keeps-counter : (now a o : ℕ) (t : Terms) (n : ℕ) → Passes (commanded m (CounterOffer now a o t n) .checks) → Agrees (post (deals o (counters t)) l) (commanded m (CounterOffer now a o t n) .done)
+  unfolding rule post unknown callerOf settles
+  keeps-counter now a o t n p =
+      let g : Bool = sameTerms (termsIn m o) t in
+      let B : Agrees (noted o (counters t) l) (counteredIn m now o t) = noted-counter A now o t (offer-there (find (m .offers) o) (search)) (search) in
+      let q : Passes (agreeing g now o (counteredIn m now o t) .checks) =
+      passes-right (counterChecks (offerIn m o) now a (accountIn m a .row) t n (paperOf m o)) (agreeing g now o (counteredIn m now o t) .checks) (p .1 .1) in
+      subst (λ (k : Bargain). Agrees (pick (sameTerms (k .terms) t) (sold o (noted o (counters t) l)) (noted o (counters t) l)) (agreeing g now o (counteredIn m now o t) .done)) (A .bargains .shown o)
+      (agreed B now o g q)
+
+  pub keeps : (c : Command) → Passes (commanded m c .checks) → Agrees (post (entryOf c) l) (commanded m c .done)
+  unfolding rule entryOf post unknown callerOf settles pick raised
+  keeps (OpenAccount now a) p = record { bargains = A .bargains; papers = A .papers; purses = Purses.opened (A .purses) a (account-new (find (m .accounts) a) (search)); financed = A .financed }
+  keeps (Deposit now a x) p = record { bargains = A .bargains; papers = A .papers; purses = Purses.moved (A .purses) a x (account-there (find (m .accounts) a) (search)); financed = A .financed }
+  keeps (Payout now a x) p = record { bargains = A .bargains; papers = A .papers; purses = Purses.moved (A .purses) a (negℤ x) (account-there (find (m .accounts) a) (search)); financed = A .financed }
+  keeps (Approve now a x) p = on-account a _ (record { balance = refl; offered = refl; accepted = refl })
+  keeps (RegisterInvoice now a i x) p = record {
+    bargains = A .bargains;
+    papers = Papers.issued-by (A .papers) i a (invoiceOf a x) refl (invoice-new (find (m .invoices) i) (search));
+    purses = A .purses;
+    financed = A .financed;
+  }
+  keeps (CancelInvoice now a i) p = record { bargains = A .bargains; papers = Papers.cancelled (A .papers) i; purses = A .purses; financed = A .financed }
+  keeps (CreateOffer now a o i t e) p = record {
+    bargains = Bargains.created (A .bargains) o a i t e (offer-new (find (m .offers) o) (search));
+    papers = A .papers;
+    purses = Purses.offered-by (A .purses) a (t .amount) (account-there (find (m .accounts) a) (search)) (offers (t .amount) 1 (accountIn m a .row)) refl refl refl;
+    financed = A .financed;
+  }
+  keeps (WithdrawOffer now a o) p = on-offer o _ refl (A .bargains .rounds o)
+  keeps (AcceptOffer now a o) p =
+      settled (noted-accept A now o) now o (record { paper = search; pending = search })
+      (passes-right (acceptChecks (offerIn m o) now a (paperOf m o)) (settling now o m .checks) (p .1 .1))
+  keeps (RejectOffer now a o) p = on-offer o _ refl (A .bargains .rounds o)
+  keeps (AmendOffer now a o t n) p = keeps-amend now a o t n p
+  keeps (CounterOffer now a o t n) p = keeps-counter now a o t n p
+  keeps (CloseNegotiation now a o) p = on-offer o _ refl (record { long = A .bargains .rounds o .long })
+  keeps (ScheduleRepayment now a o k c d) p = on-offer o _ refl (A .bargains .rounds o)
+  keeps (UpdateStatus now a o c) p = on-offer o _ refl (A .bargains .rounds o)
+  keeps (UpdateRepaid now a o x) p = on-offer o _ refl (A .bargains .rounds o)
+  keeps (UpdateLenderRepaid now a k c) p = on-account k _ (record { balance = refl; offered = refl; accepted = refl })
+  keeps (UpdateTotalsRepaid now a x f) p = elsewhere refl refl refl refl
+  keeps (Pause now q) p = elsewhere refl refl refl refl
+  keeps (Unpause now q) p = elsewhere refl refl refl refl
+  keeps (SetWindow now q w) p = elsewhere refl refl refl refl
+  keeps (SetRepaymentAccount now i q) p = elsewhere refl refl refl refl
+  keeps (SetBlacklisted now i c q) p = on-account i _ (record { balance = refl; offered = refl; accepted = refl })
+  keeps (SetSeats now q h n) p = elsewhere refl refl refl refl

@@ -1,0 +1,21 @@
+use mathlib.Core.Path.{refl}
+use borrow.Author.Needs.{needs}
+use Rattle.wire.specs.Field.{placed, fieldOf, headOf, bytesOf}
+use Rattle.journal.specs.Format.{headerOf}
+use Rattle.journal.specs.WriteLaws.{short, fitting}
+use Rattle.journal.proofs.write_header.Statement.{statement}
+use Rattle.journal.proofs.write_header.Tie as tie
+
+returns : tie.Need-returns
+unfolding headerOf fieldOf headOf bytesOf
+returns c = short 0 headerOf (c .before .before .args .out .now) (c .if1 .taken)
+
+returns-2 : tie.Need-returns-2
+unfolding headerOf fieldOf headOf bytesOf placed
+returns-2 c =
+    let s = c .before .before .before .before .before in
+    fitting 0 headerOf (s .before .before .args .out .now) (s .if1 .left) refl (c .before .before .copy .ensures .1)
+
+pub write-header-spec : {M : Type 1} → statement M
+write-header-spec =
+    tie.close (tie.spec returns (λ c. search needs) (λ c κs. search needs) (λ c. search needs) returns-2)

@@ -1,0 +1,119 @@
+-- Bytes that are read as a command are exactly those that writing it gives. Assumes nothing.
+use mathlib.Core.Path.{_≡_, refl, sym, ap, _∙_}
+use mathlib.Core.Bool.{Bool, true, false, _&&_}
+use mathlib.Core.List.{List, [], _∷_}
+use Prim.Native.Nat.{ℕ, zero, suc, _+_, _*_, _^_, _≤_, _<_}
+use native.Mathlib.Omega.{arith}
+use lib.ListN.{length, getD, take, drop, set, length-drop}
+use lib.Seq.{take-add}
+use lib.Dec.{eqb, leb}
+use borrow.Author.Tests.{eqb-true}
+use Rattle.refusal.specs.Choice.{pick}
+use Rattle.refusal.specs.Refusal.{number, journalMalformed}
+use Rattle.command.specs.declared.Command.{Command}
+use Rattle.wire.specs.Field.{numberAt, bytesOf, fieldOf, begins}
+use Rattle.wire.specs.NumberLaws.{Bytes}
+use Rattle.wire.specs.FieldLaws.{and-left, and-right, begins-room}
+use Rattle.wire.specs.FieldTrip.{bytes-drop, field-bytes, number-whole, number-small}
+use Rattle.journal.specs.Answers.{found, ended, malformed}
+use Rattle.journal.specs.Table.{named, fieldsOf, made}
+use Rattle.journal.specs.Format.{headerOf, openingOf, fieldIn, wellIn, numbersIn, zeros, recordAt, readAt, fieldsOut, bytesFor}
+use Rattle.journal.specs.WriteLaws.{length-for}
+use Rattle.journal.specs.HeldLaws.{byTag}
+use Rattle.journal.specs.Faithful.{made-of}
+
+-- the numbers of n fields
+valuesIn : ℕ → List ℕ → List ℕ
+valuesIn zero b = []
+valuesIn (suc n) b = numberAt 8 (drop 3 b) ∷ valuesIn n (drop 11 b)
+
+length-values : (n : ℕ) (b : List ℕ) → length (valuesIn n b) ≡ n
+unfolding valuesIn
+length-values zero b = refl
+length-values (suc n) b = ap suc (length-values n (drop 11 b))
+
+values-small : (n : ℕ) (b : List ℕ) → Bytes b → (k : ℕ) → getD (valuesIn n b) k 0 < 2 ^ 64
+unfolding valuesIn
+values-small zero b h k = omega arith
+values-small (suc n) b h zero = number-small (drop 3 b) (bytes-drop 3 b h)
+values-small (suc n) b h (suc k) = values-small n (drop 11 b) (bytes-drop 11 b h) k
+
+by-tag : (v fs b : List ℕ) → numbersIn v fs b ≡ byTag v fs (valuesIn (length fs) b)
+unfolding numbersIn byTag valuesIn
+by-tag v [] b = refl
+by-tag v (f ∷ fs) b = by-tag (set v f (numberAt 8 (drop 3 b))) fs (drop 11 b)
+
+-- the bytes of one field, and of the fields of a record
+eleven : (f : ℕ) (b : List ℕ) → Bytes b → fieldIn f b ≡ true → take 11 b ≡ fieldOf f (bytesOf 8 (numberAt 8 (drop 3 b)))
+unfolding fieldIn
+eleven f b k e =
+    let g : begins f 8 b ≡ true = and-left (begins f 8 b) _ e in
+    let l : 11 ≤ length b = omega (arith, begins-room f 8 0 b g) in
+    field-bytes f 8 b k g ∙ ap (λ (w : List ℕ). fieldOf f w) (number-whole 8 (drop 3 b) (bytes-drop 3 b k) (rw length-drop (omega arith)))
+
+fields-bytes : (fs b : List ℕ) → Bytes b → wellIn fs b ≡ true → take (11 * length fs) b ≡ fieldsOut fs (valuesIn (length fs) b)
+unfolding wellIn fieldsOut valuesIn
+fields-bytes [] b k e = refl
+fields-bytes (f ∷ fs) b k e =
+    let s : 11 * suc (length fs) ≡ 11 + 11 * length fs = omega arith in
+    rw (
+      s,
+      take-add 11 (11 * length fs) b,
+      eleven f b k (and-left (fieldIn f b) (wellIn fs (drop 11 b)) e),
+      fields-bytes fs (drop 11 b) (bytes-drop 11 b k) (and-right (fieldIn f b) (wellIn fs (drop 11 b)) e),
+    )
+
+record-bytes : (t : ℕ) (fs b : List ℕ) → Bytes b → begins t (11 * length fs) b && wellIn fs (drop 3 b) ≡ true → take (3 + 11 * length fs) b ≡ fieldOf t (fieldsOut fs (valuesIn (length fs) (drop 3 b)))
+record-bytes t fs b k e =
+    field-bytes t (11 * length fs) b k (and-left (begins t (11 * length fs) b) _ e) ∙ ap (λ (w : List ℕ). fieldOf t w) (fields-bytes fs (drop 3 b) (bytes-drop 3 b k) (and-right (begins t (11 * length fs) b) _ e))
+
+-- what stands at a place
+pub record Stands (s : List ℕ) (at : ℕ) (c : Command) (n : ℕ) : Type 0 where
+  pub past : n ≡ at + length (bytesFor c)
+  pub bytes : take (length (bytesFor c)) (drop at s) ≡ bytesFor c
+
+by-record : (t : ℕ) (s : List ℕ) (at : ℕ) (c : Command) (n : ℕ) → Bytes s → recordAt t (fieldsOf t) (drop at s) at ≡ found c n → Stands s at c n
+unfolding recordAt pick bytesFor
+by-record t s at c n k e = go (begins t (11 * length fs) b && wellIn fs (drop 3 b)) refl e
+  where
+    b : List ℕ
+    b = drop at s
+
+    fs : List ℕ
+    fs = fieldsOf t
+
+    vs : List ℕ
+    vs = valuesIn (length fs) (drop 3 b)
+
+    kb : Bytes b
+    kb = bytes-drop at s k
+
+    go : (w : Bool) → begins t (11 * length fs) b && wellIn fs (drop 3 b) ≡ w → pick w (made t (named (numbersIn zeros fs (drop 3 b))) at (at + (3 + 11 * length fs))) (malformed at) ≡ found c n → Stands s at c n
+    go true q e =
+        let m = made-of t at (at + (3 + 11 * length fs)) n vs c (length-values (length fs) (drop 3 b)) (values-small (length fs) (drop 3 b) (bytes-drop 3 b kb)) (rw (by-tag zeros fs (drop 3 b)) at e) in
+        let i : bytesFor c ≡ fieldOf t (fieldsOut fs vs) = ap (λ (p : ℕ × List ℕ). fieldOf (p .0) (fieldsOut (fieldsOf (p .0)) (p .1))) (m .1) in
+        let l : length (bytesFor c) ≡ 3 + 11 * length fs = length-for c ∙ ap (λ (p : ℕ × List ℕ). 3 + 11 * length (fieldsOf (p .0))) (m .1) in
+        record { past = sym (m .0) ∙ ap (λ (j : ℕ). at + j) (sym l); bytes = rw l (record-bytes t fs b kb q ∙ sym i) }
+    go false q e = let z : _≡_ {A = ℕ} 0 1 = cc in absurd (omega arith)
+
+-- READING THEN WRITING
+pub canonical : (s : List ℕ) (at : ℕ) (c : Command) (n : ℕ) → Bytes s → readAt s at ≡ found c n → Stands s at c n
+unfolding readAt pick
+canonical s at c n k e = go (leb (length s) at) e
+  where
+    go : (w : Bool) → pick w ended (recordAt (getD s at 0) (fieldsOf (getD s at 0)) (drop at s) at) ≡ found c n → Stands s at c n
+    go true e = let z : _≡_ {A = ℕ} 0 1 = cc in absurd (omega arith)
+    go false e = by-record (getD s at 0) s at c n k e
+
+-- and a journal that opens begins with exactly the header
+pub header-canonical : (s : List ℕ) → Bytes s → openingOf s ≡ (0, 5) → take 5 s ≡ headerOf
+unfolding openingOf headerOf pick
+header-canonical s k e = go (begins 0x10 2 s && eqb (numberAt 2 (drop 3 s)) 1) refl e
+  where
+    go : (w : Bool) → begins 0x10 2 s && eqb (numberAt 2 (drop 3 s)) 1 ≡ w → _≡_ {A = ℕ × ℕ} (pick w (0, 5) (number journalMalformed, 0)) (0, 5) → take 5 s ≡ fieldOf 0x10 (bytesOf 2 1)
+    go true q e =
+        let g : begins 0x10 2 s ≡ true = and-left (begins 0x10 2 s) _ q in
+        let n : numberAt 2 (drop 3 s) ≡ 1 = eqb-true (numberAt 2 (drop 3 s)) 1 (and-right (begins 0x10 2 s) _ q) in
+        let l : 5 ≤ length s = omega (arith, begins-room 0x10 2 0 s g) in
+        field-bytes 0x10 2 s k g ∙ ap (λ (w : List ℕ). fieldOf 0x10 w) (number-whole 2 (drop 3 s) (bytes-drop 3 s k) (rw length-drop (omega arith)) ∙ ap (bytesOf 2) n)
+    go false q e = let z : _≡_ {A = ℕ} 13 0 = ap (λ (p : ℕ × ℕ). p .0) e in absurd (omega arith)

@@ -1,0 +1,102 @@
+-- Each row of the table makes a command with the row's tag and the numbers that it was made of. Assumes nothing.
+use mathlib.Core.Path.{_≡_, refl, sym, ap, _∙_}
+use mathlib.Core.Bool.{Bool, true, false}
+use mathlib.Core.List.{List, [], _∷_}
+use Prim.Native.Nat.{ℕ, zero, suc, _^_, _<_}
+use native.Mathlib.Omega.{arith}
+use lib.ListN.{length, getD}
+use lib.Dec.{eqb}
+use borrow.Author.Tests.{eqb-true}
+use Rattle.refusal.specs.Choice.{pick}
+use Rattle.money.specs.Range.{bitsOf, ofBits}
+use Rattle.money.specs.Facts.{bits-of-bits}
+use Rattle.command.specs.declared.Command.{Command}
+use Rattle.journal.specs.Answers.{found, malformed}
+use Rattle.journal.specs.Table.{Row, rows, named, fieldsIn, fieldsOf, madeIn, made, partsOf}
+use Rattle.journal.specs.Format.{zeros}
+use Rattle.journal.specs.HeldLaws.{byTag}
+use Rattle.journal.specs.declared.reading.Values.{Values}
+
+-- the first n numbers
+abbrev pub tabulate : ℕ → (ℕ → ℕ) → List ℕ
+tabulate zero v = []
+tabulate (suc n) v = v 0 ∷ tabulate n (λ (k : ℕ). v (suc k))
+
+pub tabulated : (l : List ℕ) → tabulate (length l) (λ (k : ℕ). getD l k 0) ≡ l
+tabulated [] = refl
+tabulated (x ∷ l) = ap (λ (r : List ℕ). x ∷ r) (tabulated l)
+
+-- the values that fields of these tags hold
+abbrev valuesAt : List ℕ → (ℕ → ℕ) → Values
+valuesAt fs v = named (byTag zeros fs (tabulate (length fs) v))
+
+abbrev Faithful : Row → Type 0
+Faithful r = (v : ℕ → ℕ) → ((k : ℕ) → v k < 2 ^ 64) → partsOf (r .make (valuesAt (r .fields) v)) ≡ (r .tag, tabulate (length (r .fields)) v)
+
+infixr 5 _▸_
+data Each : List Row → Type 0 where
+  none : Each []
+  _▸_ : {r : Row} {rs : List Row} → Faithful r → Each rs → Each (r ∷ rs)
+
+-- an amount among the numbers comes back from its bits
+amount : (t : ℕ) (g : ℕ → List ℕ) (x : ℕ) → x < 2 ^ 64 → _≡_ {A = ℕ × List ℕ} (t, g (bitsOf (ofBits x))) (t, g x)
+amount t g x h = ap (λ (n : ℕ). (t, g n)) (bits-of-bits x h)
+
+all-rows : Each rows
+unfolding partsOf named byTag
+all-rows =
+    (λ v h. refl)
+    ▸ (λ v h. amount 0x22 (λ x. v 0 ∷ v 1 ∷ x ∷ []) (v 2) (h 2))
+    ▸ (λ v h. amount 0x23 (λ x. v 0 ∷ v 1 ∷ x ∷ []) (v 2) (h 2))
+    ▸ (λ v h. amount 0x24 (λ x. v 0 ∷ v 1 ∷ x ∷ []) (v 2) (h 2))
+    ▸ (λ v h. amount 0x25 (λ x. v 0 ∷ v 1 ∷ v 2 ∷ x ∷ []) (v 3) (h 3))
+    ▸ (λ v h. refl)
+    ▸ (λ v h. amount 0x31 (λ x. v 0 ∷ v 1 ∷ v 2 ∷ v 3 ∷ x ∷ v 5 ∷ v 6 ∷ v 7 ∷ []) (v 4) (h 4))
+    ▸ (λ v h. refl)
+    ▸ (λ v h. refl)
+    ▸ (λ v h. refl)
+    ▸ (λ v h. amount 0x35 (λ x. v 0 ∷ v 1 ∷ v 2 ∷ x ∷ v 4 ∷ v 5 ∷ v 6 ∷ []) (v 3) (h 3))
+    ▸ (λ v h. amount 0x36 (λ x. v 0 ∷ v 1 ∷ v 2 ∷ x ∷ v 4 ∷ v 5 ∷ v 6 ∷ []) (v 3) (h 3))
+    ▸ (λ v h. refl)
+    ▸ (λ v h. refl)
+    ▸ (λ v h. refl)
+    ▸ (λ v h. amount 0x42 (λ x. v 0 ∷ v 1 ∷ v 2 ∷ x ∷ []) (v 3) (h 3))
+    ▸ (λ v h. refl)
+    ▸ (λ v h. amount 0x44 (λ x. v 0 ∷ v 1 ∷ x ∷ bitsOf (ofBits (v 3)) ∷ []) (v 2) (h 2) ∙ amount 0x44 (λ x. v 0 ∷ v 1 ∷ v 2 ∷ x ∷ []) (v 3) (h 3))
+    ▸ (λ v h. refl)
+    ▸ (λ v h. refl)
+    ▸ (λ v h. refl)
+    ▸ (λ v h. refl)
+    ▸ (λ v h. refl)
+    ▸ (λ v h. refl)
+    ▸ none
+
+-- what a row makes of numbers
+pub record Made (t m n : ℕ) (fs : List ℕ) (v : ℕ → ℕ) (c : Command) : Type 0 where
+  pub next : m ≡ n
+  pub parts : partsOf c ≡ (t, tabulate (length fs) v)
+
+made-in : (rs : List Row) (t : ℕ) (v : ℕ → ℕ) (at m n : ℕ) (c : Command) → Each rs → ((k : ℕ) → v k < 2 ^ 64) → madeIn rs t (valuesAt (fieldsIn rs t) v) at m ≡ found c n → Made t m n (fieldsIn rs t) v c
+unfolding madeIn fieldsIn pick
+made-in [] t v at m n c a h e = absurd (no e)
+  where
+    no : malformed at ≡ found c n → ⊥
+    no e = let z : _≡_ {A = ℕ} 0 1 = cc in omega arith
+made-in (r ∷ rs) t v at m n c (a ▸ l) h e = go (λ x. made-in rs t v at m n c l h x) (eqb t (r .tag)) refl e
+  where
+    go : (madeIn rs t (valuesAt (fieldsIn rs t) v) at m ≡ found c n → Made t m n (fieldsIn rs t) v c) → (b : Bool) → eqb t (r .tag) ≡ b
+        → pick b (found (r .make (valuesAt (pick b (r .fields) (fieldsIn rs t)) v)) m) (madeIn rs t (valuesAt (pick b (r .fields) (fieldsIn rs t)) v) at m) ≡ found c n
+        → Made t m n (pick b (r .fields) (fieldsIn rs t)) v c
+    go w true q e =
+        let i : r .make (valuesAt (r .fields) v) ≡ c = cc in
+        let j : m ≡ n = cc in
+        record { next = j; parts = ap partsOf (sym i) ∙ a v h ∙ ap (λ (k : ℕ). (k, tabulate (length (r .fields)) v)) (sym (eqb-true t (r .tag) q)) }
+    go w false q e = w e
+
+-- a record of tag t whose fields hold the numbers vs
+pub made-of : (t at m n : ℕ) (vs : List ℕ) (c : Command) → length vs ≡ length (fieldsOf t) → ((k : ℕ) → getD vs k 0 < 2 ^ 64) → made t (named (byTag zeros (fieldsOf t) vs)) at m ≡ found c n → (m ≡ n) × (partsOf c ≡ (t, vs))
+unfolding made fieldsOf
+made-of t at m n vs c l h e =
+    let k : tabulate (length (fieldsIn rows t)) (λ (k : ℕ). getD vs k 0) ≡ vs = ap (λ (n : ℕ). tabulate n (λ (k : ℕ). getD vs k 0)) (sym l) ∙ tabulated vs in
+    let r = made-in rows t (λ (k : ℕ). getD vs k 0) at m n c all-rows h (rw k e) in
+    (r .next, r .parts ∙ ap (λ (x : List ℕ). (t, x)) k)

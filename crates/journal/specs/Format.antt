@@ -1,0 +1,62 @@
+-- Document 01, "Journal and replay": the header, what stands at a place of a journal, and the bytes of a command.
+use mathlib.Core.Bool.{Bool, true, false, _&&_}
+use mathlib.Core.List.{List, [], _∷_, _++_}
+use Prim.Native.Nat.{ℕ, _+_, _*_}
+use lib.ListN.{length, getD, drop, set, replicate}
+use lib.Dec.{eqb, leb}
+use Rattle.refusal.specs.Choice.{pick}
+use Rattle.refusal.specs.Refusal.{number, journalMalformed, bufferShort}
+use Rattle.command.specs.declared.Command.{Command}
+use Rattle.wire.specs.Field.{numberAt, bytesOf, begins, fieldOf}
+use Rattle.journal.specs.Answers.{Reading, ended, malformed}
+use Rattle.journal.specs.declared.reading.Gathered.{Gathered}
+use Rattle.journal.specs.Table.{fieldsOf, topOf, named, made, partsOf}
+
+-- first comes tag 10, length 2, edition 1; anything else gives 13 at offset 0. The records follow
+unfoldable pub headerOf : List ℕ
+headerOf = fieldOf 0x10 (bytesOf 2 1)
+
+unfoldable pub openingOf : List ℕ → ℕ × ℕ
+openingOf s = pick (begins 0x10 2 s && eqb (numberAt 2 (drop 3 s)) 1) (0, 5) (number journalMalformed, 0)
+
+-- b begins with the field f of eight bytes, its number in range; and with these fields, one after the other
+unfoldable pub fieldIn : ℕ → List ℕ → Bool
+fieldIn f b = begins f 8 b && leb (numberAt 8 (drop 3 b)) (topOf f)
+
+unfoldable pub wellIn : List ℕ → List ℕ → Bool
+wellIn [] b = true
+wellIn (f ∷ fs) b = fieldIn f b && wellIn fs (drop 11 b)
+
+-- v with the numbers of the fields that b begins with, each at the place of its tag
+unfoldable pub numbersIn : List ℕ → List ℕ → List ℕ → List ℕ
+numbersIn v [] b = v
+numbersIn v (f ∷ fs) b = numbersIn (set v f (numberAt 8 (drop 3 b))) fs (drop 11 b)
+
+abbrev pub zeros : List ℕ
+zeros = replicate 32 0
+
+-- both, as the code takes them
+unfoldable pub gatheredIn : List ℕ → List ℕ → Gathered
+gatheredIn fs b = pick (wellIn fs b) (true, numbersIn zeros fs b) (false, zeros)
+
+-- what stands at a place: a record of tag t with exactly the fields fs, or 13 at the tag
+unfoldable pub recordAt : ℕ → List ℕ → List ℕ → ℕ → Reading
+recordAt t fs b at =
+    pick (begins t (11 * length fs) b && wellIn fs (drop 3 b))
+    (made t (named (numbersIn zeros fs (drop 3 b))) at (at + (3 + 11 * length fs)))
+    (malformed at)
+
+unfoldable pub readAt : List ℕ → ℕ → Reading
+readAt s at = pick (leb (length s) at) ended (recordAt (getD s at 0) (fieldsOf (getD s at 0)) (drop at s) at)
+
+-- fields with their numbers, one after the other; and the bytes of a command
+unfoldable pub fieldsOut : List ℕ → List ℕ → List ℕ
+fieldsOut [] vs = []
+fieldsOut (f ∷ fs) vs = fieldOf f (bytesOf 8 (getD vs 0 0)) ++ fieldsOut fs (drop 1 vs)
+
+unfoldable pub bytesFor : Command → List ℕ
+bytesFor c = fieldOf (partsOf c .0) (fieldsOut (fieldsOf (partsOf c .0)) (partsOf c .1))
+
+-- what writing w into l at a place answers: the number of bytes, or 14
+unfoldable pub writing : ℕ → List ℕ → List ℕ → ℕ × ℕ
+writing at w l = pick (leb (at + length w) (length l)) (0, length w) (number bufferShort, 0)

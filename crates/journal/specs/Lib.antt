@@ -1,0 +1,14 @@
+pub mod Answers
+pub mod Table
+pub mod Format
+pub mod Held
+pub mod HeldLaws
+pub mod Unique
+pub mod TableLaws
+pub mod FieldLaws
+pub mod WriteLaws
+pub mod ReadLaws
+pub mod RoundTrip
+pub mod Faithful
+pub mod Canonical
+pub mod Ahead

@@ -1,0 +1,116 @@
+//! A bounded comparison: books of generated commands, then damaged journals of the same.
+
+use std::time::{Duration, Instant};
+
+use journal::Command;
+use side::Side;
+
+use crate::chance::Chance;
+use crate::coverage::Coverage;
+use crate::damage::{damaged, listings_differ, other_tags};
+use crate::generate::{Generator, Plan};
+use crate::given::given;
+use crate::pair::{Pair, Start};
+use crate::shrink::{shrink, Failure};
+
+#[derive(Default)]
+pub struct Report {
+    pub commands: u64,
+    pub books: u64,
+    pub given_books: u64,
+    pub queries: u64,
+    pub wide_quotients: u64,
+    pub damaged: u64,
+    pub time: Duration,
+    pub coverage: Coverage,
+}
+
+pub enum Found {
+    /// The smallest run that shows the difference.
+    Run(Failure),
+    /// Bytes that the sides read differently, and both listings.
+    Bytes(Vec<u8>, String, String),
+}
+
+/// Compares so many commands from this seed. The first difference ends it.
+pub fn compare(other: &mut dyn Side, seed: u64, commands: u64) -> (Report, Option<Found>) {
+    let began = Instant::now();
+    let mut report = Report::default();
+    let mut found = None;
+    while found.is_none() && report.commands < commands {
+        let mut chance = Chance::new(seed.wrapping_mul(0x9E37_79B9).wrapping_add(report.books));
+        let mut chance = Chance::new(chance.number());
+        let most = commands - report.commands;
+        found = compare_book(other, &mut chance, most, &mut report);
+        report.books += 1;
+    }
+    report.time = began.elapsed();
+    (report, found)
+}
+
+fn compare_book(
+    other: &mut dyn Side,
+    chance: &mut Chance,
+    most: u64,
+    report: &mut Report,
+) -> Option<Found> {
+    let start = if chance.percent(25) { Start::Rows(given(chance)) } else { Start::Fresh };
+    report.given_books += u64::from(matches!(start, Start::Rows(_)));
+    let plan = Plan::new(chance);
+    let length = plan.length.min(most);
+    let mut generator = Generator::new(Chance::new(chance.number()), plan);
+    let (commands, what) = run(other, &start, length, &mut generator, report);
+    if let Some(what) = what {
+        return Some(Found::Run(shrink(other, Failure { start, commands, what })));
+    }
+    compare_damaged(other, chance, &commands, report)
+}
+
+/// Runs one book; the commands that were run, and the difference that ended them.
+fn run(
+    other: &mut dyn Side,
+    start: &Start,
+    length: u64,
+    generator: &mut Generator,
+    report: &mut Report,
+) -> (Vec<Command>, Option<String>) {
+    let mut pair = Pair::start(other, start);
+    let mut commands: Vec<Command> = Vec::new();
+    let mut what = pair.compare_books().err();
+    while what.is_none() && (commands.len() as u64) < length {
+        let command = generator.next(&pair.book);
+        let time_before = commands.last().map_or(0, Command::now);
+        commands.push(command);
+        let before = pair.book.clone();
+        match pair.step(&command) {
+            Ok(verdict) => {
+                report.coverage.add(&command, &verdict);
+                let books = [&before, &pair.book];
+                report.coverage.add_paths(&command, verdict.number, time_before, books);
+            }
+            Err(difference) => what = Some(difference),
+        }
+    }
+    report.commands += commands.len() as u64;
+    report.queries += pair.met.queries;
+    report.wide_quotients += pair.met.wide_quotients;
+    (commands, what)
+}
+
+fn compare_damaged(
+    other: &mut dyn Side,
+    chance: &mut Chance,
+    commands: &[Command],
+    report: &mut Report,
+) -> Option<Found> {
+    let some = &commands[..commands.len().min(chance.within(1, 30) as usize)];
+    let mut journals: Vec<_> = (0..12).map(|_| damaged(chance, some)).collect();
+    some.first().into_iter().for_each(|command| journals.extend(other_tags(command)));
+    for bytes in journals {
+        report.damaged += 1;
+        if let Some((one, two)) = listings_differ(other, &bytes) {
+            return Some(Found::Bytes(bytes, one, two));
+        }
+    }
+    None
+}

@@ -1,0 +1,158 @@
+//! How often each command gave each answer, and which refusing lines of the original were met.
+
+mod lines;
+mod paths;
+
+use std::collections::BTreeMap;
+use std::fmt::Write;
+
+use journal::{Command, KINDS};
+use layer::{Source, Verdict};
+use side::Book;
+
+use lines::{refusing_lines, BEYOND};
+use paths::{names, walked};
+
+/// The answers that document 01's lists allow each command, by tag.
+pub const ALLOWED: [(u8, &[usize]); 24] = [
+    (0x21, &[0, 1, 5, 12]),
+    (0x22, &[0, 1, 3, 4, 11]),
+    (0x23, &[0, 1, 3, 4, 10]),
+    (0x24, &[0, 1, 3, 4]),
+    (0x25, &[0, 1, 3, 4, 5, 12]),
+    (0x26, &[0, 1, 4, 6, 7]),
+    (0x31, &[0, 1, 2, 3, 4, 5, 7, 11, 12]),
+    (0x32, &[0, 1, 4, 6, 7]),
+    (0x33, &[0, 1, 4, 6, 7, 8, 9, 10, 11]),
+    (0x34, &[0, 1, 4, 6, 7]),
+    (0x35, &[0, 1, 2, 3, 4, 6, 7, 8, 9, 10, 11]),
+    (0x36, &[0, 1, 2, 3, 4, 6, 7, 8, 9, 10, 11]),
+    (0x37, &[0, 1, 4, 6, 7]),
+    (0x38, &[0, 1, 3, 4, 6, 7]),
+    (0x41, &[0, 1, 3, 4, 6]),
+    (0x42, &[0, 1, 4, 6, 11]),
+    (0x43, &[0, 1, 3, 4, 6, 11]),
+    (0x44, &[0, 1, 4, 6, 11]),
+    (0x51, &[0, 6]),
+    (0x52, &[0, 6]),
+    (0x53, &[0, 1, 3, 6]),
+    (0x54, &[0, 1, 4, 6]),
+    (0x55, &[0, 1, 3, 4, 6]),
+    (0x56, &[0, 1, 3, 6]),
+];
+
+const ANSWERS: usize = 13;
+
+#[derive(Default)]
+pub struct Coverage {
+    counts: BTreeMap<(u8, usize), u64>,
+    sources: BTreeMap<Source, u64>,
+    lines: BTreeMap<u32, u64>,
+    paths: BTreeMap<&'static str, u64>,
+}
+
+impl Coverage {
+    /// Notes the paths that a command walked from one book to the next.
+    pub fn add_paths(&mut self, command: &Command, answer: u64, before: u64, books: [&Book; 2]) {
+        for path in walked(command, answer, before, books) {
+            *self.paths.entry(path).or_default() += 1;
+        }
+    }
+
+    /// How often each path was walked.
+    pub fn paths(&self) -> String {
+        let count = |path| self.paths.get(path).copied().unwrap_or(0);
+        names().map(|path| format!("{:>10} {path}\n", count(path))).collect()
+    }
+
+    pub fn add(&mut self, command: &Command, verdict: &Verdict) {
+        let tag = command.numbers().0;
+        *self.counts.entry((tag, verdict.number as usize)).or_default() += 1;
+        *self.sources.entry(verdict.source).or_default() += 1;
+        if verdict.line > 0 {
+            *self.lines.entry(verdict.line).or_default() += 1;
+        }
+    }
+
+    fn count(&self, tag: u8, answer: usize) -> u64 {
+        self.counts.get(&(tag, answer)).copied().unwrap_or(0)
+    }
+
+    /// One row for each command, one column for each answer.
+    pub fn table(&self) -> String {
+        let mut out = format!("{:<21}", "command");
+        (0..ANSWERS).for_each(|answer| write!(out, "{answer:>8}").unwrap());
+        out.push('\n');
+        for kind in &KINDS {
+            write!(out, "{:02X} {:<18}", kind.tag, kind.name).unwrap();
+            for answer in 0..ANSWERS {
+                match self.count(kind.tag, answer) {
+                    0 => write!(out, "{:>8}", ".").unwrap(),
+                    count => write!(out, "{count:>8}").unwrap(),
+                }
+            }
+            out.push('\n');
+        }
+        out
+    }
+
+    /// Where the answers came from.
+    pub fn sources(&self) -> String {
+        let named = |source: &Source| match source {
+            Source::Accepted => "accepted",
+            Source::Code => "refused with the original's own code",
+            Source::Assert => "refused by a bare assert (no code; number by its message)",
+            Source::Other => "refused by another contract or the host (no code)",
+            Source::Port => "refused by a rule of the port alone",
+        };
+        let lines =
+            self.sources.iter().map(|(source, count)| format!("{count:>10} {}\n", named(source)));
+        lines.collect()
+    }
+
+    /// Answers that document 01 allows and that never came, or came and are not allowed.
+    pub fn unexpected(&self) -> Vec<String> {
+        let mut found = Vec::new();
+        for (tag, allowed) in ALLOWED {
+            for answer in 0..ANSWERS {
+                let (seen, listed) = (self.count(tag, answer) > 0, allowed.contains(&answer));
+                if seen && !listed {
+                    found.push(format!("command {tag:02X} answered {answer}, which is not listed"));
+                } else if listed && !seen {
+                    found.push(format!("command {tag:02X} never answered {answer}"));
+                }
+            }
+        }
+        found
+    }
+
+    pub fn unwalked(&self) -> Vec<String> {
+        let unwalked = names().filter(|path| !self.paths.contains_key(path));
+        unwalked.map(|path| format!("never: {path}")).collect()
+    }
+
+    /// The lines of the original that can refuse and never did, apart from those that no command
+    /// of the journal can reach.
+    pub fn unmet_lines(&self) -> Vec<String> {
+        let lines = refusing_lines();
+        let unmet = lines.iter().filter(|(line, _)| !self.lines.contains_key(line));
+        let owed = unmet.filter(|(line, _)| !BEYOND.iter().any(|(beyond, _)| beyond == line));
+        owed.map(|(line, text)| format!("line {line} never refused: {text}")).collect()
+    }
+
+    pub fn lines_met(&self) -> String {
+        let all = refusing_lines().len();
+        let (met, beyond) = (self.lines.len(), BEYOND.len());
+        format!("{met} of the original's {all} refusing lines met, {beyond} beyond any journal")
+    }
+}
+
+#[cfg(test)]
+mod test {
+    use super::*;
+
+    #[test]
+    fn every_command_has_its_answers() {
+        assert!(KINDS.iter().zip(ALLOWED).all(|(kind, (tag, _))| kind.tag == tag));
+    }
+}

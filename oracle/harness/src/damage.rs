@@ -1,0 +1,99 @@
+//! Damaged journals: the layer's reading by table against the plain reading of the format.
+
+use journal::{field, journal, Command, HEADER, KINDS, NARROW};
+use layer::Original;
+use side::Side;
+
+use crate::chance::Chance;
+
+/// The listings of both sides for these bytes, if they differ.
+pub fn listings_differ(other: &mut dyn Side, bytes: &[u8]) -> Option<(String, String)> {
+    let one = Original::default().listing(bytes);
+    let two = other.listing(bytes);
+    let text = |listing: Vec<u8>| String::from_utf8_lossy(&listing).into_owned();
+    (one != two).then(|| (text(one), text(two)))
+}
+
+/// A journal of these commands with one or two things wrong.
+pub fn damaged(chance: &mut Chance, commands: &[Command]) -> Vec<u8> {
+    let mut bytes = match chance.below(3) {
+        0 => wrong_fields(chance, commands),
+        _ => journal(commands),
+    };
+    for _ in 0..chance.below(3) {
+        wound(chance, &mut bytes);
+    }
+    bytes
+}
+
+fn wound(chance: &mut Chance, bytes: &mut Vec<u8>) {
+    let length = bytes.len() as u64;
+    if length == 0 {
+        return bytes.push(chance.number() as u8);
+    }
+    let at = chance.below(length) as usize;
+    match chance.below(8) {
+        0 => bytes.truncate(at),
+        1 => drop(bytes.remove(at)),
+        2 => bytes.insert(at, chance.number() as u8),
+        3 => bytes.push(chance.pick(&[0, 0x21, 0x10, 0xFF])),
+        4 => bytes[at] = bytes[at].wrapping_add(1),
+        5 => bytes[at] ^= 1 << chance.below(8),
+        6 => bytes[chance.below(length.min(HEADER.len() as u64)) as usize] ^= 1,
+        _ => bytes[at] = chance.number() as u8,
+    }
+}
+
+/// One record written with a field missing, twice, out of order, too long, too great or unknown.
+fn wrong_fields(chance: &mut Chance, commands: &[Command]) -> Vec<u8> {
+    let mut bytes = HEADER.to_vec();
+    let wrong = chance.below(commands.len() as u64 + 1) as usize;
+    for (index, command) in commands.iter().enumerate() {
+        if index == wrong {
+            wrong_record(chance, command, &mut bytes);
+        } else {
+            journal::write(command, &mut bytes);
+        }
+    }
+    bytes
+}
+
+fn wrong_record(chance: &mut Chance, command: &Command, out: &mut Vec<u8>) {
+    let (mut tag, numbers) = command.numbers();
+    let listed = command.kind().fields.iter();
+    let mut fields: Vec<_> = listed.map(|tag| (*tag, numbers[*tag as usize])).collect();
+    let at = chance.below(fields.len() as u64) as usize;
+    let mut width = 8;
+    match chance.below(8) {
+        0 => drop(fields.remove(at)),
+        1 => fields.insert(at, fields[at]),
+        2 => fields.swap(at, 0),
+        3 => fields.push((chance.within(0x01, 0x13) as u8, chance.number())),
+        4 => width = chance.pick(&[0, 1, 4, 7, 9]),
+        5 => fields[at].0 = chance.within(0, 0x20) as u8,
+        6 => tag = chance.pick(&[0x20, 0x27, 0x30, 0x39, 0x40, 0x45, 0x50, 0x57, 0x10, 0xFF]),
+        _ => too_great(chance, &mut fields),
+    }
+    let mut inside = Vec::new();
+    for (index, (tag, number)) in fields.iter().enumerate() {
+        let eight = [number.to_be_bytes().as_slice(), &[0]].concat();
+        field(*tag, &eight[..if index == at { width } else { 8 }], &mut inside);
+    }
+    field(tag, &inside, out);
+}
+
+/// A number of 32 bits raised past them, if the command has one; else another command's tag would
+/// do, but then the record is well formed, which is as good.
+fn too_great(chance: &mut Chance, fields: &mut [(u8, u64)]) {
+    let narrow = fields.iter_mut().filter(|(tag, _)| NARROW.contains(tag));
+    narrow.for_each(|(_, number)| *number += chance.below(2) << 32);
+}
+
+/// The same fields under each tag in turn: at most one is theirs.
+pub fn other_tags(command: &Command) -> Vec<Vec<u8>> {
+    let mut record = Vec::new();
+    journal::write(command, &mut record);
+    let tags = KINDS.iter().map(|kind| kind.tag);
+    let retagged = tags.map(|tag| [HEADER.as_slice(), &[tag], &record[1..]].concat());
+    retagged.collect()
+}

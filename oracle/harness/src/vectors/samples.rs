@@ -1,0 +1,124 @@
+//! The journals of the sample.
+
+use journal::{journal, session, Command, HEADER};
+use layer::Original;
+use side::Book;
+
+use super::malformed::malformed;
+use crate::chance::Chance;
+use crate::generate::{Generator, Plan};
+use crate::script::{steps, Step};
+
+/// A journal and what it is for.
+pub struct Sample {
+    pub name: String,
+    pub what: String,
+    pub bytes: Vec<u8>,
+}
+
+macro_rules! scripts {
+    ($($name:literal)*) => {
+        /// Each script with its name; its first comments say what it shows.
+        pub(super) const SCRIPTS: &[(&str, &str)] =
+            &[$(($name, include_str!(concat!("../../scripts/", $name, ".txt")))),*];
+    };
+}
+
+scripts! {
+    "21-open" "22-deposit" "23-payout" "24-approve" "25-register" "26-cancel"
+    "31-create" "32-withdraw" "33-accept" "34-reject"
+    "35-amend" "35-agreement" "36-counter" "36-expiry"
+    "37-close" "37-deadline" "37-rounds" "38-schedule"
+    "41-status" "41-reopened" "42-repaid" "43-lender-repaid" "44-totals-repaid"
+    "51-pause" "53-window" "54-repayment-account" "55-blacklist" "56-seats"
+}
+
+pub(super) fn sample(name: &str, what: &str, bytes: Vec<u8>) -> Sample {
+    Sample { name: name.to_string(), what: what.to_string(), bytes }
+}
+
+/// Every sample, in the order in which they are written.
+pub fn samples() -> Vec<Sample> {
+    let mut samples = vec![sample("session", "document 01's session", journal(&session()))];
+    for (name, text) in SCRIPTS {
+        let what: Vec<_> = text.lines().map_while(|line| line.strip_prefix("# ")).collect();
+        samples.push(sample(name, &what.join(" "), journal(&commands(&steps(text)))));
+    }
+    samples.extend(headers());
+    samples.extend(malformed());
+    samples.extend(generated());
+    samples.extend(sizes());
+    samples
+}
+
+fn commands(steps: &[Step]) -> Vec<Command> {
+    steps.iter().map(|(command, _)| *command).collect()
+}
+
+fn headers() -> Vec<Sample> {
+    let header = |name, what, bytes: &[u8]| sample(name, what, bytes.to_vec());
+    let session = journal(&session());
+    let after = |bytes: &[u8]| [bytes, &session[HEADER.len()..]].concat();
+    vec![
+        header("header-empty", "no bytes at all", &[]),
+        header("header-alone", "a header and nothing after it", &HEADER),
+        header("header-cut", "four bytes of the header", &HEADER[..4]),
+        header("header-tag", "another tag first", &after(&[0x11, 0, 2, 0, 1])),
+        header("header-length", "a header of length 3", &after(&[0x10, 0, 3, 0, 0, 1])),
+        header("header-edition-0", "edition 0", &after(&[0x10, 0, 2, 0, 0])),
+        header("header-edition-2", "edition 2", &after(&[0x10, 0, 2, 0, 2])),
+        header("header-edition-257", "edition 257", &after(&[0x10, 0, 2, 1, 1])),
+        header("header-missing", "records without a header", &session[HEADER.len()..]),
+    ]
+}
+
+/// Journals of the generator, long and short.
+fn generated() -> Vec<Sample> {
+    let mut samples = Vec::new();
+    for (number, most) in (1..).zip([6_000, 6_000, 6_000, 6_000, 6_000, 6_000, 32_768, 32_768]) {
+        let mut chance = Chance::new(number);
+        let plan = Plan { length: 2_000, ..Plan::new(&mut chance) };
+        let mut generator = Generator::new(chance, plan);
+        let (mut original, mut commands) = (Original::default(), Vec::new());
+        let mut book = Book::fresh();
+        loop {
+            let command = generator.next(&book);
+            commands.push(command);
+            if journal(&commands).len() > most {
+                commands.pop();
+                break;
+            }
+            original.run(&command);
+            book = original.book();
+        }
+        let name = format!("generated-{number}");
+        samples.push(sample(&name, "commands of the generator", journal(&commands)));
+    }
+    samples
+}
+
+/// Journals of exactly 32,768 bytes and of one more. 900 records with 2733 fields fill the first:
+/// 40 openings, 73 invoices (of which the table takes 64) and 787 movements of money.
+fn sizes() -> Vec<Sample> {
+    let now = 100;
+    let mut commands: Vec<_> = (0..40).map(|caller| Command::OpenAccount { now, caller }).collect();
+    for id in 0..73 {
+        let (caller, amount) = (id % 40, id as i64 + 1);
+        commands.push(Command::RegisterInvoice { now, caller, id, amount });
+    }
+    for turn in 0..787 {
+        let (caller, amount) = (turn % 40, turn as i64 + 1);
+        commands.push(match turn % 3 {
+            0 => Command::Deposit { now, caller, amount },
+            1 => Command::Approve { now, caller, amount },
+            _ => Command::Payout { now, caller, amount },
+        });
+    }
+    let full = journal(&commands);
+    let more = [full.as_slice(), &[0x21]].concat();
+    vec![
+        sample("size-32768", "exactly 32,768 bytes", full),
+        sample("size-32769", "one byte more: only `0 14`", more),
+        sample("size-40000", "40,000 zero bytes: only `0 14`", vec![0; 40_000]),
+    ]
+}

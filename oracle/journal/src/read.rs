@@ -1,0 +1,142 @@
+//! Reading, driven by the table of commands.
+
+use crate::command::{listed, Command, Numbers};
+use crate::number::NARROW;
+use crate::write::HEADER;
+
+#[derive(Clone, Copy, Debug, PartialEq, Eq)]
+pub enum Step {
+    /// A command, and where the next record starts.
+    Command(Command, usize),
+    /// The record that starts here is malformed.
+    Malformed,
+    /// Nothing is left.
+    End,
+}
+
+pub fn starts_well(journal: &[u8]) -> bool {
+    journal.starts_with(&HEADER)
+}
+
+/// Reads the record that starts at `at`.
+pub fn read(journal: &[u8], at: usize) -> Step {
+    let rest = &journal[at..];
+    if rest.is_empty() {
+        return Step::End;
+    }
+    match split(rest).and_then(|(tag, inside, _)| command(tag, inside)) {
+        Some((command, length)) => Step::Command(command, at + length),
+        None => Step::Malformed,
+    }
+}
+
+/// A field at the front: its tag, its bytes and what follows it.
+fn split(bytes: &[u8]) -> Option<(u8, &[u8], &[u8])> {
+    let (front, rest) = bytes.split_at_checked(3)?;
+    let length = usize::from(u16::from_be_bytes([front[1], front[2]]));
+    let (inside, rest) = rest.split_at_checked(length)?;
+    Some((front[0], inside, rest))
+}
+
+/// The command that a record holds, and the record's length.
+fn command(tag: u8, inside: &[u8]) -> Option<(Command, usize)> {
+    let mut numbers: Numbers = [0; 0x13];
+    let mut rest = inside;
+    for wanted in listed(tag)?.fields {
+        let (found, bytes, after) = split(rest)?;
+        let number = u64::from_be_bytes(bytes.try_into().ok()?);
+        let fits = !NARROW.contains(wanted) || number <= u32::MAX.into();
+        if found != *wanted || !fits {
+            return None;
+        }
+        numbers[*wanted as usize] = number;
+        rest = after;
+    }
+    if !rest.is_empty() {
+        return None;
+    }
+    Some((Command::of_numbers(tag, &numbers)?, 3 + inside.len()))
+}
+
+#[cfg(test)]
+mod test {
+    use super::*;
+    use crate::{journal, write, KINDS};
+
+    /// Each command twice: with small numbers and with the greatest.
+    fn samples() -> Vec<Command> {
+        let mut samples = Vec::new();
+        for kind in &KINDS {
+            for greatest in [false, true] {
+                let mut numbers: Numbers = [0; 0x13];
+                for tag in kind.fields {
+                    let narrow = NARROW.contains(tag);
+                    let most = if narrow { u32::MAX.into() } else { u64::MAX };
+                    numbers[*tag as usize] = if greatest { most } else { *tag as u64 + 7 };
+                }
+                samples.push(Command::of_numbers(kind.tag, &numbers).unwrap());
+            }
+        }
+        samples
+    }
+
+    #[test]
+    fn written_commands_are_read_back() {
+        let commands = samples();
+        let bytes = journal(&commands);
+        assert!(starts_well(&bytes));
+        let mut at = 5;
+        for command in &commands {
+            let Step::Command(read, next) = read(&bytes, at) else { panic!("{command}") };
+            assert_eq!(read, *command);
+            at = next;
+        }
+        assert_eq!(read(&bytes, at), Step::End);
+    }
+
+    #[test]
+    fn the_session_starts_as_document_01_writes_it() {
+        let bytes = journal(&[Command::OpenAccount { now: 100, caller: 1 }]);
+        let record = [
+            [0x21, 0, 22].as_slice(),
+            &[0x01, 0, 8, 0, 0, 0, 0, 0, 0, 0, 100],
+            &[0x02, 0, 8, 0, 0, 0, 0, 0, 0, 0, 1],
+        ];
+        assert_eq!(bytes, [[0x10, 0, 2, 0, 1].as_slice(), &record.concat()].concat());
+    }
+
+    #[test]
+    fn a_cut_or_longer_record_is_malformed() {
+        for command in samples() {
+            let mut record = Vec::new();
+            write(&command, &mut record);
+            for length in 1..record.len() {
+                assert_eq!(read(&record[..length], 0), Step::Malformed);
+            }
+            let inside = record.len() - 3;
+            let mut longer = record.clone();
+            crate::field(0x12, &[0; 8], &mut longer);
+            longer[1..3].copy_from_slice(&(inside as u16 + 11).to_be_bytes());
+            assert_eq!(read(&longer, 0), Step::Malformed);
+            let Step::Command(_, next) = read(&record, 0) else { panic!("{command}") };
+            assert_eq!(next, record.len());
+        }
+    }
+
+    #[test]
+    fn thirty_two_bits_are_the_most_where_document_01_says_so() {
+        for tag in NARROW {
+            let kind = KINDS.iter().find(|kind| kind.fields.contains(&tag)).unwrap();
+            for (number, good) in [(u64::from(u32::MAX), true), (1 << 32, false)] {
+                let mut inside = Vec::new();
+                for present in kind.fields {
+                    let number = if *present == tag { number } else { 0 };
+                    crate::field(*present, &number.to_be_bytes(), &mut inside);
+                }
+                let mut record = Vec::new();
+                crate::field(kind.tag, &inside, &mut record);
+                assert_eq!(matches!(read(&record, 0), Step::Command(..)), good);
+            }
+        }
+    }
+}

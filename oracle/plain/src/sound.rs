@@ -1,0 +1,86 @@
+//! When a book is sound, as document 01's paragraph says.
+
+use side::{Account, Book, Invoice, Offer, Schedule};
+
+use crate::money::{HELD, MOST_COUNTED, MOST_ROWS, OFFERED};
+use crate::terms::{period, terms_valid};
+
+pub fn sound(book: &Book) -> bool {
+    let totals = &book.totals;
+    let money = [totals.financed, totals.repaid, totals.fees];
+    let seats = u64::from(book.seats.count_ones());
+    money.iter().all(|total| HELD.contains(total))
+        && totals.offers <= MOST_COUNTED
+        && (3_600..=2_592_000).contains(&book.window)
+        && book.seats <= u32::MAX.into()
+        && (1..=seats).contains(&book.threshold)
+        && table(book.accounts.iter().map(|row| row.id))
+        && table(book.invoices.iter().map(|row| row.id))
+        && table(book.offers.iter().map(|row| row.id))
+        && book.accounts.iter().all(sound_account)
+        && book.invoices.iter().all(sound_invoice)
+        && book.offers.iter().all(sound_offer)
+}
+
+fn table(ids: impl ExactSizeIterator<Item = u64> + Clone) -> bool {
+    ids.len() <= MOST_ROWS && ids.clone().zip(ids.skip(1)).all(|(id, next)| id < next)
+}
+
+fn sound_account(row: &Account) -> bool {
+    let money = [row.balance, row.allowance, row.offered, row.accepted];
+    money.iter().all(|figure| HELD.contains(figure))
+        && row.pending <= MOST_COUNTED
+        && row.repaid <= MOST_COUNTED
+        && row.blacklisted <= 1
+}
+
+fn sound_invoice(row: &Invoice) -> bool {
+    OFFERED.contains(&row.amount) && row.status <= 2
+}
+
+fn sound_offer(row: &Offer) -> bool {
+    let rounds = row.rounds.iter().all(|round| {
+        round.party <= 1 && terms_valid(&crate::negotiation::round_terms(round)).is_ok()
+    });
+    terms_valid(&crate::negotiation::offer_terms(row)).is_ok()
+        && row.status <= 5
+        && HELD.contains(&row.repaid)
+        && [0, 2, 3, 4].contains(&row.outcome)
+        && row.rounds.len() <= 12
+        && rounds
+        && row.schedule.as_ref().is_none_or(sound_schedule)
+}
+
+fn sound_schedule(row: &Schedule) -> bool {
+    (1..=1200).contains(&row.count)
+        && period(row.code).is_some()
+        && (1..=2_000_000_000_000).contains(&row.installment)
+}
+
+#[cfg(test)]
+mod tests {
+    use super::*;
+
+    #[test]
+    fn each_fault_is_seen() {
+        let account = |id| Account { id, ..Account::default() };
+        let fresh = Book::fresh();
+        assert!(sound(&fresh));
+        assert!(sound(&Book { accounts: vec![account(0), account(u64::MAX)], ..fresh.clone() }));
+        let faults = [
+            Book { threshold: 0, ..fresh.clone() },
+            Book { threshold: 2, ..fresh.clone() },
+            Book { seats: 1 << 32 | 1, ..fresh.clone() },
+            Book { window: 3_599, ..fresh.clone() },
+            Book { accounts: vec![account(2), account(1)], ..fresh.clone() },
+            Book { accounts: vec![account(1), account(1)], ..fresh.clone() },
+            Book { accounts: vec![Account { balance: -1, ..account(1) }], ..fresh.clone() },
+            Book { accounts: (0..65).map(account).collect(), ..fresh.clone() },
+            Book { invoices: vec![Invoice::default()], ..fresh.clone() },
+            Book { offers: vec![Offer::default()], ..fresh },
+        ];
+        for (number, book) in faults.iter().enumerate() {
+            assert!(!sound(book), "fault {number}");
+        }
+    }
+}
