@@ -1,0 +1,76 @@
+use mathlib.Core.Path.{_≡_, ap, _∙_}
+use Rattle.money.specs.Range.{magnitudeOf}
+use Rattle.money.specs.Facts.{back}
+use Rattle.lines.specs.Lines.{accountLine}
+use Rattle.sheet.specs.SheetLaws.{next, retext}
+use Rattle.sheet.specs.Decimal.{numbersOf}
+use borrow.Author.Needs.{needs}
+use Rattle.lines.proofs.put_account.Statement.{statement}
+use Rattle.lines.proofs.put_account.Tie as tie
+use Rattle.lines.proofs.put_account.Reads as reads
+use Rattle.lines.proofs.put_account.Lts as lts
+use Rattle.money.proofs.magnitude.Reads as magnitude-reads
+use Rattle.sheet.proofs.put.Reads as put-reads
+use Rattle.sheet.proofs.put_numbers.Reads as put-numbers-reads
+
+-- src/lib.rt:31:39
+slice-aggregate-put : tie.Need-slice-aggregate-put
+slice-aggregate-put c = search needs
+
+-- src/lib.rt:31:9
+put-requires : tie.Need-put-requires
+put-requires c κs = search needs
+
+-- src/lib.rt:32:9
+magnitude-requires : tie.Need-magnitude-requires
+magnitude-requires c κs = search needs
+
+-- src/lib.rt:33:9
+magnitude-requires-2 : tie.Need-magnitude-requires-2
+magnitude-requires-2 c κs = search needs
+
+-- src/lib.rt:34:9
+magnitude-requires-3 : tie.Need-magnitude-requires-3
+magnitude-requires-3 c κs = search needs
+
+-- src/lib.rt:35:9
+magnitude-requires-4 : tie.Need-magnitude-requires-4
+magnitude-requires-4 c κs = search needs
+
+-- src/lib.rt:37:37
+slice-aggregate-put-numbers : tie.Need-slice-aggregate-put-numbers
+slice-aggregate-put-numbers c = search needs
+
+-- src/lib.rt:37:5
+put-numbers-requires : tie.Need-put-numbers-requires
+put-numbers-requires c κs = search needs
+
+-- src/lib.rt:28:1
+same-length : tie.Need-same-length
+same-length c = search needs
+
+-- src/lib.rt:28:1
+returns : tie.Need-returns
+unfolding accountLine
+returns c =
+    let row = c .before .before .before .before .before .before .before .before .before .before .before .before .before .before .before .before .before .before .before .args .row in
+    let balance = c .before .before .before .before .before .before .before .before .before .before .before .magnitude .ensures ∙ ap magnitudeOf (back (row .balance) (c .before .before .before .before .before .before .before .before .before .before .before .before .struct-told .given .0 .1)) in
+    let allowance = c .before .before .before .before .before .before .before .before .before .magnitude2 .ensures ∙ ap magnitudeOf (back (row .allowance) (c .before .before .before .before .before .before .before .before .before .before .struct-told2 .given .1 .0 .1)) in
+    let offered = c .before .before .before .before .before .before .before .magnitude3 .ensures ∙ ap magnitudeOf (back (row .offered) (c .before .before .before .before .before .before .before .before .struct-told3 .given .1 .1 .0 .1)) in
+    let accepted = c .before .before .before .before .before .magnitude4 .ensures ∙ ap magnitudeOf (back (row .accepted) (c .before .before .before .before .before .before .struct-told4 .given .1 .1 .1 .0 .1)) in
+    next (c .before .before .before .before .before .before .before .before .before .before .before .before .before .before .before .put .ensures) (retext (c .before .before .put-numbers .ensures) (cc))
+
+pub put-account-spec : {M : Type 1} → statement M
+put-account-spec =
+    tie.close
+    (tie.spec
+    slice-aggregate-put
+    put-requires
+    magnitude-requires
+    magnitude-requires-2
+    magnitude-requires-3
+    magnitude-requires-4
+    slice-aggregate-put-numbers
+    put-numbers-requires
+    same-length
+    returns)

@@ -1,0 +1,9 @@
+pub mod Replay
+pub mod Text
+pub mod Ahead
+pub mod ReplayLaws
+pub mod TextLaws
+pub mod Standing
+pub mod Playing
+pub mod Telling
+pub mod Shown

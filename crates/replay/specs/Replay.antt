@@ -1,0 +1,70 @@
+-- Document 01, "Journal and replay": the commands of a journal obeyed in turn from a fresh book, with each answer, and where replay stops.
+use mathlib.Core.List.{List, [], _∷_}
+use Prim.Native.Nat.{ℕ, zero, suc, _+_}
+use lib.Dec.{eqb}
+use lib.ListN.{length}
+use Rattle.refusal.specs.Choice.{pick}
+use Rattle.refusal.specs.Refusal.{number, journalMalformed, first}
+use Rattle.refusal.specs.Rule.{after}
+use Rattle.command.specs.declared.Command.{Command}
+use Rattle.journal.specs.Answers.{Reading, found, refused, ended}
+use Rattle.journal.specs.Format.{openingOf, readAt}
+use Rattle.book.specs.Model.{Model, freshModel}
+use Rattle.book.specs.Rules.{commanded}
+use Rattle.book.specs.Stored.{stored}
+use Rattle.replay.specs.declared.Outcome.{Outcome}
+
+-- a command's answer, and the book after it
+abbrev pub answerTo : Model → Command → ℕ
+answerTo m c = first (commanded m c .checks)
+
+abbrev pub obeyed : Model → Command → Model
+obeyed m c = after m (commanded m c)
+
+-- replay stops at the journal's end, at a header that is none, or at a malformed record, whose tag is at an offset
+pub data Stop : Type 0 where
+  atEnd : Stop
+  atHeader : Stop
+  atRecord : ℕ → Stop
+
+pub record Replayed : Type 0 where
+  pub answers : List ℕ
+  pub model : Model
+  pub stop : Stop
+
+abbrev pub halted : Stop → Model → Replayed
+halted e m = record { answers = []; model = m; stop = e }
+
+abbrev pub heard : ℕ → Replayed → Replayed
+heard a r = record { answers = a ∷ r .answers; model = r .model; stop = r .stop }
+
+-- what stands at a place, and then the rest. A malformed record leaves the book as after the record before
+abbrev pub follow : (ℕ → Model → Replayed) → Model → Reading → Replayed
+follow rest m (found c next) = heard (answerTo m c) (rest next (obeyed m c))
+follow rest m (refused n at) = halted (atRecord at) m
+follow rest m ended = halted atEnd m
+
+-- at most n records: a journal has fewer records than bytes (`enough`)
+unfoldable pub replayBy : ℕ → List ℕ → ℕ → Model → Replayed
+replayBy zero s at m = halted atEnd m
+replayBy (suc n) s at m = follow (replayBy n s) m (readAt s at)
+
+unfoldable pub replayFrom : List ℕ → ℕ → Model → Replayed
+replayFrom s at m = replayBy (length s) s at m
+
+unfoldable pub replayOf : List ℕ → Replayed
+replayOf s = pick (eqb (openingOf s .0) 0) (replayFrom s (openingOf s .1) freshModel) (halted atHeader freshModel)
+
+-- what `replay` answers, where k records were answered before: 0, or 13 and the offset
+abbrev pub stopNumber : Stop → ℕ
+stopNumber atEnd = 0
+stopNumber atHeader = number journalMalformed
+stopNumber (atRecord at) = number journalMalformed
+
+abbrev pub stopOffset : Stop → ℕ
+stopOffset atEnd = 0
+stopOffset atHeader = 0
+stopOffset (atRecord at) = at
+
+unfoldable pub outcomeOf : ℕ → Replayed → Outcome
+outcomeOf k r = record { book = stored (r .model); count = k + length (r .answers); number = stopNumber (r .stop); at = stopOffset (r .stop) }

@@ -1,0 +1,77 @@
+-- What both walks keep: they stand within the journal, and the book's arrays are tables. Assumes nothing.
+use mathlib.Core.Path.{_≡_, refl, sym, ap, _∙_}
+use mathlib.Core.Bool.{Bool, true, false}
+use mathlib.Core.List.{List, []}
+use Prim.Native.Nat.{ℕ, _+_, _≤_, _<_}
+use native.Mathlib.Omega.{arith}
+use borrow.Author.Tests.{eqb-true}
+use lib.Dec.{eqb}
+use lib.ListN.{length}
+use Rattle.refusal.specs.Choice.{pick}
+use Rattle.refusal.specs.Refusal.{first}
+use Rattle.refusal.specs.Rule.{after, answered}
+use Rattle.table.specs.Tables.{keys}
+use Rattle.command.specs.declared.Command.{Command}
+use Rattle.journal.specs.Answers.{found}
+use Rattle.journal.specs.Format.{openingOf, readAt}
+use Rattle.book.specs.declared.Book.{Book}
+use Rattle.book.specs.declared.Step.{Step}
+use Rattle.book.specs.Model.{Model, freshModel}
+use Rattle.book.specs.Rules.{commanded}
+use Rattle.book.specs.Stored.{modelOf, stored, stepOf, Shelved}
+use Rattle.book.specs.Shelving.{Fits, fits-of, shelved-stored, model-stored}
+use Rattle.book.specs.Fitting.{fits-kept}
+use Rattle.replay.specs.Replay.{answerTo, obeyed}
+use Rattle.replay.specs.Ahead.{ahead, opened}
+
+-- ── The book ──────────────────────────────────────────────────────
+fresh-fits : Fits freshModel
+unfolding keys
+fresh-fits = record {
+  accounts = record { fits = omega arith; rises = tt };
+  invoices = record { fits = omega arith; rises = tt };
+  offers = record { fits = omega arith; rises = tt };
+}
+
+-- a fresh book: it is shelved, and its model is the fresh one
+pub record Fresh (b : Book) : Type 0 where
+  pub shelved : Shelved b
+  pub model : modelOf b ≡ freshModel
+  pub stores : b ≡ stored freshModel
+
+pub fresh : {b : Book} → b ≡ stored freshModel → Fresh b
+fresh e = record { shelved = rw e (shelved-stored fresh-fits); model = rw e (model-stored fresh-fits); stores = e }
+
+fits-by : {m : Model} (c : Command) (t : Bool) → eqb (answerTo m c) 0 ≡ t → Fits m → Fits (pick t (commanded m c .done) m)
+unfolding pick
+fits-by c true e f = fits-kept f c (eqb-true _ 0 e)
+fits-by c false e f = f
+
+fits-obeyed : {m : Model} (c : Command) → Fits m → Fits (obeyed m c)
+unfolding after
+fits-obeyed {m} c f = fits-by c (eqb (answerTo m c) 0) refl f
+
+-- what a step on a shelved book answers and leaves
+pub record Stepped (m : Model) (c : Command) (t : Step) : Type 0 where
+  pub answer : t .answer ≡ answerTo m c
+  pub shelved : Shelved (t .book)
+  pub model : modelOf (t .book) ≡ obeyed m c
+
+pub stepped : {b : Book} {c : Command} {t : Step} → Shelved b → t ≡ answered stepOf (modelOf b) (commanded (modelOf b) c) → Stepped (modelOf b) c t
+unfolding answered
+stepped {b} {c} k e =
+    let f = fits-obeyed c (fits-of k) in
+    record { answer = ap (λ (x : Step). x .answer) e; shelved = rw e (shelved-stored f); model = rw e (model-stored f) }
+
+-- ── The place ─────────────────────────────────────────────────────
+pub record Standing (s : List ℕ) (at k : ℕ) (b : Book) : Type 0 where
+  pub few : k ≤ at
+  pub within : at ≤ length s
+  pub shelved : Shelved b
+
+pub stands : (s : List ℕ) {at : ℕ} {b : Book} → openingOf s ≡ (0, at) → Fresh b → Standing s at 0 b
+stands s e f = record { few = omega arith; within = opened s e; shelved = f .shelved }
+
+pub stands-on : {s : List ℕ} {at k : ℕ} {b : Book} {m : Model} {c : Command} {next : ℕ} {t : Step}
+    → Standing s at k b → readAt s at ≡ found c next → Stepped m c t → Standing s next (k + 1) (t .book)
+stands-on {s} {at} i d e = let g = ahead s at d in record { few = omega (arith, g .0, i .few); within = g .1; shelved = e .shelved }

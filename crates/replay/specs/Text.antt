@@ -1,0 +1,46 @@
+-- Document 01, "Journal and replay": all that a replay prints, and what the listing into a lent buffer answers and leaves.
+use mathlib.Core.List.{List, [], _∷_, _++_}
+use Prim.Native.Nat.{ℕ, suc, _+_}
+use lib.Dec.{leb}
+use lib.ListN.{length, drop}
+use Rattle.refusal.specs.Choice.{pick}
+use Rattle.refusal.specs.Refusal.{number, bufferShort}
+use Rattle.lines.specs.Lines.{answerLine, markLine, accountLines, totalsLine}
+use Rattle.book.specs.Model.{Model}
+use Rattle.replay.specs.Replay.{Stop, atEnd, atHeader, atRecord, Replayed, replayOf}
+use Rattle.replay.specs.declared.Listed.{Listed}
+use Rattle.replay.specs.declared.Listed.the-variants.{Done, Short}
+
+-- the answers, numbered from n on
+unfoldable pub answerLines : ℕ → List ℕ → List ℕ
+answerLines n [] = []
+answerLines n (a ∷ more) = answerLine n a ++ answerLines (suc n) more
+
+-- a malformed record, where it is the n-th; a bad header has the number 0
+unfoldable pub stopLine : ℕ → Stop → List ℕ
+stopLine n atEnd = []
+stopLine n atHeader = markLine 0 0
+stopLine n (atRecord at) = markLine n at
+
+-- the accounts and totals follow
+unfoldable pub bookText : Model → List ℕ
+bookText m = accountLines (m .accounts) ++ totalsLine (m .totals)
+
+-- what is printed of a replay where k records were answered before
+unfoldable pub textOf : ℕ → Replayed → List ℕ
+textOf k r = answerLines (suc k) (r .answers) ++ (stopLine (suc (k + length (r .answers))) (r .stop) ++ bookText (r .model))
+
+unfoldable pub listingOf : List ℕ → List ℕ
+listingOf s = textOf 0 (replayOf s)
+
+-- the answer's number, and how many bytes were written
+abbrev pub listed : Listed → ℕ × ℕ
+listed (Done n) = (0, n)
+listed Short = (number bufferShort, 0)
+
+-- what is answered for a text t and a buffer l: the length of t, or 14; and the buffer after it: t and what stood past it, or l as it was
+unfoldable pub listedIn : List ℕ → List ℕ → ℕ × ℕ
+listedIn t l = pick (leb (length t) (length l)) (0, length t) (number bufferShort, 0)
+
+unfoldable pub shownIn : List ℕ → List ℕ → List ℕ
+shownIn t l = pick (leb (length t) (length l)) (t ++ drop (length t) l) l
