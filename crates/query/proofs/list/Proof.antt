@@ -31,7 +31,7 @@ returns-2 : tie.Need-returns-2
 returns-2 c = goes-on told bookUnsound _ _ _ (ap not (sym (c .before .before .before .before .before .before .before .sound .ensures .0)) ∙ c .before .before .before .before .before .before .if1 .left)
     (c .before .before .list .ensures
     ∙ ap (λ (t : Table Offer). answered told ([], c .before .before .before .before .before .before .before .before .before .args .out .now) (listRule (c .before .before .before .before .before .before .before .before .before .args .w) t (c .before .before .before .before .before .before .before .before .before .args .out .now)))
-      (ap offersOf (c .before .before .before .before .offers-only .ensures) ∙ offers-held (c .before .before .before .before .before .before .before .sound .ensures .1 (not-false (c .before .before .before .before .before .before .before .sound .result) (c .before .before .before .before .before .before .if1 .left)))))
+    (ap offersOf (c .before .before .before .before .offers-only .ensures) ∙ offers-held (c .before .before .before .before .before .before .before .sound .ensures .1 (not-false (c .before .before .before .before .before .before .before .sound .result) (c .before .before .before .before .before .before .if1 .left)))))
 
 pub list-spec : {M : Type 1} → statement M
 list-spec =

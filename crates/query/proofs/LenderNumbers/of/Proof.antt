@@ -16,8 +16,10 @@ cast-t5 : tie.Need-cast-t5
 cast-t5 c = search needs
 
 returns : tie.Need-returns
-returns c = rw (simp (back (c .before .before .before .before .before .before .args .a .offered) (c .before .before .before .before .before .struct-told .given .1 .1 .0 .1) ) at (c .before .before .before .before .bits .ensures),
-        simp (back (c .before .before .before .before .before .before .args .a .accepted) (c .before .before .before .struct-told2 .given .1 .1 .1 .0 .1) ) at (c .before .before .bits2 .ensures))
+returns c = rw (
+  simp (back (c .before .before .before .before .before .before .args .a .offered) (c .before .before .before .before .before .struct-told .given .1 .1 .0 .1)) at (c .before .before .before .before .bits .ensures),
+  simp (back (c .before .before .before .before .before .before .args .a .accepted) (c .before .before .before .struct-told2 .given .1 .1 .1 .0 .1)) at (c .before .before .bits2 .ensures),
+)
 
 pub of-spec : {M : Type 1} → statement M
 of-spec = tie.close (tie.spec bits-requires bits-requires-2 cast-t4 cast-t5 returns)

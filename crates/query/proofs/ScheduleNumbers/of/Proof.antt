@@ -13,7 +13,7 @@ cast-t4 : tie.Need-cast-t4
 cast-t4 c = search needs
 
 returns : tie.Need-returns
-returns c = rw (simp (back (c .before .before .before .before .args .s .installment) (c .before .before .before .struct-told .given .1 .1 .0 .1) ) at (c .before .before .bits .ensures))
+returns c = rw (simp (back (c .before .before .before .before .args .s .installment) (c .before .before .before .struct-told .given .1 .1 .0 .1)) at (c .before .before .bits .ensures))
 
 pub of-spec : {M : Type 1} → statement M
 of-spec = tie.close (tie.spec bits-requires cast-t3 cast-t4 returns)

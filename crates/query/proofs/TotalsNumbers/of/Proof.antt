@@ -16,9 +16,11 @@ cast-t5 : tie.Need-cast-t5
 cast-t5 c = search needs
 
 returns : tie.Need-returns
-returns c = rw (simp (back (c .before .before .before .before .before .before .before .args .t .financed) (c .before .before .before .before .before .before .struct-told .given .0 .1) ) at (c .before .before .before .before .before .bits .ensures),
-        simp (back (c .before .before .before .before .before .before .before .args .t .repaid) (c .before .before .before .before .struct-told2 .given .1 .0 .1) ) at (c .before .before .before .bits2 .ensures),
-        simp (back (c .before .before .before .before .before .before .before .args .t .fees) (c .before .before .struct-told3 .given .1 .1 .0 .1) ) at (c .before .bits3 .ensures))
+returns c = rw (
+  simp (back (c .before .before .before .before .before .before .before .args .t .financed) (c .before .before .before .before .before .before .struct-told .given .0 .1)) at (c .before .before .before .before .before .bits .ensures),
+  simp (back (c .before .before .before .before .before .before .before .args .t .repaid) (c .before .before .before .before .struct-told2 .given .1 .0 .1)) at (c .before .before .before .bits2 .ensures),
+  simp (back (c .before .before .before .before .before .before .before .args .t .fees) (c .before .before .struct-told3 .given .1 .1 .0 .1)) at (c .before .bits3 .ensures),
+)
 
 pub of-spec : {M : Type 1} → statement M
 of-spec = tie.close (tie.spec bits-requires bits-requires-2 bits-requires-3 cast-t5 returns)
