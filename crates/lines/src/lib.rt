@@ -38,7 +38,14 @@ pub fn put_account(out: &mut [u8], pen: Pen, ink: bool, id: u64, row: Account) -
 }
 
 // The first n rows, or all of them.
-pub fn put_accounts(out: &mut [u8], pen: Pen, ink: bool, ids: [u64; 64], rows: [Account; 64], n: usize) -> Pen
+pub fn put_accounts(
+    out: &mut [u8],
+    pen: Pen,
+    ink: bool,
+    ids: [u64; 64],
+    rows: [Account; 64],
+    n: usize,
+) -> Pen
     ensures { λ r. ⌜ Wrote ink (accountLines (tableOf ids rows n)) (now (out .entry)) pen (now (out .exit)) r ⌝ }
 {
     let mut p = pen;
