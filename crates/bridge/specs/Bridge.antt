@@ -1,0 +1,62 @@
+-- What the functions for C and Rust answer: a count, or minus the number of a refusal in two's complement. A journal goes in; one that is malformed gives 13.
+use mathlib.Core.Bool.{not}
+use mathlib.Core.List.{List, [], _∷_, _++_}
+use Prim.Native.Nat.{ℕ, _-_}
+use lib.Dec.{eqb, ltb}
+use lib.ListN.{length, getD, drop}
+use Rattle.refusal.specs.Choice.{pick}
+use Rattle.refusal.specs.Refusal.{number, invalidInput, journalMalformed, bufferShort, bookUnsound}
+use Rattle.lists.specs.Listing.{Reply}
+use Rattle.lists.specs.declared.Wanted.the-variants.{Invoice, Lender, Status, PendingOf, All, Page}
+use Rattle.book.specs.declared.Book.{Book}
+use Rattle.query.specs.Reads.{listed}
+use Rattle.replay.specs.declared.Outcome.{Outcome}
+use Rattle.replay.specs.Replay.{replayOf, outcomeOf}
+use Rattle.bridge.specs.declared.Four.{Four}
+use Rattle.bridge.specs.declared.Asked.{Asked}
+use Rattle.bridge.specs.declared.Asked.the-variants.{For, Unlisted}
+
+-- −n in two's complement
+unfoldable pub minus : ℕ → ℕ
+minus n = pick (eqb n 0) 0 (18446744073709551616 - n)
+
+abbrev pub coded : ℕ → ℕ → ℕ
+coded n count = pick (eqb n 0) count (minus n)
+
+-- what replay leaves of a journal
+abbrev pub left : List ℕ → Outcome
+left s = outcomeOf 0 (replayOf s)
+
+-- an answer about the book of a journal, and the buffer after it; a malformed one gives 13
+unfoldable pub ofBook : List ℕ → List ℕ → (Book → ℕ × List ℕ) → ℕ × List ℕ
+ofBook s l answer = pick (eqb (left s .number) 0) (answer (left s .book)) (minus (number journalMalformed), l)
+
+-- ── Lists of offers by a number: 1 by invoice, 2 by lender, 3 by status, 4 by invoice and Pending, 5 all, 6 a page; any other gives 3 ──
+unfoldable pub wantedOf : ℕ → ℕ → ℕ → Asked
+wantedOf kind a b =
+    pick (eqb kind 1) (For (Invoice a))
+    (pick (eqb kind 2) (For (Lender a))
+    (pick (eqb kind 3) (pick (ltb 4294967295 a) Unlisted (For (Status a)))
+    (pick (eqb kind 4) (For (PendingOf a))
+    (pick (eqb kind 5) (For All)
+    (pick (eqb kind 6) (For (Page a b)) Unlisted)))))
+
+abbrev pub told : Reply × List ℕ → ℕ × List ℕ
+told r = (coded (r .0 .0) (getD (r .0 .1) 0 0), r .1)
+
+unfoldable pub offersFor : Asked → List ℕ → Book → ℕ × List ℕ
+offersFor (For w) l b = told (listed b w l)
+offersFor Unlisted l b = (minus (number invalidInput), l)
+
+-- ── A read of four numbers over the start of a buffer; too short gives 14 ──
+abbrev pub noFour : Four
+noFour = record { number = number bookUnsound; a = 0; b = 0; c = 0; d = 0 }
+
+unfoldable pub fourSays : Four → Reply
+fourSays x = pick (eqb (x .number) 0) (0, x .a ∷ x .b ∷ x .c ∷ x .d ∷ []) (x .number, [])
+
+unfoldable pub fourOver : Reply → List ℕ → ℕ × List ℕ
+fourOver r l =
+    pick (not (eqb (r .0) 0)) (minus (r .0), l)
+    (pick (ltb (length l) 4) (minus (number bufferShort), l)
+    (4, r .1 ++ drop 4 l))

@@ -1,0 +1,206 @@
+// The library for C and Rust: the bytes of a journal go in, and its listing, its offers or its figures come out in lent buffers.
+use book::Book;
+use lists::Listed as Offers;
+use lists::Wanted;
+use query::LenderAnswer;
+use query::TotalsAnswer;
+use replay::Listed;
+ghost use mathlib.Core.Path.{_≡_};
+ghost use lib.ListN.{getD};
+ghost use Rattle.lists.specs.Listing.{listedSays};
+ghost use Rattle.query.specs.Reads.{asked, lenderRead, totalsRead};
+ghost use Rattle.replay.specs.Text.{listingOf, listedIn, shownIn};
+ghost use Rattle.bridge.specs.Bridge.{minus, coded, ofBook, wantedOf, offersFor, noFour, fourSays, fourOver};
+
+// Which offers are asked for, or that the number is not listed.
+pub enum Asked {
+    For(Wanted),
+    Unlisted,
+}
+
+// −n in two's complement, for the number of a refusal.
+fn refused(n: u64) -> u64
+    ensures { λ r. ⌜ r ≡ minus n ⌝ }
+{
+    if n == 0 {
+        return 0;
+    }
+    18446744073709551615 - (n - 1)
+}
+
+fn wanted(kind: u64, a: u64, b: u64) -> Asked
+    ensures { λ r. ⌜ r ≡ wantedOf kind a b ⌝ }
+{
+    if kind == 1 {
+        return Asked::For(Wanted::Invoice(a));
+    }
+    if kind == 2 {
+        return Asked::For(Wanted::Lender(a));
+    }
+    if kind == 3 {
+        if a > 4294967295 {
+            return Asked::Unlisted;
+        }
+        return Asked::For(Wanted::Status(a as u32));
+    }
+    if kind == 4 {
+        return Asked::For(Wanted::PendingOf(a));
+    }
+    if kind == 5 {
+        return Asked::For(Wanted::All);
+    }
+    if kind == 6 {
+        return Asked::For(Wanted::Page(a, b));
+    }
+    Asked::Unlisted
+}
+
+// The listing of a journal: how many bytes it is.
+#[no_mangle]
+pub extern "C" fn solgaverna_listing(journal: &[u8], out: &mut [u8]) -> u64
+    ensures { λ r. ⌜ (r ≡ coded (listedIn (listingOf (now (journal .entry))) (now (out .entry)) .0) (listedIn (listingOf (now (journal .entry))) (now (out .entry)) .1)) × (now (out .exit) ≡ shownIn (listingOf (now (journal .entry))) (now (out .entry))) ⌝ }
+{
+    let r = replay::listing(journal, out);
+    match r {
+        Listed::Done(n) => { n as u64 }
+        Listed::Short => { refused(refusal::BUFFER_SHORT) }
+    }
+}
+
+fn counted(r: Offers) -> u64
+    ensures { λ x. ⌜ x ≡ coded (listedSays r .0) (getD (listedSays r .1) 0 0) ⌝ }
+{
+    match r {
+        Offers::Offers(n) => { n as u64 }
+        Offers::Unlisted => { refused(refusal::INVALID_INPUT) }
+        Offers::Short => { refused(refusal::BUFFER_SHORT) }
+        Offers::Unsound => { refused(refusal::BOOK_UNSOUND) }
+    }
+}
+
+// Offers of a journal's book, ten numbers each: how many they are.
+#[no_mangle]
+pub extern "C" fn solgaverna_offers(
+    journal: &[u8],
+    kind: u64,
+    a: u64,
+    b: u64,
+    out: &mut [u64],
+) -> u64
+    ensures { λ r. ⌜ (r, now (out .exit)) ≡ ofBook (now (journal .entry)) (now (out .entry)) (offersFor (wantedOf kind a b) (now (out .entry))) ⌝ }
+{
+    let o = replay::replay(journal);
+    let n = o.number;
+    if !(n == 0) {
+        return refused(refusal::JOURNAL_MALFORMED);
+    }
+    let k = wanted(kind, a, b);
+    let Asked::For(w) = k else {
+        return refused(refusal::INVALID_INPUT);
+    };
+    let book = o.book;
+    let r = query::list(book, w, out);
+    counted(r)
+}
+
+// Four numbers of a read, or the number of its refusal.
+struct Four {
+    pub number: u64,
+    pub a: u64,
+    pub b: u64,
+    pub c: u64,
+    pub d: u64,
+}
+
+fn unsound() -> Four
+    ensures { λ r. ⌜ r ≡ noFour ⌝ }
+{
+    Four {
+        number: refusal::BOOK_UNSOUND,
+        a: 0,
+        b: 0,
+        c: 0,
+        d: 0,
+    }
+}
+
+fn lender_of(book: Book, lender: u64) -> Four
+    ensures { λ r. ⌜ fourSays r ≡ asked book (lenderRead lender) ⌝ }
+{
+    let r = query::get_lender_stats(book, lender);
+    match r {
+        LenderAnswer::Lender(x) => {
+            Four {
+                number: 0,
+                a: x.offered,
+                b: x.accepted,
+                c: x.pending,
+                d: x.repaid,
+            }
+        }
+        LenderAnswer::Unsound => { unsound() }
+    }
+}
+
+fn totals_of(book: Book) -> Four
+    ensures { λ r. ⌜ fourSays r ≡ asked book totalsRead ⌝ }
+{
+    let r = query::get_stats(book);
+    match r {
+        TotalsAnswer::Totals(x) => {
+            Four {
+                number: 0,
+                a: x.offers,
+                b: x.financed,
+                c: x.repaid,
+                d: x.fees,
+            }
+        }
+        TotalsAnswer::Unsound => { unsound() }
+    }
+}
+
+fn put_four(out: &mut [u64], x: Four) -> u64
+    ensures { λ r. ⌜ (r, now (out .exit)) ≡ fourOver (fourSays x) (now (out .entry)) ⌝ }
+{
+    let n = x.number;
+    if !(n == 0) {
+        return refused(n);
+    }
+    if out.len() < 4 {
+        return refused(refusal::BUFFER_SHORT);
+    }
+    out[0] = x.a;
+    out[1] = x.b;
+    out[2] = x.c;
+    out[3] = x.d;
+    4
+}
+
+// A lender's offered and accepted totals, offers pending and offers repaid: four numbers.
+#[no_mangle]
+pub extern "C" fn solgaverna_lender(journal: &[u8], lender: u64, out: &mut [u64]) -> u64
+    ensures { λ r. ⌜ (r, now (out .exit)) ≡ ofBook (now (journal .entry)) (now (out .entry)) (λ b. fourOver (asked b (lenderRead lender)) (now (out .entry))) ⌝ }
+{
+    let o = replay::replay(journal);
+    let n = o.number;
+    if !(n == 0) {
+        return refused(refusal::JOURNAL_MALFORMED);
+    }
+    let book = o.book;
+    put_four(out, lender_of(book, lender))
+}
+
+// The book's totals: offers, financed, repaid, fees.
+#[no_mangle]
+pub extern "C" fn solgaverna_totals(journal: &[u8], out: &mut [u64]) -> u64
+    ensures { λ r. ⌜ (r, now (out .exit)) ≡ ofBook (now (journal .entry)) (now (out .entry)) (λ b. fourOver (asked b totalsRead) (now (out .entry))) ⌝ }
+{
+    let o = replay::replay(journal);
+    let n = o.number;
+    if !(n == 0) {
+        return refused(refusal::JOURNAL_MALFORMED);
+    }
+    let book = o.book;
+    put_four(out, totals_of(book))
+}
