@@ -1,16 +1,16 @@
 use mathlib.Core.Path.{sym, ap, _∙_}
 use borrow.Author.Tests.{not-true, not-false}
-use Rattle.bridge.specs.BridgeLaws.{malformed, whole, counts}
-use Rattle.bridge.specs.Bridge.{offersFor}
-use Rattle.bridge.specs.declared.Asked.{Asked}
+use Rattle.solgaverna.specs.AnswerLaws.{malformed, whole, counts}
+use Rattle.solgaverna.specs.Answers.{offersFor}
+use Rattle.solgaverna.specs.declared.Asked.{Asked}
 use borrow.Author.Needs.{needs}
-use Rattle.bridge.proofs.solgaverna_offers.Statement.{statement}
-use Rattle.bridge.proofs.solgaverna_offers.Tie as tie
-use Rattle.bridge.proofs.solgaverna_offers.Reads as reads
-use Rattle.bridge.proofs.solgaverna_offers.Lts as lts
-use Rattle.bridge.proofs.counted.Reads as counted-reads
-use Rattle.bridge.proofs.refused.Reads as refused-reads
-use Rattle.bridge.proofs.wanted.Reads as wanted-reads
+use Rattle.solgaverna.proofs.solgaverna_offers.Statement.{statement}
+use Rattle.solgaverna.proofs.solgaverna_offers.Tie as tie
+use Rattle.solgaverna.proofs.solgaverna_offers.Reads as reads
+use Rattle.solgaverna.proofs.solgaverna_offers.Lts as lts
+use Rattle.solgaverna.proofs.counted.Reads as counted-reads
+use Rattle.solgaverna.proofs.refused.Reads as refused-reads
+use Rattle.solgaverna.proofs.wanted.Reads as wanted-reads
 use Rattle.query.proofs.list.Reads as list-reads
 use Rattle.replay.proofs.replay.Reads as replay-reads
 

@@ -1,12 +1,12 @@
 use mathlib.Core.Path.{refl}
 use borrow.Author.Tests.{eq-eqb, ne-eqb, lt-ltb, le-ltb}
 use Rattle.refusal.specs.Choice.{on, off}
-use Rattle.bridge.specs.Bridge.{wantedOf}
+use Rattle.solgaverna.specs.Answers.{wantedOf}
 use borrow.Author.Needs.{needs}
-use Rattle.bridge.proofs.wanted.Statement.{statement}
-use Rattle.bridge.proofs.wanted.Tie as tie
-use Rattle.bridge.proofs.wanted.Reads as reads
-use Rattle.bridge.proofs.wanted.Lts as lts
+use Rattle.solgaverna.proofs.wanted.Statement.{statement}
+use Rattle.solgaverna.proofs.wanted.Tie as tie
+use Rattle.solgaverna.proofs.wanted.Reads as reads
+use Rattle.solgaverna.proofs.wanted.Lts as lts
 
 -- src/lib.rt:35:9
 returns : tie.Need-returns

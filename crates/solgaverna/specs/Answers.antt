@@ -12,9 +12,9 @@ use Rattle.book.specs.declared.Book.{Book}
 use Rattle.query.specs.Reads.{listed}
 use Rattle.replay.specs.declared.Outcome.{Outcome}
 use Rattle.replay.specs.Replay.{replayOf, outcomeOf}
-use Rattle.bridge.specs.declared.Four.{Four}
-use Rattle.bridge.specs.declared.Asked.{Asked}
-use Rattle.bridge.specs.declared.Asked.the-variants.{For, Unlisted}
+use Rattle.solgaverna.specs.declared.Four.{Four}
+use Rattle.solgaverna.specs.declared.Asked.{Asked}
+use Rattle.solgaverna.specs.declared.Asked.the-variants.{For, Unlisted}
 
 -- −n in two's complement
 unfoldable pub minus : ℕ → ℕ

@@ -1,4 +1,4 @@
--- Where each answer of the bridge comes from. Assumes nothing.
+-- Where each answer of the library comes from. Assumes nothing.
 use mathlib.Core.Path.{_≡_, refl, sym, ap, _∙_}
 use mathlib.Core.Bool.{Bool, true, false}
 use mathlib.Core.List.{List, [], _∷_}
@@ -12,8 +12,8 @@ use Rattle.refusal.specs.Refusal.{number, journalMalformed, bufferShort}
 use Rattle.lists.specs.Listing.{Reply}
 use Rattle.book.specs.declared.Book.{Book}
 use Rattle.replay.specs.declared.Outcome.{Outcome}
-use Rattle.bridge.specs.declared.Four.{Four}
-use Rattle.bridge.specs.Bridge.{minus, coded, left, ofBook, told, fourSays, fourOver}
+use Rattle.solgaverna.specs.declared.Four.{Four}
+use Rattle.solgaverna.specs.Answers.{minus, coded, left, ofBook, told, fourSays, fourOver}
 
 pub turned : (n : ℕ) → (n ≡ 0 → ⊥) → 18446744073709551615 - (n - 1) ≡ 18446744073709551616 - n
 turned zero h = absurd (h refl)

@@ -1,13 +1,13 @@
 use native.Mathlib.Omega.{arith}
 use lib.ListN.{length-set}
 use borrow.Author.Tests.{not-true, not-false, lt-ltb, le-ltb}
-use Rattle.bridge.specs.BridgeLaws.{four-refused, four-short, four-fits}
+use Rattle.solgaverna.specs.AnswerLaws.{four-refused, four-short, four-fits}
 use borrow.Author.Needs.{needs}
-use Rattle.bridge.proofs.put_four.Statement.{statement}
-use Rattle.bridge.proofs.put_four.Tie as tie
-use Rattle.bridge.proofs.put_four.Reads as reads
-use Rattle.bridge.proofs.put_four.Lts as lts
-use Rattle.bridge.proofs.refused.Reads as refused-reads
+use Rattle.solgaverna.proofs.put_four.Statement.{statement}
+use Rattle.solgaverna.proofs.put_four.Tie as tie
+use Rattle.solgaverna.proofs.put_four.Reads as reads
+use Rattle.solgaverna.proofs.put_four.Lts as lts
+use Rattle.solgaverna.proofs.refused.Reads as refused-reads
 
 -- src/lib.rt:178:9
 refused-requires : tie.Need-refused-requires

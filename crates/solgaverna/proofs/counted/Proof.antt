@@ -1,15 +1,15 @@
 use mathlib.Core.Path.{sym, ap, _∙_}
 use lib.ListN.{getD}
 use Rattle.refusal.specs.Choice.{pick}
-use Rattle.bridge.specs.Bridge.{coded}
+use Rattle.solgaverna.specs.Answers.{coded}
 use Rattle.lists.specs.Listing.{listedSays}
 use Rattle.lists.specs.declared.Listed.{Listed}
 use borrow.Author.Needs.{needs}
-use Rattle.bridge.proofs.counted.Statement.{statement}
-use Rattle.bridge.proofs.counted.Tie as tie
-use Rattle.bridge.proofs.counted.Reads as reads
-use Rattle.bridge.proofs.counted.Lts as lts
-use Rattle.bridge.proofs.refused.Reads as refused-reads
+use Rattle.solgaverna.proofs.counted.Statement.{statement}
+use Rattle.solgaverna.proofs.counted.Tie as tie
+use Rattle.solgaverna.proofs.counted.Reads as reads
+use Rattle.solgaverna.proofs.counted.Lts as lts
+use Rattle.solgaverna.proofs.refused.Reads as refused-reads
 
 -- src/lib.rt:78:24
 enum-known-r : tie.Need-enum-known-r

@@ -1,13 +1,13 @@
 use mathlib.Core.Path.{refl}
 use borrow.Author.Tests.{eq-eqb, ne-eqb}
 use Rattle.refusal.specs.Choice.{on, off}
-use Rattle.bridge.specs.Bridge.{minus}
-use Rattle.bridge.specs.BridgeLaws.{turned}
+use Rattle.solgaverna.specs.Answers.{minus}
+use Rattle.solgaverna.specs.AnswerLaws.{turned}
 use borrow.Author.Needs.{needs}
-use Rattle.bridge.proofs.refused.Statement.{statement}
-use Rattle.bridge.proofs.refused.Tie as tie
-use Rattle.bridge.proofs.refused.Reads as reads
-use Rattle.bridge.proofs.refused.Lts as lts
+use Rattle.solgaverna.proofs.refused.Statement.{statement}
+use Rattle.solgaverna.proofs.refused.Tie as tie
+use Rattle.solgaverna.proofs.refused.Reads as reads
+use Rattle.solgaverna.proofs.refused.Lts as lts
 
 -- src/lib.rt:26:9
 returns : tie.Need-returns

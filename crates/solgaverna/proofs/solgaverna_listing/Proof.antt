@@ -1,13 +1,13 @@
 use mathlib.Core.Path.{sym, ap, _∙_}
 use Rattle.refusal.specs.Choice.{pick}
-use Rattle.bridge.specs.Bridge.{coded}
+use Rattle.solgaverna.specs.Answers.{coded}
 use Rattle.replay.specs.Text.{listed}
 use borrow.Author.Needs.{needs}
-use Rattle.bridge.proofs.solgaverna_listing.Statement.{statement}
-use Rattle.bridge.proofs.solgaverna_listing.Tie as tie
-use Rattle.bridge.proofs.solgaverna_listing.Reads as reads
-use Rattle.bridge.proofs.solgaverna_listing.Lts as lts
-use Rattle.bridge.proofs.refused.Reads as refused-reads
+use Rattle.solgaverna.proofs.solgaverna_listing.Statement.{statement}
+use Rattle.solgaverna.proofs.solgaverna_listing.Tie as tie
+use Rattle.solgaverna.proofs.solgaverna_listing.Reads as reads
+use Rattle.solgaverna.proofs.solgaverna_listing.Lts as lts
+use Rattle.solgaverna.proofs.refused.Reads as refused-reads
 use Rattle.replay.proofs.listing.Reads as listing-reads
 
 -- src/lib.rt:63:9

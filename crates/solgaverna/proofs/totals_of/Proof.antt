@@ -1,13 +1,13 @@
 use mathlib.Core.Path.{sym, ap, _∙_}
 use Rattle.refusal.specs.Choice.{pick}
-use Rattle.bridge.specs.Bridge.{fourSays}
+use Rattle.solgaverna.specs.Answers.{fourSays}
 use Rattle.query.specs.Says.{totalsSays}
 use borrow.Author.Needs.{needs}
-use Rattle.bridge.proofs.totals_of.Statement.{statement}
-use Rattle.bridge.proofs.totals_of.Tie as tie
-use Rattle.bridge.proofs.totals_of.Reads as reads
-use Rattle.bridge.proofs.totals_of.Lts as lts
-use Rattle.bridge.proofs.unsound.Reads as unsound-reads
+use Rattle.solgaverna.proofs.totals_of.Statement.{statement}
+use Rattle.solgaverna.proofs.totals_of.Tie as tie
+use Rattle.solgaverna.proofs.totals_of.Reads as reads
+use Rattle.solgaverna.proofs.totals_of.Lts as lts
+use Rattle.solgaverna.proofs.unsound.Reads as unsound-reads
 use Rattle.query.proofs.get_stats.Reads as get-stats-reads
 
 -- src/lib.rt:156:9

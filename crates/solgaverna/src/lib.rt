@@ -10,7 +10,7 @@ ghost use lib.ListN.{getD};
 ghost use Rattle.lists.specs.Listing.{listedSays};
 ghost use Rattle.query.specs.Reads.{asked, lenderRead, totalsRead};
 ghost use Rattle.replay.specs.Text.{listingOf, listedIn, shownIn};
-ghost use Rattle.bridge.specs.Bridge.{minus, coded, ofBook, wantedOf, offersFor, noFour, fourSays, fourOver};
+ghost use Rattle.solgaverna.specs.Answers.{minus, coded, ofBook, wantedOf, offersFor, noFour, fourSays, fourOver};
 
 // Which offers are asked for, or that the number is not listed.
 pub enum Asked {

@@ -1,15 +1,15 @@
 use mathlib.Core.Path.{ap, _∙_}
 use borrow.Author.Tests.{not-true, not-false}
-use Rattle.bridge.specs.BridgeLaws.{malformed, whole}
-use Rattle.bridge.specs.Bridge.{fourOver}
+use Rattle.solgaverna.specs.AnswerLaws.{malformed, whole}
+use Rattle.solgaverna.specs.Answers.{fourOver}
 use borrow.Author.Needs.{needs}
-use Rattle.bridge.proofs.solgaverna_totals.Statement.{statement}
-use Rattle.bridge.proofs.solgaverna_totals.Tie as tie
-use Rattle.bridge.proofs.solgaverna_totals.Reads as reads
-use Rattle.bridge.proofs.solgaverna_totals.Lts as lts
-use Rattle.bridge.proofs.put_four.Reads as put-four-reads
-use Rattle.bridge.proofs.refused.Reads as refused-reads
-use Rattle.bridge.proofs.totals_of.Reads as totals-of-reads
+use Rattle.solgaverna.proofs.solgaverna_totals.Statement.{statement}
+use Rattle.solgaverna.proofs.solgaverna_totals.Tie as tie
+use Rattle.solgaverna.proofs.solgaverna_totals.Reads as reads
+use Rattle.solgaverna.proofs.solgaverna_totals.Lts as lts
+use Rattle.solgaverna.proofs.put_four.Reads as put-four-reads
+use Rattle.solgaverna.proofs.refused.Reads as refused-reads
+use Rattle.solgaverna.proofs.totals_of.Reads as totals-of-reads
 use Rattle.replay.proofs.replay.Reads as replay-reads
 
 -- src/lib.rt:209:9
