@@ -1,0 +1,45 @@
+/* The proved book for C. The bytes of a journal go in; its listing, its offers or its figures come out in a lent buffer.
+ *
+ * Every function answers on every input. At least 0: how many bytes, offers or numbers were written. Below 0: minus the
+ * number of a refusal, and the buffer is as it was:
+ *    3  a list that is none, or an unlisted status
+ *   13  the journal or the text is malformed
+ *   14  the buffer is too short
+ * Room past an answer is untouched. Nothing is kept between calls. A call takes up to 1 MiB of stack.
+ *
+ * A slice is a pointer and a count of its elements. The pointer must not be null, even where the count is 0. */
+#ifndef SOLGAVERNA_H
+#define SOLGAVERNA_H
+
+#include <stddef.h>
+#include <stdint.h>
+
+/* The listing that a replay of the journal prints; a malformed record is said there and is no refusal. */
+int64_t solgaverna_listing(const uint8_t *journal, size_t journal_len, uint8_t *out, size_t out_len);
+
+/* The journal of a text, one command a line, and the text of a journal (docs/JOURNALS.md). */
+int64_t solgaverna_journal(const uint8_t *text, size_t text_len, uint8_t *out, size_t out_len);
+int64_t solgaverna_text(const uint8_t *journal, size_t journal_len, uint8_t *out, size_t out_len);
+
+/* The number, from 1, of the first line of a text that is no command; 0 if there is none. */
+uint64_t solgaverna_faulty_line(const uint8_t *text, size_t text_len);
+
+/* Offers after the journal, ids ascending, ten numbers each: id, invoice, lender, amount, rate, duration, expires, status,
+ * funded, repaid (amounts in two's complement). The answer is how many offers there are. */
+enum {
+    SOLGAVERNA_BY_INVOICE = 1,         /* a: invoice */
+    SOLGAVERNA_BY_LENDER = 2,          /* a: account */
+    SOLGAVERNA_BY_STATUS = 3,          /* a: status */
+    SOLGAVERNA_PENDING_BY_INVOICE = 4, /* a: invoice */
+    SOLGAVERNA_ALL = 5,
+    SOLGAVERNA_PAGE = 6                /* a: how many to pass over, b: how many at most */
+};
+int64_t solgaverna_offers(const uint8_t *journal, size_t journal_len, uint64_t list, uint64_t a, uint64_t b,
+                          uint64_t *out, size_t out_len);
+
+/* Four numbers after the journal. A lender's: offered total, accepted total, offers pending, offers repaid.
+ * The book's totals: offers, financed, repaid, fees. */
+int64_t solgaverna_lender(const uint8_t *journal, size_t journal_len, uint64_t account, uint64_t *out, size_t out_len);
+int64_t solgaverna_totals(const uint8_t *journal, size_t journal_len, uint64_t *out, size_t out_len);
+
+#endif

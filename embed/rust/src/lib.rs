@@ -1,0 +1,172 @@
+//! The proved book from Rust: a journal is written from commands as text, replayed, and read.
+//!
+//! ```
+//! use solgaverna::Journal;
+//!
+//! let mut journal = Journal::new();
+//! journal.write("open-account 100 1\ndeposit 100 1 5000\n").unwrap();
+//! assert_eq!(journal.listing(), "1 0\n2 0\naccount 1 5000 0 0 0\ntotals 0 0 0\n");
+//! assert_eq!(journal.lender(1).unwrap().offered, 0);
+//! ```
+//!
+//! Nothing is kept between calls but the bytes of the journal: every read replays them. A call takes up to 1 MiB of stack.
+
+mod calls;
+
+use std::fmt;
+
+/// Why a call was refused.
+#[derive(Clone, Copy, Debug, PartialEq, Eq)]
+pub enum Refusal {
+    /// The line of a text, counted from 1, that is no command.
+    Line(u64),
+    /// The number of the refusal.
+    Number(u64),
+}
+
+impl fmt::Display for Refusal {
+    fn fmt(&self, out: &mut fmt::Formatter) -> fmt::Result {
+        match self {
+            Refusal::Line(line) => write!(out, "line {line} is no command"),
+            Refusal::Number(number) => write!(out, "refused with {number}"),
+        }
+    }
+}
+
+impl std::error::Error for Refusal {}
+
+/// Which offers are listed.
+#[derive(Clone, Copy, Debug, PartialEq, Eq)]
+pub enum Offers {
+    ByInvoice(u64),
+    ByLender(u64),
+    ByStatus(u64),
+    PendingByInvoice(u64),
+    All,
+    Page { offset: u64, limit: u64 },
+}
+
+#[derive(Clone, Copy, Debug, Default, PartialEq, Eq)]
+pub struct Offer {
+    pub id: u64,
+    pub invoice: u64,
+    pub lender: u64,
+    pub amount: i64,
+    pub rate: u64,
+    pub duration: u64,
+    pub expires: u64,
+    pub status: u64,
+    pub funded: u64,
+    pub repaid: i64,
+}
+
+/// A lender's figures.
+#[derive(Clone, Copy, Debug, Default, PartialEq, Eq)]
+pub struct Lender {
+    pub offered: u64,
+    pub accepted: u64,
+    pub pending: u64,
+    pub repaid: u64,
+}
+
+/// The book's totals.
+#[derive(Clone, Copy, Debug, Default, PartialEq, Eq)]
+pub struct Totals {
+    pub offers: u64,
+    pub financed: u64,
+    pub repaid: u64,
+    pub fees: u64,
+}
+
+/// The bytes of a journal. `Journal::from` takes any bytes; reads of malformed ones are refused with 13.
+#[derive(Clone, Debug, PartialEq, Eq)]
+pub struct Journal(Vec<u8>);
+
+/// How many bytes the header has.
+const HEADER: usize = 5;
+/// A table's rows, and the numbers of an offer.
+const MOST_OFFERS: usize = 64;
+const NUMBERS: usize = 10;
+
+impl From<Vec<u8>> for Journal {
+    fn from(bytes: Vec<u8>) -> Journal {
+        Journal(bytes)
+    }
+}
+
+impl Default for Journal {
+    fn default() -> Journal {
+        Journal::new()
+    }
+}
+
+impl Journal {
+    /// A journal without commands.
+    pub fn new() -> Journal {
+        let mut bytes = vec![0; HEADER];
+        calls::journal("", &mut bytes).expect("the header fits");
+        Journal(bytes)
+    }
+
+    pub fn bytes(&self) -> &[u8] {
+        &self.0
+    }
+
+    /// Adds commands, one a line. A line that is none is refused by its number, and nothing is added.
+    pub fn write(&mut self, text: &str) -> Result<(), Refusal> {
+        // a line of n bytes is a record of at most 12 n bytes: each field takes two or more of the line and eleven of the record
+        let mut more = vec![0; HEADER + 12 * text.len()];
+        let size = calls::journal(text, &mut more)?;
+        self.0.extend_from_slice(&more[HEADER..size]);
+        Ok(())
+    }
+
+    /// The commands as lines of text.
+    pub fn text(&self) -> Result<String, Refusal> {
+        // a field of eleven bytes is at most a space and twenty digits
+        let mut out = vec![0; 32 + 2 * self.0.len()];
+        let size = calls::text(&self.0, &mut out)?;
+        out.truncate(size);
+        Ok(String::from_utf8(out).expect("names, digits and spaces"))
+    }
+
+    /// What a replay prints: an answer for each command, the accounts, the totals.
+    pub fn listing(&self) -> String {
+        let mut out = vec![0; self.0.len() + 8192];
+        let size = calls::listing(&self.0, &mut out).expect("a listing has at most 7,347 bytes more than its journal");
+        out.truncate(size);
+        String::from_utf8(out).expect("words, digits and spaces")
+    }
+
+    pub fn offers(&self, which: Offers) -> Result<Vec<Offer>, Refusal> {
+        let mut numbers = [0; MOST_OFFERS * NUMBERS];
+        let count = calls::offers(&self.0, which, &mut numbers)?;
+        Ok(numbers.chunks_exact(NUMBERS).take(count).map(offer).collect())
+    }
+
+    /// An account that was never opened has zeros.
+    pub fn lender(&self, account: u64) -> Result<Lender, Refusal> {
+        let [offered, accepted, pending, repaid] = calls::lender(&self.0, account)?;
+        Ok(Lender { offered, accepted, pending, repaid })
+    }
+
+    pub fn totals(&self) -> Result<Totals, Refusal> {
+        let [offers, financed, repaid, fees] = calls::totals(&self.0)?;
+        Ok(Totals { offers, financed, repaid, fees })
+    }
+}
+
+fn offer(numbers: &[u64]) -> Offer {
+    Offer {
+        id: numbers[0],
+        invoice: numbers[1],
+        lender: numbers[2],
+        amount: numbers[3] as i64,
+        rate: numbers[4],
+        duration: numbers[5],
+        expires: numbers[6],
+        status: numbers[7],
+        funded: numbers[8],
+        repaid: numbers[9] as i64,
+    }
+}
