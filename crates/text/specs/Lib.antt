@@ -1,0 +1,11 @@
+pub mod Names
+pub mod NameLaws
+pub mod Line
+pub mod LineLaws
+pub mod Walk
+pub mod WalkLaws
+pub mod Telling
+pub mod Answers
+pub mod AnswerLaws
+pub mod Text
+pub mod TextLaws
