@@ -74,11 +74,15 @@ pub length-record : (t : ℕ) (vs : List ℕ) → length (recordOf t vs) ≡ 3 +
 unfolding fieldOf headOf bytesOf
 length-record t vs = omega (arith, length-fields (fieldsOf t) vs)
 
--- a command's record is that of its parts
+-- the numbers in an array give the same record
+pub record-sent : (x : ℕ × List ℕ) {p : Parts} → p ≡ sent x → recordOf (p .0) (p .1) ≡ recordOf (x .0) (x .1)
+unfolding padded
+record-sent x {p} e =
+    ap (λ (q : Parts). recordOf (q .0) (q .1)) e ∙ ap (λ (w : List ℕ). fieldOf (x .0) w) (fields-zeros (fieldsOf (x .0)) (x .1) (9 - length (x .1)))
+
 pub command-parts : (c : Command) {p : Parts} → p ≡ sent (partsOf c) → recordOf (p .0) (p .1) ≡ bytesFor c
-unfolding bytesFor padded
-command-parts c {p} e =
-    ap (λ (q : Parts). recordOf (q .0) (q .1)) e ∙ ap (λ (w : List ℕ). fieldOf (partsOf c .0) w) (fields-zeros (fieldsOf (partsOf c .0)) (partsOf c .1) (9 - length (partsOf c .1)))
+unfolding bytesFor
+command-parts c e = record-sent (partsOf c) e
 
 pub length-for : (c : Command) → length (bytesFor c) ≡ 3 + 11 * length (fieldsOf (partsOf c .0))
 unfolding bytesFor

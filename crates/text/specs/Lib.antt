@@ -3,9 +3,14 @@ pub mod NameLaws
 pub mod Line
 pub mod LineLaws
 pub mod Walk
+pub mod Reading
+pub mod ReadingLaws
+pub mod NumbersLaws
+pub mod LineReads
 pub mod WalkLaws
 pub mod Telling
 pub mod Answers
 pub mod AnswerLaws
 pub mod Text
 pub mod TextLaws
+pub mod Journal

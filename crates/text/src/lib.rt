@@ -1,5 +1,6 @@
 // Journals as text, one command a line, and back.
 mod names;
+mod reading;
 mod writing;
 
 use journal::Decoded;
