@@ -18,5 +18,8 @@ unfoldable pub bytesFrom : Walk → List ℕ
 bytesFrom w = headerOf ++ allOf recordFor (w .items)
 
 -- a line that is none is a fault by its number, from 1
+unfoldable pub faultLine : Walk → ℕ
+faultLine w = pick (w .bad) (suc (length (w .items))) 0
+
 unfoldable pub journalOf : List ℕ → Outcome
-journalOf t = pick (linesIn t .bad) (faulty (suc (length (linesIn t .items)))) (whole (bytesFrom (linesIn t)))
+journalOf t = pick (linesIn t .bad) (faulty (faultLine (linesIn t))) (whole (bytesFrom (linesIn t)))

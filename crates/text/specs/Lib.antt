@@ -14,3 +14,5 @@ pub mod AnswerLaws
 pub mod Text
 pub mod TextLaws
 pub mod Journal
+pub mod JournalLaws
+pub mod RecordLaws
