@@ -7,7 +7,7 @@ use native.Mathlib.Omega.{arith}
 use lib.ListN.{length, getD, take, drop, set, length-drop}
 use lib.Seq.{take-add}
 use lib.Dec.{eqb, leb}
-use borrow.Author.Tests.{eqb-true}
+use borrow.Author.Tests.{eqb-true, leb-true}
 use Rattle.refusal.specs.Choice.{pick}
 use Rattle.refusal.specs.Refusal.{number, journalMalformed}
 use Rattle.command.specs.declared.Command.{Command}
@@ -16,10 +16,10 @@ use Rattle.wire.specs.NumberLaws.{Bytes}
 use Rattle.wire.specs.FieldLaws.{and-left, and-right, begins-room}
 use Rattle.wire.specs.FieldTrip.{bytes-drop, field-bytes, number-whole, number-small}
 use Rattle.journal.specs.Answers.{found, ended, malformed}
-use Rattle.journal.specs.Table.{named, fieldsOf, made}
+use Rattle.journal.specs.Table.{topOf, named, fieldsOf, made, partsOf}
 use Rattle.journal.specs.Format.{headerOf, openingOf, fieldIn, wellIn, numbersIn, zeros, recordAt, readAt, fieldsOut, bytesFor}
 use Rattle.journal.specs.WriteLaws.{length-for}
-use Rattle.journal.specs.HeldLaws.{byTag}
+use Rattle.journal.specs.HeldLaws.{Tops, byTag}
 use Rattle.journal.specs.Faithful.{made-of}
 
 -- the numbers of n fields
@@ -37,6 +37,15 @@ unfolding valuesIn
 values-small zero b h k = omega arith
 values-small (suc n) b h zero = number-small (drop 3 b) (bytes-drop 3 b h)
 values-small (suc n) b h (suc k) = values-small n (drop 11 b) (bytes-drop 11 b h) k
+
+-- each in its field's range
+values-range : (fs b : List ℕ) → wellIn fs b ≡ true → Tops fs (valuesIn (length fs) b)
+unfolding wellIn fieldIn valuesIn
+values-range [] b e = tt
+values-range (f ∷ fs) b e = (
+  leb-true (numberAt 8 (drop 3 b)) (topOf f) (and-right (begins f 8 b) _ (and-left (fieldIn f b) _ e)),
+  values-range fs (drop 11 b) (and-right (fieldIn f b) _ e),
+)
 
 by-tag : (v fs b : List ℕ) → numbersIn v fs b ≡ byTag v fs (valuesIn (length fs) b)
 unfolding numbersIn byTag valuesIn
@@ -71,6 +80,7 @@ record-bytes t fs b k e =
 pub record Stands (s : List ℕ) (at : ℕ) (c : Command) (n : ℕ) : Type 0 where
   pub past : n ≡ at + length (bytesFor c)
   pub bytes : take (length (bytesFor c)) (drop at s) ≡ bytesFor c
+  pub range : Tops (fieldsOf (partsOf c .0)) (partsOf c .1)
 
 by-record : (t : ℕ) (s : List ℕ) (at : ℕ) (c : Command) (n : ℕ) → Bytes s → recordAt t (fieldsOf t) (drop at s) at ≡ found c n → Stands s at c n
 unfolding recordAt pick bytesFor
@@ -93,7 +103,7 @@ by-record t s at c n k e = go (begins t (11 * length fs) b && wellIn fs (drop 3 
         let m = made-of t at (at + (3 + 11 * length fs)) n vs c (length-values (length fs) (drop 3 b)) (values-small (length fs) (drop 3 b) (bytes-drop 3 b kb)) (rw (by-tag zeros fs (drop 3 b)) at e) in
         let i : bytesFor c ≡ fieldOf t (fieldsOut fs vs) = ap (λ (p : ℕ × List ℕ). fieldOf (p .0) (fieldsOut (fieldsOf (p .0)) (p .1))) (m .1) in
         let l : length (bytesFor c) ≡ 3 + 11 * length fs = length-for c ∙ ap (λ (p : ℕ × List ℕ). 3 + 11 * length (fieldsOf (p .0))) (m .1) in
-        record { past = sym (m .0) ∙ ap (λ (j : ℕ). at + j) (sym l); bytes = rw l (record-bytes t fs b kb q ∙ sym i) }
+        record { past = sym (m .0) ∙ ap (λ (j : ℕ). at + j) (sym l); bytes = rw l (record-bytes t fs b kb q ∙ sym i); range = rw (m .1) (values-range fs (drop 3 b) (and-right (begins t (11 * length fs) b) _ q)) }
     go false q e = let z : _≡_ {A = ℕ} 0 1 = cc in absurd (omega arith)
 
 -- READING THEN WRITING

@@ -49,13 +49,16 @@ recordAt t fs b at =
 unfoldable pub readAt : List ℕ → ℕ → Reading
 readAt s at = pick (leb (length s) at) ended (recordAt (getD s at 0) (fieldsOf (getD s at 0)) (drop at s) at)
 
--- fields with their numbers, one after the other; and the bytes of a command
+-- fields with their numbers, one after the other; the record of a tag and its numbers; and the bytes of a command
 unfoldable pub fieldsOut : List ℕ → List ℕ → List ℕ
 fieldsOut [] vs = []
 fieldsOut (f ∷ fs) vs = fieldOf f (bytesOf 8 (getD vs 0 0)) ++ fieldsOut fs (drop 1 vs)
 
+abbrev pub recordOf : ℕ → List ℕ → List ℕ
+recordOf t vs = fieldOf t (fieldsOut (fieldsOf t) vs)
+
 unfoldable pub bytesFor : Command → List ℕ
-bytesFor c = fieldOf (partsOf c .0) (fieldsOut (fieldsOf (partsOf c .0)) (partsOf c .1))
+bytesFor c = recordOf (partsOf c .0) (partsOf c .1)
 
 -- what writing w into l at a place answers: the number of bytes, or 14
 unfoldable pub writing : ℕ → List ℕ → List ℕ → ℕ × ℕ

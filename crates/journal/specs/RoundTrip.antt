@@ -17,9 +17,9 @@ use Rattle.wire.specs.FieldTrip.{body-past, begins-field, number-past}
 use Rattle.journal.specs.Answers.{found}
 use Rattle.journal.specs.Table.{isNarrow, topOf, named, fieldsOf, made, partsOf}
 use Rattle.journal.specs.TableLaws.{few}
-use Rattle.journal.specs.Format.{headerOf, openingOf, fieldIn, wellIn, numbersIn, zeros, recordAt, readAt, fieldsOut, bytesFor}
+use Rattle.journal.specs.Format.{headerOf, openingOf, fieldIn, wellIn, numbersIn, zeros, recordAt, readAt, fieldsOut, recordOf, bytesFor}
 use Rattle.journal.specs.ReadLaws.{at-record}
-use Rattle.journal.specs.WriteLaws.{length-fields, length-for}
+use Rattle.journal.specs.WriteLaws.{length-fields, length-record}
 use Rattle.journal.specs.Held.{Held}
 use Rattle.journal.specs.HeldLaws.{Tops, byTag, in-range, made-back}
 
@@ -80,18 +80,22 @@ unfolding fieldOf headOf
 first-byte t body [] r = refl
 first-byte t body (x ∷ p) r = first-byte t body p r
 
--- WRITING THEN READING, with anything before and after
-pub read-back : (c : Command) (p r : List ℕ) → Held c → readAt (p ++ (bytesFor c ++ r)) (length p) ≡ found c (length p + length (bytesFor c))
-unfolding bytesFor
-read-back c p r h =
-    let t = partsOf c .0 in
-    let body = fieldsOut (fieldsOf t) (partsOf c .1) in
+-- the record of any tag and numbers in range, with anything before and after
+pub parts-back : (t : ℕ) (xs p r : List ℕ) → Tops (fieldsOf t) xs
+    → readAt (p ++ (recordOf t xs ++ r)) (length p) ≡ made t (named (byTag zeros (fieldsOf t) xs)) (length p) (length p + length (recordOf t xs))
+parts-back t xs p r h =
+    let body = fieldsOut (fieldsOf t) xs in
     let b = fieldOf t body ++ r in
-    let n : length p + (3 + 11 * length (fieldsOf t)) ≡ length p + length (bytesFor c) = ap (λ (k : ℕ). length p + k) (sym (length-for c)) in
-    let l : length p < length (p ++ b) = omega (arith, length-append p b, length-append (fieldOf t body) r, length-for c) in
+    let n : length p + (3 + 11 * length (fieldsOf t)) ≡ length p + length (recordOf t xs) = ap (λ (k : ℕ). length p + k) (sym (length-record t xs)) in
+    let l : length p < length (p ++ b) = omega (arith, length-append p b, length-append (fieldOf t body) r, length-record t xs) in
     sym (at-record (p ++ b) (length p) l (sym
     (rw (first-byte t body p r, drop-append-seam p b)
-    (record-back t (fieldsOf t) (partsOf c .1) r (length p) (few t) (in-range c h) ∙ made-back c (length p) (length p + (3 + 11 * length (fieldsOf t))) h ∙ ap (λ (k : ℕ). found c k) n))))
+    (record-back t (fieldsOf t) xs r (length p) (few t) h ∙ ap (λ (k : ℕ). made t (named (byTag zeros (fieldsOf t) xs)) (length p) k) n))))
+
+-- WRITING THEN READING, likewise
+pub read-back : (c : Command) (p r : List ℕ) → Held c → readAt (p ++ (bytesFor c ++ r)) (length p) ≡ found c (length p + length (bytesFor c))
+unfolding bytesFor
+read-back c p r h = parts-back (partsOf c .0) (partsOf c .1) p r (in-range c h) ∙ made-back c (length p) (length p + length (bytesFor c)) h
 
 -- what encode leaves in a buffer, read there, is the command
 pub laid-back : (l : List ℕ) (c : Command) (at : ℕ) → Held c → at + length (bytesFor c) ≤ length l → readAt (laid at (bytesFor c) l) at ≡ found c (at + length (bytesFor c))

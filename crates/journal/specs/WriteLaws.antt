@@ -17,7 +17,7 @@ use Rattle.journal.specs.Table.{fieldsOf, partsOf, padded, listed, sent}
 use Rattle.journal.specs.declared.table.Listed.{Listed}
 use Rattle.journal.specs.declared.writing.Parts.{Parts}
 use Rattle.journal.specs.TableLaws.{take-padded}
-use Rattle.journal.specs.Format.{fieldsOut, bytesFor, writing}
+use Rattle.journal.specs.Format.{fieldsOut, recordOf, bytesFor, writing}
 
 pub length-fields : (fs vs : List ℕ) → length (fieldsOut fs vs) ≡ 11 * length fs
 unfolding fieldsOut
@@ -55,26 +55,38 @@ fields-zeros (f ∷ fs) [] (suc n) = ap (λ (l : List ℕ). fieldOf f (bytesOf 8
 fields-zeros (f ∷ fs) (v ∷ vs) n = ap (λ (l : List ℕ). fieldOf f (bytesOf 8 v) ++ l) (fields-zeros fs vs n)
 
 -- a record: its head, then its fields
-pub record-placed : (t : ℕ) (fs vs l : List ℕ) (at : ℕ) → at + (3 + 11 * length fs) ≤ length l
-    → placed (at + 3) (fieldsOut (take (length fs) (padded fs)) (padded vs)) (placed at (headOf t (11 * length fs)) l) ≡ placed at (fieldOf t (fieldsOut fs vs)) l
-unfolding fieldOf headOf bytesOf padded
+record-placed : (t : ℕ) (fs vs l : List ℕ) (at : ℕ) → at + (3 + 11 * length fs) ≤ length l
+    → placed (at + 3) (fieldsOut (take (length fs) (padded fs)) vs) (placed at (headOf t (11 * length fs)) l) ≡ placed at (fieldOf t (fieldsOut fs vs)) l
+unfolding fieldOf headOf bytesOf
 record-placed t fs vs l at h =
     let e : length (fieldsOut fs vs) ≡ 11 * length fs = length-fields fs vs in
-    rw (take-padded fs, fields-zeros fs vs (9 - length vs), ← e) (placed-twice at (headOf t (length (fieldsOut fs vs))) (fieldsOut fs vs) l (omega (arith, e)))
+    rw (take-padded fs, ← e) (placed-twice at (headOf t (length (fieldsOut fs vs))) (fieldsOut fs vs) l (omega (arith, e)))
 
--- what encode leaves in a buffer, of the parts and the row that it was given
-abbrev pub stored : List ℕ → ℕ → Parts → Listed → List ℕ
-stored l at p r = placed (at + 3) (fieldsOut (take (r .0) (r .1)) (p .1)) (placed at (headOf (p .0) (11 * r .0)) l)
+-- what encode leaves in a buffer, of the row that it was given
+abbrev pub stored : List ℕ → ℕ → ℕ → List ℕ → Listed → List ℕ
+stored l at t vs r = placed (at + 3) (fieldsOut (take (r .0) (r .1)) vs) (placed at (headOf t (11 * r .0)) l)
 
-pub command-placed : (c : Command) (l : List ℕ) (at : ℕ) {p : Parts} {r : Listed} → p ≡ sent (partsOf c) → r ≡ listed (fieldsOf (partsOf c .0)) → at + (3 + 11 * r .0) ≤ length l → stored l at p r ≡ placed at (bytesFor c) l
+pub parts-placed : (t : ℕ) (vs l : List ℕ) (at : ℕ) {r : Listed} → r ≡ listed (fieldsOf t) → at + (3 + 11 * r .0) ≤ length l → stored l at t vs r ≡ placed at (recordOf t vs) l
+parts-placed t vs l at {r} d h =
+    ap (λ (q : Listed). stored l at t vs q) d ∙ record-placed t (fieldsOf t) vs l at (omega (arith, ap (λ (q : Listed). q .0) d))
+
+pub length-record : (t : ℕ) (vs : List ℕ) → length (recordOf t vs) ≡ 3 + 11 * length (fieldsOf t)
+unfolding fieldOf headOf bytesOf
+length-record t vs = omega (arith, length-fields (fieldsOf t) vs)
+
+-- the numbers in an array give the same record
+pub record-sent : (x : ℕ × List ℕ) {p : Parts} → p ≡ sent x → recordOf (p .0) (p .1) ≡ recordOf (x .0) (x .1)
+unfolding padded
+record-sent x {p} e =
+    ap (λ (q : Parts). recordOf (q .0) (q .1)) e ∙ ap (λ (w : List ℕ). fieldOf (x .0) w) (fields-zeros (fieldsOf (x .0)) (x .1) (9 - length (x .1)))
+
+pub command-parts : (c : Command) {p : Parts} → p ≡ sent (partsOf c) → recordOf (p .0) (p .1) ≡ bytesFor c
 unfolding bytesFor
-command-placed c l at {p} {r} e d h =
-    ap (λ (q : Parts). stored l at q r) e ∙ ap (λ (q : Listed). stored l at (sent (partsOf c)) q) d
-    ∙ record-placed (partsOf c .0) (fieldsOf (partsOf c .0)) (partsOf c .1) l at (omega (arith, ap (λ (q : Listed). q .0) d))
+command-parts c e = record-sent (partsOf c) e
 
 pub length-for : (c : Command) → length (bytesFor c) ≡ 3 + 11 * length (fieldsOf (partsOf c .0))
-unfolding bytesFor fieldOf headOf bytesOf
-length-for c = omega (arith, length-fields (fieldsOf (partsOf c .0)) (partsOf c .1))
+unfolding bytesFor
+length-for c = length-record (partsOf c .0) (partsOf c .1)
 
 -- the two answers
 module _ (at : ℕ) (w l : List ℕ) where

@@ -1,13 +1,13 @@
 // The journal: each command is a field that holds the fields that the table lists for its tag.
 mod reading;
-mod table;
-mod writing;
+pub mod table;
+pub mod writing;
 
 use command::Command;
 ghost use mathlib.Core.Path.{_≡_};
 ghost use Rattle.wire.specs.Field.{laid};
 ghost use Rattle.journal.specs.Answers.{opening, reading, written};
-ghost use Rattle.journal.specs.Format.{headerOf, openingOf, readAt, bytesFor, writing};
+ghost use Rattle.journal.specs.Format.{headerOf, openingOf, readAt, recordOf, bytesFor, writing};
 
 // The first record's place, or that of a fault in the header.
 pub enum Opened {
@@ -68,8 +68,14 @@ pub fn encode(c: Command, out: &mut [u8], at: usize) -> Encoded
     ensures { λ r. ⌜ (written r ≡ writing at (bytesFor c) (now (out .entry))) × (now (out .exit) ≡ laid at (bytesFor c) (now (out .entry))) ⌝ }
 {
     let parts = writing::split(c);
-    let tag = parts.0;
     let values = parts.1;
+    encode_parts(parts.0, values, out, at)
+}
+
+// Writes the record of a tag and the numbers of its fields in order, likewise.
+pub fn encode_parts(tag: u8, values: [u64; 9], out: &mut [u8], at: usize) -> Encoded
+    ensures { λ r. ⌜ (written r ≡ writing at (recordOf tag values) (now (out .entry))) × (now (out .exit) ≡ laid at (recordOf tag values) (now (out .entry))) ⌝ }
+{
     let row = table::fields(tag);
     let n = row.0;
     let tags = row.1;

@@ -3,10 +3,10 @@ ghost use mathlib.Core.Path.{_≡_};
 ghost use Rattle.journal.specs.Table.{fieldsOf, topOf, listed};
 
 // The number of fields of a record, and their tags in ascending order.
-pub(crate) struct Listed(pub(crate) usize, pub(crate) [u8; 9]);
+pub struct Listed(pub usize, pub [u8; 9]);
 
 // The fields of a record by its tag. None: no record has this tag.
-pub(crate) fn fields(tag: u8) -> Listed
+pub fn fields(tag: u8) -> Listed
     ensures { λ r. ⌜ r ≡ listed (fieldsOf tag) ⌝ }
 {
     match tag {
@@ -39,7 +39,7 @@ pub(crate) fn fields(tag: u8) -> Listed
 }
 
 // The largest number that a field may hold.
-pub(crate) fn top(f: u8) -> u64
+pub fn top(f: u8) -> u64
     ensures { λ r. ⌜ r ≡ topOf f ⌝ }
 {
     let narrow = (f == 0x06) | (f == 0x09) | (f == 0x0a) | (f == 0x0b) | (f == 0x0e);

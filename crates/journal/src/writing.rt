@@ -9,9 +9,9 @@ ghost use Rattle.journal.specs.Table.{sent, partsOf};
 ghost use Rattle.journal.specs.Format.{fieldsOut};
 
 // A command's tag and the numbers of its fields in order.
-pub(crate) struct Parts(pub(crate) u8, pub(crate) [u64; 9]);
+pub struct Parts(pub u8, pub [u64; 9]);
 
-pub(crate) fn split(c: Command) -> Parts
+pub fn split(c: Command) -> Parts
     ensures { λ r. ⌜ r ≡ sent (partsOf c) ⌝ }
 {
     match c {

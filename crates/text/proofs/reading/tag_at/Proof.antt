@@ -1,0 +1,46 @@
+use mathlib.Core.Path.{_≡_, refl, sym, ap, _∙_}
+use Prim.Native.Nat.{ℕ, _-_, _≤_, _<_}
+use native.Mathlib.Omega.{arith}
+use lib.ListN.{length, drop}
+use borrow.Author.Needs.{needs}
+use Rattle.text.specs.Reading.{tagBy, tagIn}
+use Rattle.text.specs.ReadingLaws.{tag-here, tag-on, no-tag}
+use Rattle.text.proofs.reading.tag_at.Statement.{statement}
+use Rattle.text.proofs.reading.tag_at.Tie as tie
+
+abbrev Inv-loop : tie.InvT-loop
+Inv-loop s at k₀ k = (k ≤ 87) × (tagIn (drop at s) ≡ tagBy (87 - k) k (drop at s))
+
+abbrev μ-loop : tie.MeasureT-loop
+μ-loop s at k₀ k = 87 - k
+
+loop-holds : tie.Need-loop-holds Inv-loop μ-loop
+unfolding tagIn
+loop-holds c = (omega arith, refl)
+
+returns : tie.Need-returns Inv-loop μ-loop
+returns c =
+    let l = c .before .before .before .loop in
+    sym (l .inv .1 ∙ tag-here _ (l .k) (c .before .before .loop-test .taken) (sym (c .before .named .ensures) ∙ c .if1 .taken))
+
+loop-again : tie.Need-loop-again Inv-loop μ-loop
+loop-again c =
+    let l = c .before .before .before .loop in
+    (omega (arith, c .before .before .loop-test .taken), l .inv .1 ∙ tag-on _ (l .k) (c .before .before .loop-test .taken) (sym (c .before .named .ensures) ∙ c .if1 .left))
+
+returns-2 : tie.Need-returns-2 Inv-loop μ-loop
+returns-2 c = let l = c .before .loop in sym (l .inv .1 ∙ no-tag _ (l .k) (c .loop-test .left))
+
+pub tag-at-spec : {M : Type 1} → statement M
+tag-at-spec =
+    tie.close
+    (tie.spec
+    Inv-loop
+    μ-loop
+    loop-holds
+    (λ c κs. c .before .before .before .pre)
+    returns
+    (λ c. omega (arith, c .before .before .loop-test .taken))
+    (λ c. omega (arith, c .before .before .loop-test .taken))
+    loop-again
+    returns-2)

@@ -1,0 +1,54 @@
+use mathlib.Core.Path.{_≡_, sym, _∙_}
+use borrow.Author.Needs.{needs}
+use Rattle.refusal.specs.Choice.{pick-on, pick-off}
+use Rattle.sheet.specs.SheetLaws.{retext}
+use Rattle.text.specs.Line.{numeralOf}
+use Rattle.text.proofs.writing.put_numeral.Statement.{statement}
+use Rattle.text.proofs.writing.put_numeral.Tie as tie
+use Rattle.text.proofs.writing.put_numeral.Reads as reads
+use Rattle.text.proofs.writing.put_numeral.Lts as lts
+use Rattle.sheet.proofs.put_decimal.Reads as put-decimal-reads
+use Rattle.text.proofs.writing.put_signed.Reads as put-signed-reads
+use Rattle.text.proofs.writing.signed.Reads as signed-reads
+
+-- src/writing.rt:28:8
+signed-requires : tie.Need-signed-requires
+signed-requires c κs = search needs
+
+-- src/writing.rt:29:9
+put-signed-requires : tie.Need-put-signed-requires
+put-signed-requires c κs = search needs
+
+-- src/writing.rt:29:9
+same-length : tie.Need-same-length
+same-length c = search needs
+
+-- src/writing.rt:29:9
+returns : tie.Need-returns
+unfolding numeralOf
+returns c = retext (c .before .before .put-signed .ensures) (sym (pick-on _ _ (sym (c .before .before .before .before .before .signed .ensures) ∙ c .before .before .before .before .if1 .taken)))
+
+-- src/writing.rt:31:5
+put-decimal-requires : tie.Need-put-decimal-requires
+put-decimal-requires c κs = search needs
+
+-- src/writing.rt:25:1
+same-length-2 : tie.Need-same-length-2
+same-length-2 c = search needs
+
+-- src/writing.rt:25:1
+returns-2 : tie.Need-returns-2
+unfolding numeralOf
+returns-2 c = retext (c .before .before .put-decimal .ensures) (sym (pick-off _ _ (sym (c .before .before .before .before .before .signed .ensures) ∙ c .before .before .before .before .if1 .left)))
+
+pub put-numeral-spec : {M : Type 1} → statement M
+put-numeral-spec =
+    tie.close
+    (tie.spec
+    signed-requires
+    put-signed-requires
+    same-length
+    returns
+    put-decimal-requires
+    same-length-2
+    returns-2)

@@ -1,0 +1,77 @@
+use mathlib.Core.Path.{_≡_, sym, ap}
+use Prim.Native.Nat.{ℕ, _+_, _-_}
+use native.Mathlib.Omega.{arith}
+use borrow.Author.Needs.{needs}
+use borrow.Author.Tests.{lt-ltb, le-ltb}
+use Rattle.refusal.specs.Choice.{pick-on, pick-off}
+use Rattle.sheet.specs.Decimal.{decimalOf}
+use Rattle.sheet.specs.SheetLaws.{next, retext}
+use Rattle.text.specs.Line.{signedOf}
+use Rattle.text.proofs.writing.put_signed.Statement.{statement}
+use Rattle.text.proofs.writing.put_signed.Tie as tie
+use Rattle.text.proofs.writing.put_signed.Reads as reads
+use Rattle.text.proofs.writing.put_signed.Lts as lts
+use Rattle.sheet.proofs.put.Reads as put-reads
+use Rattle.sheet.proofs.put_decimal.Reads as put-decimal-reads
+
+-- src/writing.rt:19:9
+put-decimal-requires : tie.Need-put-decimal-requires
+put-decimal-requires c κs = search needs
+
+-- src/writing.rt:19:9
+same-length : tie.Need-same-length
+same-length c = search needs
+
+-- src/writing.rt:19:9
+returns : tie.Need-returns
+unfolding signedOf
+returns c = retext (c .before .before .put-decimal .ensures) (sym (pick-on _ _ (lt-ltb _ _ (c .before .before .before .before .if1 .taken))))
+
+-- src/writing.rt:21:39
+slice-aggregate-put : tie.Need-slice-aggregate-put
+slice-aggregate-put c = search needs
+
+-- src/writing.rt:21:9
+put-requires : tie.Need-put-requires
+put-requires c κs = search needs
+
+-- src/writing.rt:22:37
+sub-put-decimal : tie.Need-sub-put-decimal
+sub-put-decimal c = search needs
+
+-- src/writing.rt:22:37
+add-put-decimal : tie.Need-add-put-decimal
+add-put-decimal c = search needs
+
+-- src/writing.rt:22:5
+put-decimal-requires-2 : tie.Need-put-decimal-requires-2
+put-decimal-requires-2 c κs = search needs
+
+-- src/writing.rt:15:1
+same-length-2 : tie.Need-same-length-2
+same-length-2 c = search needs
+
+-- src/writing.rt:15:1
+returns-2 : tie.Need-returns-2
+unfolding signedOf
+returns-2 c =
+    let x = c .before .before .before .before .before .before .before .before .before .before .before .args .x in
+    let h = c .before .before .before .before .before .before .before .before .before .if1 .left in
+    let f = c .before .before .before .before .before .before .before .before .before .before .before .fits .x in
+    let e : 18446744073709551615 - x + 1 ≡ 18446744073709551616 - x = omega arith in
+    retext (next (c .before .before .before .before .before .before .put .ensures) (rw e at (c .before .before .put-decimal2 .ensures))) (sym (pick-off _ _ (le-ltb _ _ h)))
+
+pub put-signed-spec : {M : Type 1} → statement M
+put-signed-spec =
+    tie.close
+    (tie.spec
+    put-decimal-requires
+    same-length
+    returns
+    slice-aggregate-put
+    put-requires
+    sub-put-decimal
+    add-put-decimal
+    put-decimal-requires-2
+    same-length-2
+    returns-2)

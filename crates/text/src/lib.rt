@@ -1,0 +1,160 @@
+// Journals as text, one command a line, and back.
+mod names;
+mod reading;
+mod writing;
+
+use journal::Decoded;
+use journal::Encoded;
+use journal::Opened;
+use sheet::Pen;
+ghost use mathlib.Core.Path.{_≡_};
+ghost use mathlib.Core.Bool.{false};
+ghost use Rattle.sheet.specs.Sheet.{Wrote, penAt};
+ghost use Rattle.text.specs.Answers.{answered, answerFor, leftFor};
+ghost use Rattle.text.specs.Text.{recordsOf, linesOf, textOf};
+ghost use Rattle.text.specs.Journal.{linesIn, bytesFrom, faultLine, journalOf};
+ghost use Rattle.journal.specs.Format.{headerOf, recordOf};
+
+// How many bytes were written; the offset of a malformed record or the number of a line that is none; or that the buffer is too short.
+pub enum Answer {
+    Done(usize),
+    Malformed(usize),
+    Short,
+}
+
+// Where a walk stopped, whether at a fault, and the pen then.
+pub(crate) struct Told {
+    pub(crate) pen: Pen,
+    pub(crate) bad: bool,
+    pub(crate) at: usize,
+}
+
+// One walk over a journal, which writes the lines as it goes. Without ink it only measures.
+fn tell(s: &[u8], out: &mut [u8], ink: bool) -> Told
+    ensures { λ r. ⌜ Wrote ink (linesOf (recordsOf (now (s .entry)))) (now (out .entry)) (penAt 0 false) (now (out .exit)) (r .pen) × ((r .bad ≡ recordsOf (now (s .entry)) .bad) × (r .at ≡ recordsOf (now (s .entry)) .at)) ⌝ }
+{
+    let mut pen = Pen {
+        at: 0,
+        short: false,
+    };
+    let h = journal::header(s);
+    let Opened::Records(first) = h else {
+        return Told {
+            pen: pen,
+            bad: true,
+            at: 0,
+        };
+    };
+    let mut at = first;
+    loop {
+        let d = journal::decode(s, at);
+        match d {
+            Decoded::Command(c, next) => {
+                let parts = journal::writing::split(c);
+                let numbers = parts.1;
+                pen = writing::put_line(out, pen, ink, parts.0, numbers);
+                at = next;
+            }
+            Decoded::Malformed(_) => {
+                return Told {
+                    pen: pen,
+                    bad: true,
+                    at: at,
+                };
+            }
+            Decoded::End => {
+                return Told {
+                    pen: pen,
+                    bad: false,
+                    at: at,
+                };
+            }
+        }
+    }
+}
+
+// Writes the lines of a journal where they fit, else leaves the buffer as it is.
+pub fn to_text(journal: &[u8], out: &mut [u8]) -> Answer
+    ensures { λ r. ⌜ (answered r ≡ answerFor (textOf (now (journal .entry))) (now (out .entry))) × (now (out .exit) ≡ leftFor (textOf (now (journal .entry))) (now (out .entry))) ⌝ }
+{
+    let dry = tell(journal, out, false);
+    if dry.bad {
+        return Answer::Malformed(dry.at);
+    }
+    let p = dry.pen;
+    if p.short {
+        return Answer::Short;
+    }
+    let wet = tell(journal, out, true);
+    let q = wet.pen;
+    Answer::Done(q.at)
+}
+
+fn put_header(out: &mut [u8], pen: Pen, ink: bool) -> Pen
+    ensures { λ r. ⌜ Wrote ink headerOf (now (out .entry)) pen (now (out .exit)) r ⌝ }
+{
+    let mut header = [0u8; 5];
+    journal::write_header(&mut header);
+    sheet::put(out, pen, ink, &header)
+}
+
+fn put_record(out: &mut [u8], pen: Pen, ink: bool, tag: u8, numbers: [u64; 9]) -> Pen
+    ensures { λ r. ⌜ Wrote ink (recordOf tag numbers) (now (out .entry)) pen (now (out .exit)) r ⌝ }
+{
+    // Room for the longest record: no case is short.
+    let mut bytes = [0u8; 102];
+    let e = journal::encode_parts(tag, numbers, &mut bytes, 0);
+    let Encoded::Bytes(size) = e else {
+        return pen;
+    };
+    sheet::put(out, pen, ink, &bytes[..size])
+}
+
+// One walk over a text, which writes the header and the records as it goes. A fault is told by its line's number.
+fn tell_lines(s: &[u8], out: &mut [u8], ink: bool) -> Told
+    ensures { λ r. ⌜ Wrote ink (bytesFrom (linesIn (now (s .entry)))) (now (out .entry)) (penAt 0 false) (now (out .exit)) (r .pen) × ((r .bad ≡ linesIn (now (s .entry)) .bad) × (r .at ≡ faultLine (linesIn (now (s .entry))))) ⌝ }
+{
+    let start = Pen {
+        at: 0,
+        short: false,
+    };
+    let mut pen = put_header(out, start, ink);
+    let mut at: usize = 0;
+    let mut k: usize = 0;
+    while at < s.len() {
+        let x = reading::line_at(s, at);
+        if !x.ok {
+            return Told {
+                pen: pen,
+                bad: true,
+                at: k + 1,
+            };
+        }
+        let values = x.values;
+        pen = put_record(out, pen, ink, x.tag, values);
+        at = x.next;
+        k += 1;
+    }
+    Told {
+        pen: pen,
+        bad: false,
+        at: 0,
+    }
+}
+
+// Writes the journal of a text where it fits, else leaves the buffer as it is.
+pub fn to_journal(text: &[u8], out: &mut [u8]) -> Answer
+    ensures { λ r. ⌜ (answered r ≡ answerFor (journalOf (now (text .entry))) (now (out .entry))) × (now (out .exit) ≡ leftFor (journalOf (now (text .entry))) (now (out .entry))) ⌝ }
+{
+    let dry = tell_lines(text, out, false);
+    if dry.bad {
+        return Answer::Malformed(dry.at);
+    }
+    let p = dry.pen;
+    if p.short {
+        return Answer::Short;
+    }
+    let wet = tell_lines(text, out, true);
+    let q = wet.pen;
+    Answer::Done(q.at)
+}
