@@ -2,11 +2,11 @@
 use mathlib.Core.Path.{_≡_, refl, ap}
 use mathlib.Core.Bool.{Bool, true, false}
 use mathlib.Core.List.{List, [], _∷_, _++_}
-use Prim.Native.Nat.{ℕ, zero, suc, _+_, _*_, _≤_, _<_}
+use Prim.Native.Nat.{ℕ, zero, suc, _+_, _-_, _*_, _≤_, _<_}
 use native.Mathlib.Omega.{arith}
-use lib.Dec.{eqb}
+use lib.Dec.{eqb, leb}
 use lib.ListN.{length, length-append}
-use borrow.Author.Tests.{eqb-true}
+use borrow.Author.Tests.{eqb-true, leb-true}
 use Rattle.refusal.specs.Choice.{pick}
 use Rattle.refusal.specs.Refusal.{Refusal, paused, blacklisted, invalidInput, notFound, alreadyExists, unauthorized, invalidTransition, offerExpired, allowanceShort, balanceShort, outOfRange, noRoom, journalMalformed, bufferShort, bookUnsound, number, Check, first}
 use Rattle.refusal.specs.Rule.{after}
@@ -15,6 +15,8 @@ use Rattle.command.specs.declared.Command.{Command}
 use Rattle.journal.specs.Answers.{Reading, found, refused, ended}
 use Rattle.journal.specs.Format.{openingOf, readAt}
 use Rattle.journal.specs.Ahead.{Goes, goes}
+use Rattle.sheet.specs.declared.Pen.{Pen}
+use Rattle.sheet.specs.Sheet.{Wrote, penAt}
 use Rattle.lines.specs.Lines.{answerLine, markLine, accountLines}
 use Rattle.lines.specs.LineSize.{answer-most, mark-most, accounts-most, totals-most}
 use Rattle.book.specs.Model.{Model, freshModel}
@@ -22,14 +24,20 @@ use Rattle.book.specs.Rules.{rule, commanded}
 use Rattle.soundness.specs.Sound.{ModelSound, fresh-model}
 use Rattle.soundness.specs.Keeps.{stays-sound}
 use Rattle.replay.specs.Replay.{answerTo, obeyed, atEnd, atHeader, halted, follow, replayBy, replayFrom, replayOf}
-use Rattle.replay.specs.Text.{bookText, textOf, listingOf}
+use Rattle.replay.specs.declared.Listed.the-variants.{Done}
+use Rattle.replay.specs.Text.{bookText, textOf, listingOf, listed, listedIn, shownIn}
 use Rattle.replay.specs.TextLaws.{text-heard, text-bad, text-bare, text-end}
 use Rattle.replay.specs.Ahead.{opened}
+use Rattle.replay.specs.Shown.{in-room}
 use Rattle.replay.specs.Records.{Low, KeepsLow, Weighs, weighs}
 
--- a line for a malformed record, 64 lines of accounts and one of totals; a record has 25 bytes at least, its line 24 at most
+-- a line for a malformed record, 64 lines of accounts and one of totals
+abbrev pub extra : ℕ
+extra = 45 + (64 * 113 + 70)
+
+-- a record has 25 bytes at least, and its line 24 at most
 unfoldable pub listingRoom : ℕ → ℕ
-listingRoom n = n + (45 + (64 * 113 + 70))
+listingRoom n = n + extra
 
 -- ── An answer has two digits at most ──────────────────────────────
 number-most : (n : Refusal) → number n < 100
@@ -111,6 +119,12 @@ module _ (s : List ℕ) (short : length s < 18446744073709551616) where
       go : (t : Bool) → eqb (openingOf s .0) 0 ≡ t → length (textOf 0 (pick t (replayBy (length s) s (openingOf s .1) freshModel) (halted atHeader freshModel))) ≤ listingRoom (length s)
       go true e = omega (arith, walk-most (length s) (openingOf s .1) 0 freshModel fresh-bounded (omega arith) (opened s (ap (λ (x : ℕ). (x, openingOf s .1)) (eqb-true (openingOf s .0) 0 e))))
       go false e = rw (text-bare freshModel, length-append (markLine 0 0)) (omega (arith, mark-most 0 0 (omega arith) (omega arith), book-most fresh-bounded))
+
+-- a buffer with the room for it, as the code tests that: k bytes, and past them as many as the journal has
+pub at-once : (s : List ℕ) {k : ℕ} {l n : List ℕ} {r : Pen} → Wrote true (listingOf s) l (penAt 0 false) n r → length s < 18446744073709551616 → k ≤ length l → leb (length s) (length l - k) ≡ true → extra ≤ k
+    → (listed (Done (r .at)) ≡ listedIn (listingOf s) l) × (n ≡ shownIn (listingOf s) l)
+unfolding listingRoom
+at-once s {k} {l} w h m e x = in-room (omega (arith, listing-most s h, leb-true (length s) (length l - k) e)) w
 
 -- a journal of 32,768 bytes has its listing in 40,960
 pub desk-room : (s : List ℕ) → length s ≤ 32768 → length (listingOf s) ≤ 40960
