@@ -7,3 +7,5 @@ pub mod Standing
 pub mod Playing
 pub mod Telling
 pub mod Shown
+pub mod Records
+pub mod Room

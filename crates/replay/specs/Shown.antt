@@ -23,14 +23,17 @@ no-space {t} {l} w h =
     let e : leb (length t) (length l) ≡ false = lt-leb (length t) (length l) (ltb-true (length l) (length t) (sym (dry w .1) ∙ h)) in
     (off _ e refl, off _ e (dry w .0))
 
-pub in-space : {t l m n : List ℕ} {q r : Pen} → Wrote false t l (penAt 0 false) m q → q .short ≡ false → Wrote true t m (penAt 0 false) n r
-    → (listed (Done (r .at)) ≡ listedIn t l) × (n ≡ shownIn t l)
+-- the text fits, and it was written at once
+pub in-room : {t l n : List ℕ} {r : Pen} → length t ≤ length l → Wrote true t l (penAt 0 false) n r → (listed (Done (r .at)) ≡ listedIn t l) × (n ≡ shownIn t l)
 unfolding listedIn shownIn
-in-space {t} {l} {m} {n} {q} {r} w h x =
-    let f : length t ≤ length l = ltb-false (length l) (length t) (sym (dry w .1) ∙ h) in
-    let y : Wrote true t l (penAt 0 false) n r = rw (dry w .0) at x in
+in-room {t} {l} {n} {r} f y =
     let e : leb (length t) (length l) ≡ true = le-leb (length t) (length l) f in
     (on _ e (ap (λ (k : ℕ). (0, k)) (wet f y .1)), on _ e (wet f y .0))
+
+-- or it was measured before
+pub in-space : {t l m n : List ℕ} {q r : Pen} → Wrote false t l (penAt 0 false) m q → q .short ≡ false → Wrote true t m (penAt 0 false) n r
+    → (listed (Done (r .at)) ≡ listedIn t l) × (n ≡ shownIn t l)
+in-space {t} {l} {m} {n} {q} {r} w h x = in-room (ltb-false (length l) (length t) (sym (dry w .1) ∙ h)) (rw (dry w .0) at x)
 
 -- the number and the count say which answer it is
 pub same-listed : (x y : Listed) → listed x ≡ listed y → x ≡ y

@@ -1,0 +1,142 @@
+-- What a record that is read is: 25 bytes at least, and a command that lets in no id past 64 bits. Assumes nothing.
+use mathlib.Core.Path.{_≡_, refl, sym, ap, _∙_}
+use mathlib.Core.Bool.{Bool, true, false, _&&_}
+use mathlib.Core.List.{List, [], _∷_}
+use Prim.Native.Nat.{ℕ, _+_, _*_, _≤_, _<_}
+use native.Mathlib.Omega.{arith}
+use lib.Dec.{eqb, leb}
+use lib.ListN.{length, getD, drop}
+use borrow.Author.Tests.{leb-true}
+use Rattle.refusal.specs.Choice.{pick}
+use Rattle.table.specs.Tables.{Table, adjust, insert, keys, Is, is-true, is-false, decide}
+use Rattle.table.specs.TableLaws.{keys-adjust}
+use Rattle.command.specs.declared.Command.{Command}
+use Rattle.wire.specs.Field.{begins}
+use Rattle.wire.specs.FieldLaws.{and-left, and-right}
+use Rattle.journal.specs.Answers.{Reading, found, refused, ended, malformed}
+use Rattle.journal.specs.Table.{Row, rows, topOf, named, fieldsIn, fieldsOf, madeIn, made}
+use Rattle.journal.specs.Format.{wellIn, numbersIn, zeros, gatheredIn, recordAt, readAt}
+use Rattle.journal.specs.ReadLaws.{all-tops}
+use Rattle.account.specs.declared.Account.{Account}
+use Rattle.account.specs.Account.{noAccount}
+use Rattle.sheet.specs.Size.{Small}
+use Rattle.book.specs.Model.{Model}
+use Rattle.book.specs.Rules.{settling, concluding, agreeing, rule}
+
+-- ── Ids below 2^64 ────────────────────────────────────────────────
+pub record Low (t : Table Account) : Type 0 where
+  pub ids : Small (keys t)
+
+same : {t : Table Account} → Low t → (i : ℕ) (f : Account → Account) → Low (adjust t i f)
+same {t} k i f = record { ids = rw (keys-adjust t i f) (k .ids) }
+
+small-insert : (t : Table Account) (i : ℕ) (r : Account) → i < 18446744073709551616 → Small (keys t) → Small (keys (insert t i r))
+unfolding insert keys
+small-insert [] i r h k = (h, tt)
+small-insert (e ∷ t) i r h k = go (decide (leb (e .0) i)) (small-insert t i r h (k .1))
+  where
+    go : Is (leb (e .0) i) → Small (keys (insert t i r)) → Small (keys (insert (e ∷ t) i r))
+    go (is-true l) g = rw l (k .0, g)
+    go (is-false l) g = rw l (h, k)
+
+settled : (m : Model) (now o : ℕ) → Low (m .accounts) → Low (settling now o m .done .accounts)
+unfolding settling
+settled m now o k = same (same (same k _ _) _ _) _ _
+
+agreed : (b : Bool) (m : Model) (now o : ℕ) → Low (m .accounts) → Low (agreeing b now o m .done .accounts)
+unfolding agreeing concluding pick
+agreed true m now o k = settled m now o k
+agreed false m now o k = k
+
+-- a command that keeps the accounts' ids so
+abbrev pub KeepsLow : Command → Type 0
+KeepsLow c = (m : Model) → Low (m .accounts) → Low (rule m c .done .accounts)
+
+-- ── The table's rows ──────────────────────────────────────────────
+-- v holds the numbers of the fields at the places of their tags, 02 the caller's
+abbrev Fair : Row → Type 0
+Fair r = (v : List ℕ) → getD v 0x02 0 < 18446744073709551616 → KeepsLow (r .make (named v))
+
+infixr 5 _▸_
+data Each : List Row → Type 0 where
+  none : Each []
+  _▸_ : {r : Row} {rs : List Row} → Fair r → Each rs → Each (r ∷ rs)
+
+all-fair : Each rows
+unfolding rule named
+all-fair =
+    (λ v h m k. record { ids = small-insert (m .accounts) (getD v 0x02 0) noAccount h (k .ids) })
+    ▸ (λ v h m k. same k _ _)
+    ▸ (λ v h m k. same k _ _)
+    ▸ (λ v h m k. same k _ _)
+    ▸ (λ v h m k. k)
+    ▸ (λ v h m k. k)
+    ▸ (λ v h m k. same k _ _)
+    ▸ (λ v h m k. k)
+    ▸ (λ v h m k. settled m (getD v 0x01 0) (getD v 0x03 0) k)
+    ▸ (λ v h m k. k)
+    ▸ (λ v h m k. agreed _ _ (getD v 0x01 0) (getD v 0x03 0) (same k _ _))
+    ▸ (λ v h m k. agreed _ _ (getD v 0x01 0) (getD v 0x03 0) k)
+    ▸ (λ v h m k. k)
+    ▸ (λ v h m k. k)
+    ▸ (λ v h m k. k)
+    ▸ (λ v h m k. k)
+    ▸ (λ v h m k. same k _ _)
+    ▸ (λ v h m k. k)
+    ▸ (λ v h m k. k)
+    ▸ (λ v h m k. k)
+    ▸ (λ v h m k. k)
+    ▸ (λ v h m k. k)
+    ▸ (λ v h m k. same k _ _)
+    ▸ (λ v h m k. k)
+    ▸ none
+
+-- each has two fields at least
+abbrev allTwo : List Row → Bool
+allTwo [] = true
+allTwo (r ∷ rs) = leb 2 (length (r .fields)) && allTwo rs
+
+-- ── What is read ──────────────────────────────────────────────────
+unfoldable pub Weighs : ℕ → Reading → Type 0
+Weighs at (found c next) = (at + 25 ≤ next) × KeepsLow c
+Weighs at (refused n p) = Unit
+Weighs at ended = Unit
+
+made-weighs : (rs : List Row) (t : ℕ) (v : List ℕ) (at next : ℕ) → Each rs → allTwo rs ≡ true → getD v 0x02 0 < 18446744073709551616
+    → (2 ≤ length (fieldsIn rs t) → at + 25 ≤ next) → Weighs at (madeIn rs t (named v) at next)
+unfolding madeIn fieldsIn Weighs pick
+made-weighs [] t v at next a e h w = tt
+made-weighs (r ∷ rs) t v at next (a ▸ l) e h w = go (eqb t (r .tag)) w (made-weighs rs t v at next l (and-right (leb 2 (length (r .fields))) (allTwo rs) e) h)
+  where
+    go : (b : Bool) → (2 ≤ length (pick b (r .fields) (fieldsIn rs t)) → at + 25 ≤ next) → ((2 ≤ length (fieldsIn rs t) → at + 25 ≤ next) → Weighs at (madeIn rs t (named v) at next))
+        → Weighs at (pick b (found (r .make (named v)) next) (madeIn rs t (named v) at next))
+    go true w i = (w (leb-true 2 (length (r .fields)) (and-left (leb 2 (length (r .fields))) (allTwo rs) e)), a v h)
+    go false w i = i w
+
+caller-low : (fs b : List ℕ) → wellIn fs b ≡ true → getD (numbersIn zeros fs b) 0x02 0 < 18446744073709551616
+unfolding topOf gatheredIn pick
+caller-low fs b e =
+    let l : true ≡ true → (k : ℕ) → getD (numbersIn zeros fs b) k 0 ≤ topOf k = rw e at (all-tops fs b) in
+    omega (arith, l refl 0x02)
+
+record-weighs : (t : ℕ) (b : List ℕ) (at : ℕ) → Weighs at (recordAt t (fieldsOf t) b at)
+unfolding recordAt made fieldsOf Weighs pick
+record-weighs t b at = go (begins t (11 * length fs) b && wellIn fs (drop 3 b)) refl
+  where
+    fs : List ℕ
+    fs = fieldsOf t
+
+    v : List ℕ
+    v = numbersIn zeros fs (drop 3 b)
+
+    go : (w : Bool) → begins t (11 * length fs) b && wellIn fs (drop 3 b) ≡ w → Weighs at (pick w (made t (named v) at (at + (3 + 11 * length fs))) (malformed at))
+    go true e = made-weighs rows t v at (at + (3 + 11 * length fs)) all-fair refl (caller-low fs (drop 3 b) (and-right (begins t (11 * length fs) b) _ e)) (λ h. omega arith)
+    go false e = tt
+
+pub weighs : (s : List ℕ) (at : ℕ) → Weighs at (readAt s at)
+unfolding readAt Weighs pick
+weighs s at = go (leb (length s) at)
+  where
+    go : (w : Bool) → Weighs at (pick w ended (recordAt (getD s at 0) (fieldsOf (getD s at 0)) (drop at s) at))
+    go true = tt
+    go false = record-weighs (getD s at 0) (drop at s) at
