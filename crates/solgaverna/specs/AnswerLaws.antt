@@ -4,7 +4,7 @@ use mathlib.Core.Bool.{Bool, true, false}
 use mathlib.Core.List.{List, [], _∷_}
 use Prim.Native.Nat.{ℕ, zero, suc, _-_}
 use native.Mathlib.Omega.{arith}
-use lib.Dec.{eqb, ltb}
+use lib.Dec.{eqb, leb, ltb}
 use lib.ListN.{length, getD, set}
 use borrow.Author.Tests.{ltb-false}
 use Rattle.refusal.specs.Choice.{pick, on, off}
@@ -12,8 +12,9 @@ use Rattle.refusal.specs.Refusal.{number, journalMalformed, bufferShort}
 use Rattle.lists.specs.Listing.{Reply}
 use Rattle.book.specs.declared.Book.{Book}
 use Rattle.replay.specs.declared.Outcome.{Outcome}
+use Rattle.text.specs.Answers as Text
 use Rattle.solgaverna.specs.declared.Four.{Four}
-use Rattle.solgaverna.specs.Answers.{minus, coded, left, ofBook, told, fourSays, fourOver}
+use Rattle.solgaverna.specs.Answers.{minus, coded, left, ofBook, told, fourSays, fourOver, faultOf}
 
 pub turned : (n : ℕ) → (n ≡ 0 → ⊥) → 18446744073709551615 - (n - 1) ≡ 18446744073709551616 - n
 turned zero h = absurd (h refl)
@@ -59,3 +60,19 @@ module _ (x : Four) (l : List ℕ) where
       → _≡_ {A = ℕ × List ℕ} (4, set (set (set (set l 0 (x .a)) 1 (x .b)) 2 (x .c)) 3 (x .d)) (fourOver (fourSays x) l)
   unfolding pick
   four-fits e h = four-set l (x .a) (x .b) (x .c) (x .d) h ∙ sym (ap (λ (r : Reply). fourOver r l) (says-by x true e))
+
+-- a faulty line
+fault-by : (t : Bool) (w : List ℕ) {k : ℕ} → _≡_ {A = ℕ × ℕ} (number journalMalformed, k) (pick t (0, length w) (number bufferShort, 0)) → ⊥
+unfolding pick
+fault-by true w e = let z = ap (λ (p : ℕ × ℕ). p .0) e in omega arith
+fault-by false w e = let z = ap (λ (p : ℕ × ℕ). p .0) e in omega arith
+
+pub fault : (o : Text.Outcome) (l : List ℕ) {k : ℕ} → _≡_ {A = ℕ × ℕ} (number journalMalformed, k) (Text.answerFor o l) → k ≡ faultOf o
+unfolding Text.answerFor faultOf
+fault (Text.whole w) l e = absurd (fault-by (leb (length w) (length l)) w e)
+fault (Text.faulty at) l e = ap (λ (p : ℕ × ℕ). p .1) e
+
+pub no-fault : (o : Text.Outcome) (l : List ℕ) {n k : ℕ} → (n ≡ number journalMalformed → ⊥) → _≡_ {A = ℕ × ℕ} (n, k) (Text.answerFor o l) → 0 ≡ faultOf o
+unfolding Text.answerFor faultOf
+no-fault (Text.whole w) l h e = refl
+no-fault (Text.faulty at) l h e = absurd (h (ap (λ (p : ℕ × ℕ). p .0) e))

@@ -12,6 +12,7 @@ use Rattle.book.specs.declared.Book.{Book}
 use Rattle.query.specs.Reads.{listed}
 use Rattle.replay.specs.declared.Outcome.{Outcome}
 use Rattle.replay.specs.Replay.{replayOf, outcomeOf}
+use Rattle.text.specs.Answers as Text
 use Rattle.solgaverna.specs.declared.Four.{Four}
 use Rattle.solgaverna.specs.declared.Asked.{Asked}
 use Rattle.solgaverna.specs.declared.Asked.the-variants.{For, Unlisted}
@@ -60,3 +61,13 @@ fourOver r l =
     pick (not (eqb (r .0) 0)) (minus (r .0), l)
     (pick (ltb (length l) 4) (minus (number bufferShort), l)
     (4, r .1 ++ drop 4 l))
+
+-- ── The journal of a text, and the text of a journal ──────────────
+-- how many bytes the other form is, for a buffer l
+abbrev pub written : Text.Outcome → List ℕ → ℕ
+written o l = coded (Text.answerFor o l .0) (Text.answerFor o l .1)
+
+-- the number of the first line that is no command, 0 where there is none
+unfoldable pub faultOf : Text.Outcome → ℕ
+faultOf (Text.whole w) = 0
+faultOf (Text.faulty at) = at

@@ -5,12 +5,16 @@ use lists::Wanted;
 use query::LenderAnswer;
 use query::TotalsAnswer;
 use replay::Listed;
+use text::Answer;
 ghost use mathlib.Core.Path.{_≡_};
 ghost use lib.ListN.{getD};
 ghost use Rattle.lists.specs.Listing.{listedSays};
 ghost use Rattle.query.specs.Reads.{asked, lenderRead, totalsRead};
 ghost use Rattle.replay.specs.Text.{listingOf, listedIn, shownIn};
-ghost use Rattle.solgaverna.specs.Answers.{minus, coded, ofBook, wantedOf, offersFor, noFour, fourSays, fourOver};
+ghost use Rattle.solgaverna.specs.Answers.{minus, coded, ofBook, wantedOf, offersFor, noFour, fourSays, fourOver, written, faultOf};
+ghost use Rattle.text.specs.Answers.{answered, leftFor};
+ghost use Rattle.text.specs.Text.{textOf};
+ghost use Rattle.text.specs.Journal.{journalOf};
 
 // Which offers are asked for, or that the number is not listed.
 pub enum Asked {
@@ -64,6 +68,48 @@ pub extern "C" fn solgaverna_listing(journal: &[u8], out: &mut [u8]) -> u64
     match r {
         Listed::Done(n) => { n as u64 }
         Listed::Short => { refused(refusal::BUFFER_SHORT) }
+    }
+}
+
+fn sized(r: Answer) -> u64
+    ensures { λ x. ⌜ x ≡ coded (answered r .0) (answered r .1) ⌝ }
+{
+    match r {
+        Answer::Done(n) => { n as u64 }
+        Answer::Malformed(_) => { refused(refusal::JOURNAL_MALFORMED) }
+        Answer::Short => { refused(refusal::BUFFER_SHORT) }
+    }
+}
+
+// The journal of a text: how many bytes it is.
+#[no_mangle]
+pub extern "C" fn solgaverna_journal(lines: &[u8], out: &mut [u8]) -> u64
+    ensures { λ r. ⌜ (r ≡ written (journalOf (now (lines .entry))) (now (out .entry))) × (now (out .exit) ≡ leftFor (journalOf (now (lines .entry))) (now (out .entry))) ⌝ }
+{
+    let r = text::to_journal(lines, out);
+    sized(r)
+}
+
+// The text of a journal: how many bytes it is.
+#[no_mangle]
+pub extern "C" fn solgaverna_text(journal: &[u8], out: &mut [u8]) -> u64
+    ensures { λ r. ⌜ (r ≡ written (textOf (now (journal .entry))) (now (out .entry))) × (now (out .exit) ≡ leftFor (textOf (now (journal .entry))) (now (out .entry))) ⌝ }
+{
+    let r = text::to_text(journal, out);
+    sized(r)
+}
+
+// The number of the first line of a text that is no command, 0 where there is none.
+#[no_mangle]
+pub extern "C" fn solgaverna_faulty_line(lines: &[u8]) -> u64
+    ensures { λ r. ⌜ r ≡ faultOf (journalOf (now (lines .entry))) ⌝ }
+{
+    let mut out: [u8; 1] = [0; 1];
+    let r = text::to_journal(lines, &mut out);
+    match r {
+        Answer::Done(_) => { 0 }
+        Answer::Malformed(k) => { k as u64 }
+        Answer::Short => { 0 }
     }
 }
 
