@@ -1,12 +1,11 @@
 -- How long the lines are: the numbers of a sound book and of a journal are below 2^64, an answer is below 100. Assumes nothing.
 use mathlib.Core.Path.{_≡_}
 use mathlib.Core.Bool.{true}
-use mathlib.Core.List.{List, [], _∷_, _++_}
-use Prim.Native.Nat.{ℕ, _+_, _*_, _≤_, _<_}
+use mathlib.Core.List.{List, [], _∷_}
+use Prim.Native.Nat.{ℕ, _*_, _≤_, _<_}
 use native.Mathlib.Omega.{arith}
 use lib.IntN.{ℤ}
 use lib.ListN.{length, length-append}
-use Rattle.refusal.specs.Refusal.{number, journalMalformed}
 use Rattle.money.specs.Range.{inTotal, magnitudeOf}
 use Rattle.money.specs.Facts.{total-le, magnitude-is}
 use Rattle.table.specs.Tables.{Table, keys}
@@ -17,7 +16,7 @@ use Rattle.account.specs.Laws.{sound-ranges}
 use Rattle.settings.specs.declared.Totals.{Totals}
 use Rattle.settings.specs.Totals.{totalsSound}
 use Rattle.settings.specs.Laws.{totals-ranges}
-use Rattle.sheet.specs.Decimal.{decimalOf, spaced, numbersOf}
+use Rattle.sheet.specs.Decimal.{spaced, numbersOf}
 use Rattle.sheet.specs.Size.{decimal-most, decimal-two, Small, numbers-most}
 use Rattle.lines.specs.Lines.{accountWord, totalsWord, answerLine, markLine, accountLine, accountLines, totalsLine}
 

@@ -1,13 +1,13 @@
 -- How long a listing can be: what each record takes in the journal holds its line. Assumes nothing.
-use mathlib.Core.Path.{_≡_, refl, ap}
+use mathlib.Core.Path.{_≡_, refl, ap, _∙_}
 use mathlib.Core.Bool.{Bool, true, false}
-use mathlib.Core.List.{List, [], _∷_, _++_}
+use mathlib.Core.List.{List, [], _∷_}
 use Prim.Native.Nat.{ℕ, zero, suc, _+_, _-_, _*_, _≤_, _<_}
 use native.Mathlib.Omega.{arith}
 use lib.Dec.{eqb, leb}
 use lib.ListN.{length, length-append}
-use borrow.Author.Tests.{eqb-true, leb-true}
-use Rattle.refusal.specs.Choice.{pick}
+use borrow.Author.Tests.{eqb-true, leb-true, le-leb}
+use Rattle.refusal.specs.Choice.{pick, pick-on}
 use Rattle.refusal.specs.Refusal.{Refusal, paused, blacklisted, invalidInput, notFound, alreadyExists, unauthorized, invalidTransition, offerExpired, allowanceShort, balanceShort, outOfRange, noRoom, journalMalformed, bufferShort, bookUnsound, number, Check, first}
 use Rattle.refusal.specs.Rule.{after}
 use Rattle.table.specs.Tables.{keys}
@@ -20,15 +20,16 @@ use Rattle.sheet.specs.Sheet.{Wrote, penAt}
 use Rattle.lines.specs.Lines.{answerLine, markLine, accountLines}
 use Rattle.lines.specs.LineSize.{answer-most, mark-most, accounts-most, totals-most}
 use Rattle.book.specs.Model.{Model, freshModel}
-use Rattle.book.specs.Rules.{rule, commanded}
+use Rattle.book.specs.Rules.{rule}
 use Rattle.soundness.specs.Sound.{ModelSound, fresh-model}
 use Rattle.soundness.specs.Keeps.{stays-sound}
-use Rattle.replay.specs.Replay.{answerTo, obeyed, atEnd, atHeader, halted, follow, replayBy, replayFrom, replayOf}
+use Rattle.replay.specs.Replay.{answerTo, obeyed, atHeader, halted, follow, replayBy, replayFrom, replayOf}
+use Rattle.replay.specs.declared.Listed.{Listed}
 use Rattle.replay.specs.declared.Listed.the-variants.{Done}
 use Rattle.replay.specs.Text.{bookText, textOf, listingOf, listed, listedIn, shownIn}
 use Rattle.replay.specs.TextLaws.{text-heard, text-bad, text-bare, text-end}
 use Rattle.replay.specs.Ahead.{opened}
-use Rattle.replay.specs.Shown.{in-room}
+use Rattle.replay.specs.Shown.{in-room, same-listed}
 use Rattle.replay.specs.Records.{Low, KeepsLow, Weighs, weighs}
 
 -- a line for a malformed record, 64 lines of accounts and one of totals
@@ -126,7 +127,16 @@ pub at-once : (s : List ℕ) {k : ℕ} {l n : List ℕ} {r : Pen} → Wrote true
 unfolding listingRoom
 at-once s {k} {l} w h m e x = in-room (omega (arith, listing-most s h, leb-true (length s) (length l - k) e)) w
 
--- a journal of 32,768 bytes has its listing in 40,960
+-- ── A journal of 32,768 bytes has its listing in 40,960 ───────────
 pub desk-room : (s : List ℕ) → length s ≤ 32768 → length (listingOf s) ≤ 40960
 unfolding listingRoom
 desk-room s h = omega (arith, listing-most s (omega arith))
+
+pub desk-most : {k : ℕ} (s : List ℕ) → k ≡ length (listingOf s) → length s ≤ 32768 → k ≤ 40960
+desk-most s e h = omega (arith, desk-room s h)
+
+-- so `listing` is never short there
+pub never-short : (s l : List ℕ) {x : Listed} → length s ≤ 32768 → length l ≡ 40960 → listed x ≡ listedIn (listingOf s) l → x ≡ Done (length (listingOf s))
+unfolding listedIn
+never-short s l {x} h e p =
+    same-listed x (Done (length (listingOf s))) (p ∙ pick-on _ _ (le-leb (length (listingOf s)) (length l) (omega (arith, desk-room s h))))

@@ -1,15 +1,13 @@
 -- The two ends of `listing`, and that any two results that its contract allows are one. Assumes nothing.
 use mathlib.Core.Path.{_≡_, refl, sym, ap, _∙_}
-use mathlib.Core.Bool.{Bool, true, false}
-use mathlib.Core.List.{List, _++_}
+use mathlib.Core.Bool.{true, false}
+use mathlib.Core.List.{List}
 use Prim.Native.Nat.{ℕ, _≤_}
 use native.Mathlib.Omega.{arith}
 use lib.Dec.{leb, ltb}
-use lib.ListN.{length, take, drop, length-append}
-use lib.Seq.{length-take-le}
+use lib.ListN.{length}
 use borrow.Author.Tests.{lt-leb, le-leb, ltb-true, ltb-false}
-use Rattle.refusal.specs.Choice.{pick, on, off}
-use Rattle.refusal.specs.Refusal.{number, bufferShort}
+use Rattle.refusal.specs.Choice.{on, off}
 use Rattle.sheet.specs.declared.Pen.{Pen}
 use Rattle.sheet.specs.Sheet.{Wrote, penAt}
 use Rattle.sheet.specs.Laid.{dry, wet}
@@ -44,15 +42,3 @@ same-listed Short Short e = refl
 
 pub one-listing : (t l : List ℕ) {m n : List ℕ} {x y : Listed} → (listed x ≡ listedIn t l) × (m ≡ shownIn t l) → (listed y ≡ listedIn t l) × (n ≡ shownIn t l) → (x ≡ y) × (m ≡ n)
 one-listing t l {x = x} {y = y} p q = (same-listed x y (p .0 ∙ sym (q .0)), p .1 ∙ sym (q .1))
-
--- an answer's count lies within the buffer
-within-by : (b : Bool) (k : ℕ) (t l : List ℕ) → leb (length t) (length l) ≡ b → _≡_ {A = ℕ × ℕ} (0, k) (pick b (0, length t) (number bufferShort, 0)) → k ≤ length (pick b (t ++ drop (length t) l) l)
-unfolding pick
-within-by true k t l e h = let z : k ≡ length t = ap (λ (p : ℕ × ℕ). p .1) h in rw length-append (omega arith)
-within-by false k t l e h = let z = ap (λ (p : ℕ × ℕ). p .0) h in absurd (omega arith)
-
-pub within : {k : ℕ} {d : Listed} {m : List ℕ} (t l : List ℕ) → (listed d ≡ listedIn t l) × (m ≡ shownIn t l) → d ≡ Done k → (k ≤ length m) × (k ≡ length (take k m))
-unfolding listedIn shownIn
-within {k} {d} {m} t l h e =
-    let z : k ≤ length m = rw (h .1) (within-by (leb (length t) (length l)) k t l refl (ap listed (sym e) ∙ h .0)) in
-    (z, sym (length-take-le k m z))
