@@ -20,4 +20,6 @@ pub mod Trip
 pub mod Canonical
 pub mod LineWay
 pub mod RecordWay
+pub mod NumberBack
+pub mod LineBack
 pub mod RoundTrip

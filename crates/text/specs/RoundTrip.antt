@@ -1,24 +1,30 @@
 -- The two translations undo each other. Assumes nothing.
 use mathlib.Core.Path.{_≡_, refl, sym, ap, _∙_}
-use mathlib.Core.Bool.{Bool, true, false}
+use mathlib.Core.Bool.{Bool, true, false, _&&_}
 use mathlib.Core.List.{List, [], _∷_, _++_}
 use Prim.Native.Nat.{ℕ, _+_, _≤_, _<_}
 use native.Mathlib.Omega.{arith}
 use lib.ListN.{length, take, drop}
+use lib.Dec.{eqb}
 use Rattle.refusal.specs.Choice.{pick, pick-on, pick-off}
-use Rattle.wire.specs.Field.{bytesOf, headOf, fieldOf}
+use Rattle.refusal.specs.Refusal.{number, journalMalformed}
+use Rattle.wire.specs.Field.{bytesOf, headOf, fieldOf, begins, numberAt}
+use Rattle.wire.specs.NumberLaws.{Bytes}
 use Rattle.journal.specs.Format.{headerOf, openingOf, readAt}
 use Rattle.journal.specs.RoundTrip.{header-back}
+use Rattle.journal.specs.Canonical.{header-canonical}
 use Rattle.text.specs.Line.{lineOf}
-use Rattle.text.specs.Walk.{Walk, walkBy, allOf}
+use Rattle.text.specs.Walk.{Walk, halted, walkBy, allOf}
 use Rattle.text.specs.Reading.{lineAt}
 use Rattle.text.specs.Answers.{Outcome, whole, faulty}
 use Rattle.text.specs.Text.{itemOf, recordsFrom, recordsOf, linesOf, textOf}
 use Rattle.text.specs.TextLaws.{records-headed, text-whole}
 use Rattle.text.specs.Journal.{linesIn, recordFor, bytesFrom, faultLine, journalOf}
-use Rattle.text.specs.Trip.{AllGood, read-written, written-read}
+use Rattle.text.specs.Trip.{AllGood, take-drop, read-written, written-read}
 use Rattle.text.specs.LineWay.{Good, line-reads}
-use Rattle.text.specs.RecordWay.{record-writes}
+use Rattle.text.specs.RecordWay.{record-reads, record-writes}
+use Rattle.text.specs.LineBack.{line-writes}
+use Rattle.text.specs.JournalLaws.{journal-whole}
 
 -- an outcome that is whole
 abbrev isWhole : Outcome → Bool
@@ -56,3 +62,36 @@ text-again t s q =
     let h = header-read (linesIn t .items) (w .good) in
     let e : s ≡ headerOf ++ allOf recordFor (linesIn t .items) = sym (j .1) in
     rw e (text-whole (headerOf ++ allOf recordFor (linesIn t .items)) (h .0) ∙ ap (λ (xs : List (ℕ × List ℕ)). whole (allOf lineOf xs)) (h .1) ∙ ap whole (sym (w .is)))
+
+-- a journal without a fault has its header
+opening-by : (b : Bool) → eqb (pick {A = ℕ × ℕ} b (0, 5) (number journalMalformed, 0) .0) 0 ≡ true → b ≡ true
+unfolding pick
+opening-by true e = refl
+opening-by false e = e
+
+opening-is : (s : List ℕ) → eqb (openingOf s .0) 0 ≡ true → openingOf s ≡ (0, 5)
+unfolding openingOf
+opening-is s e = pick-on _ _ (opening-by (begins 0x10 2 s && eqb (numberAt 2 (drop 3 s)) 1) e)
+
+opened-by : (b : Bool) (w : Walk) → pick b w (halted true 0) .bad ≡ false → b ≡ true
+unfolding pick
+opened-by true w e = refl
+opened-by false w e = sym e
+
+opened : (s : List ℕ) → recordsOf s .bad ≡ false → openingOf s ≡ (0, 5)
+unfolding recordsOf
+opened s e = opening-is s (opened-by (eqb (openingOf s .0) 0) (recordsFrom s (openingOf s .1)) e)
+
+-- THE JOURNAL OF THE TEXT OF A JOURNAL IS THAT JOURNAL
+pub journal-again : (s t : List ℕ) → Bytes s → textOf s ≡ whole t → journalOf t ≡ whole s
+unfolding textOf linesOf linesIn bytesFrom recordsFrom
+journal-again s t k q =
+    let j = sound (recordsOf s .bad) (recordsOf s .at) (linesOf (recordsOf s)) t q in
+    let o = opened s (j .0) in
+    let f : recordsFrom s 5 ≡ recordsOf s = records-headed s o in
+    let w = read-written record-reads s 5 k (ap (λ (v : Walk). v .bad) f ∙ j .0) in
+    let xs = recordsFrom s 5 .items in
+    let i : allOf lineOf xs ≡ t = ap (λ (v : Walk). allOf lineOf (v .items)) f ∙ j .1 in
+    let r = written-read line-writes [] xs (w .good) in
+    let b : s ≡ headerOf ++ allOf recordFor xs = sym (take-drop 5 s) ∙ ap (λ (l : List ℕ). l ++ drop 5 s) (header-canonical s k o) ∙ ap (λ (l : List ℕ). headerOf ++ l) (w .is) in
+    rw (← i) (journal-whole (allOf lineOf xs) (r .0) ∙ ap (λ (ys : List (ℕ × List ℕ)). whole (headerOf ++ allOf recordFor ys)) (r .1) ∙ ap whole (sym b))

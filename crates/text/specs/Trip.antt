@@ -32,7 +32,7 @@ abbrev pub AllGood : (ℕ × List ℕ → Type 0) → List (ℕ × List ℕ) →
 AllGood Good [] = Unit
 AllGood Good (x ∷ xs) = Good x × AllGood Good xs
 
-take-drop : (n : ℕ) (l : List ℕ) → take n l ++ drop n l ≡ l
+pub take-drop : (n : ℕ) (l : List ℕ) → take n l ++ drop n l ≡ l
 take-drop zero l = refl
 take-drop (suc n) [] = refl
 take-drop (suc n) (x ∷ l) = ap (λ (m : List ℕ). x ∷ m) (take-drop n l)
