@@ -16,3 +16,10 @@ pub mod TextLaws
 pub mod Journal
 pub mod JournalLaws
 pub mod RecordLaws
+pub mod Trip
+pub mod Canonical
+pub mod LineWay
+pub mod RecordWay
+pub mod NumberBack
+pub mod LineBack
+pub mod RoundTrip

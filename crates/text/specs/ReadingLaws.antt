@@ -66,19 +66,24 @@ unfolding tagBy
 tag-on t k h e = let n : 87 - k ≡ suc (87 - (k + 1)) = omega arith in rw n (pick-off _ _ e)
 
 -- the name of the tag that is found stands there
-pick-leads : (b : Bool) (k m : ℕ) (t : List ℕ) → (b ≡ true → leads (wordOf k) t ≡ true) → (0 < m → leads (wordOf m) t ≡ true) → 0 < pick b k m → leads (wordOf (pick b k m)) t ≡ true
+pick-named : (b : Bool) (k m : ℕ) (t : List ℕ) → (b ≡ true → isNamed k t ≡ true) → (0 < m → isNamed m t ≡ true) → 0 < pick b k m → isNamed (pick b k m) t ≡ true
 unfolding pick
-pick-leads true k m t f g h = f refl
-pick-leads false k m t f g h = g h
+pick-named true k m t f g h = f refl
+pick-named false k m t f g h = g h
 
-leads-by : (n k : ℕ) (t : List ℕ) → 0 < tagBy n k t → leads (wordOf (tagBy n k t)) t ≡ true
-unfolding tagBy isNamed
-leads-by zero k t h = absurd (omega arith)
-leads-by (suc n) k t h = pick-leads (isNamed k t) k (tagBy n (k + 1) t) t (λ e. and-right (ltb 0 (length (wordOf k))) _ e) (λ z. leads-by n (k + 1) t z) h
+named-by : (n k : ℕ) (t : List ℕ) → 0 < tagBy n k t → isNamed (tagBy n k t) t ≡ true
+unfolding tagBy
+named-by zero k t h = absurd (omega arith)
+named-by (suc n) k t h = pick-named (isNamed k t) k (tagBy n (k + 1) t) t (λ e. e) (λ z. named-by n (k + 1) t z) h
+
+pub tag-named : (t : List ℕ) → 0 < tagIn t → (0 < length (wordOf (tagIn t))) × (leads (wordOf (tagIn t)) t ≡ true)
+unfolding tagIn isNamed
+tag-named t h =
+    let e = named-by 54 33 t h in
+    (ltb-true 0 (length (wordOf (tagIn t))) (and-left _ (leads (wordOf (tagIn t)) t) e), and-right (ltb 0 (length (wordOf (tagIn t)))) _ e)
 
 pub tag-leads : (t : List ℕ) → 0 < tagIn t → leads (wordOf (tagIn t)) t ≡ true
-unfolding tagIn
-tag-leads t h = leads-by 54 33 t h
+tag-leads t h = tag-named t h .1
 
 pub leads-room : (w t : List ℕ) → leads w t ≡ true → length w ≤ length t
 unfolding leads

@@ -1,0 +1,144 @@
+-- A line that is written is read back. Assumes nothing.
+use mathlib.Core.Path.{_≡_, refl, sym, ap, _∙_}
+use mathlib.Core.Bool.{Bool, true, false, _&&_}
+use mathlib.Core.List.{List, [], _∷_, _++_, append-assoc}
+use Prim.Native.Nat.{ℕ, zero, suc, _+_, _≤_, _<_}
+use native.Mathlib.Omega.{arith}
+use lib.ListN.{length, getD, drop, length-append}
+use lib.Seq.{drop-append-seam, getD-append-seam, getD-append-add}
+use lib.Dec.{eqb}
+use borrow.Author.Tests.{eqb-true}
+use Rattle.refusal.specs.Choice.{pick, pick-on}
+use Rattle.sheet.specs.Decimal.{space, newline}
+use Rattle.journal.specs.Table.{topOf, fieldsOf}
+use Rattle.journal.specs.HeldLaws.{Tops}
+use Rattle.text.specs.Names.{Name, names, wordIn, wordOf}
+use Rattle.text.specs.Line.{numeralOf, numeralsOf, lineOf}
+use Rattle.text.specs.Walk.{Item, item}
+use Rattle.text.specs.Reading.{leads, isNamed, tagBy, tagIn, isDigit, numeral, Read, unread, joined, spacedIn, readIn, lineIn, lineAt}
+use Rattle.text.specs.LineReads.{numbersThere, lined}
+use Rattle.text.specs.JournalLaws.{onward, at-line, at-end}
+use Rattle.text.specs.NumberBack.{Stop, numeral-back}
+use Rattle.text.specs.Trip.{Writes}
+use Rattle.text.specs.LineWay.{Good}
+
+-- ---- the numbers
+
+abbrev all-read : List ℕ → ℕ → Read
+all-read xs n = record { ok = true; values = xs; size = n }
+
+spaced-back : (f x : ℕ) (z : List ℕ) → x ≤ topOf f → Stop z → spacedIn f ((space ++ numeralOf f x) ++ z) ≡ numeral x (length (numeralOf f x))
+unfolding spacedIn pick
+spaced-back f x z h s = numeral-back f x z h s
+
+-- what follows a number begins with a space or ends the line
+stop-next : (fs xs r : List ℕ) → Stop (numeralsOf fs xs ++ (10 ∷ r))
+unfolding numeralsOf
+stop-next [] xs r = refl
+stop-next (f ∷ fs) xs r = refl
+
+past-spaced : (f x : ℕ) (z : List ℕ) → drop (length (numeralOf f x) + 1) ((space ++ numeralOf f x) ++ z) ≡ z
+past-spaced f x z =
+    let l : length (numeralOf f x) + 1 ≡ length (space ++ numeralOf f x) = omega arith in
+    ap (λ (n : ℕ). drop n ((space ++ numeralOf f x) ++ z)) l ∙ drop-append-seam (space ++ numeralOf f x) z
+
+read-back : (fs xs r : List ℕ) → Tops fs xs → readIn fs (numeralsOf fs xs ++ (10 ∷ r)) ≡ all-read xs (length (numeralsOf fs xs))
+unfolding readIn numeralsOf
+read-back [] [] r h = refl
+read-back [] (x ∷ xs) r h = absurd h
+read-back (f ∷ fs) [] r h = absurd h
+read-back (f ∷ fs) (x ∷ xs) r h =
+    let w = space ++ numeralOf f x in
+    let z = numeralsOf fs xs ++ (10 ∷ r) in
+    let a : spacedIn f (w ++ z) ≡ numeral x (length (numeralOf f x)) = spaced-back f x z (h .0) (stop-next fs xs r) in
+    let i = read-back fs xs r (h .1) in
+    let n : length (numeralOf f x) + 1 + length (numeralsOf fs xs) ≡ length (w ++ numeralsOf fs xs) = omega (arith, length-append w (numeralsOf fs xs)) in
+    rw (append-assoc w (numeralsOf fs xs) (10 ∷ r), a, past-spaced f x z, i) (pick-on _ _ refl ∙ ap (λ (k : ℕ). all-read (x ∷ xs) k) n)
+
+-- ---- the name
+
+abbrev Found : ℕ → Type 0
+Found t = (r : List ℕ) → tagIn (wordOf t ++ r) ≡ t
+
+abbrev Each : List Name → Type 0
+Each [] = Unit
+Each (n ∷ ns) = Found (n .tag) × Each ns
+
+infixr 5 _▸_
+abbrev _▸_ : {A B : Type 0} → A → B → A × B
+a ▸ b = (a, b)
+
+-- no name begins another
+all-found : Each names
+unfolding tagIn tagBy isNamed leads wordOf wordIn pick
+all-found =
+    (λ r. refl)
+    ▸ (λ r. refl)
+    ▸ (λ r. refl)
+    ▸ (λ r. refl)
+    ▸ (λ r. refl)
+    ▸ (λ r. refl)
+    ▸ (λ r. refl)
+    ▸ (λ r. refl)
+    ▸ (λ r. refl)
+    ▸ (λ r. refl)
+    ▸ (λ r. refl)
+    ▸ (λ r. refl)
+    ▸ (λ r. refl)
+    ▸ (λ r. refl)
+    ▸ (λ r. refl)
+    ▸ (λ r. refl)
+    ▸ (λ r. refl)
+    ▸ (λ r. refl)
+    ▸ (λ r. refl)
+    ▸ (λ r. refl)
+    ▸ (λ r. refl)
+    ▸ (λ r. refl)
+    ▸ (λ r. refl)
+    ▸ (λ r. refl)
+    ▸ tt
+
+found-in : (ns : List Name) (t : ℕ) → Each ns → 0 < length (wordIn ns t) → Found t
+unfolding wordIn pick
+found-in [] t a h = absurd (omega arith)
+found-in (n ∷ ns) t a h = go (eqb t (n .tag)) refl (λ k. found-in ns t (a .1) k) h
+  where
+    go : (b : Bool) → eqb t (n .tag) ≡ b → (0 < length (wordIn ns t) → Found t) → 0 < length (pick b (n .word) (wordIn ns t)) → Found t
+    go true e i k = rw (eqb-true t (n .tag) e) (a .0)
+    go false e i k = i k
+
+found : (t : ℕ) → 0 < length (wordOf t) → Found t
+unfolding wordOf
+found t h = found-in names t all-found h
+
+-- no name belongs to the tag 0
+zero-nameless : length (wordOf 0) ≡ 0
+unfolding wordOf wordIn pick
+zero-nameless = refl
+
+-- ---- the line
+
+line-in : (t : ℕ) (xs r : List ℕ) (at : ℕ) → Good (t, xs) → lineIn (wordOf t ++ (numeralsOf (fieldsOf t) xs ++ (10 ∷ r))) at ≡ item (t, xs) (at + (length (wordOf t) + length (numeralsOf (fieldsOf t) xs) + 1))
+line-in t xs r at g =
+    let w = wordOf t in
+    let m = numeralsOf (fieldsOf t) xs in
+    let u = w ++ (m ++ (10 ∷ r)) in
+    let e : t ≡ tagIn u = sym (found t (g .0) (m ++ (10 ∷ r))) in
+    let n : numbersThere u at e ≡ all-read xs (length m) = ap (readIn (fieldsOf t)) (drop-append-seam w (m ++ (10 ∷ r))) ∙ read-back (fieldsOf t) xs r (g .1) in
+    let z : getD u (length w + length m) 0 ≡ 10 = getD-append-add w (m ++ (10 ∷ r)) (length m) 0 ∙ getD-append-seam m 10 r 0 in
+    let q = lined u at e (λ k. omega (arith, ap (λ (j : ℕ). length (wordOf j)) k, zero-nameless, g .0)) (ap (λ (y : Read). y .ok) n) (ap (λ (y : Read). getD u (length w + y .size) 0) n ∙ z) in
+    sym q ∙ ap (λ (y : Read). item (t, y .values) (at + (length w + y .size + 1))) n
+
+line-back : (x : ℕ × List ℕ) (p r : List ℕ) → Good x → lineAt (p ++ (lineOf x ++ r)) (length p) ≡ item x (length p + length (lineOf x))
+unfolding lineOf
+line-back x p r g =
+    let w = wordOf (x .0) in
+    let m = numeralsOf (fieldsOf (x .0)) (x .1) in
+    let s = p ++ (lineOf x ++ r) in
+    let u : lineOf x ++ r ≡ w ++ (m ++ (10 ∷ r)) = append-assoc w (m ++ newline) r ∙ ap (λ (l : List ℕ). w ++ l) (append-assoc m newline r) in
+    let l : length (lineOf x) ≡ length w + length m + 1 = length-append w (m ++ newline) ∙ omega (arith, length-append m newline) in
+    let h : length p < length s = omega (arith, length-append p (lineOf x ++ r), length-append (lineOf x) r) in
+    at-line s (length p) h ∙ ap (λ (t : List ℕ). lineIn t (length p)) (drop-append-seam p (lineOf x ++ r) ∙ u) ∙ line-in (x .0) (x .1) r (length p) g ∙ ap (λ (n : ℕ). item x (length p + n)) (sym l)
+
+pub line-writes : Writes lineOf lineAt Good
+line-writes = record { ahead = onward; back = line-back; over = at-end }
