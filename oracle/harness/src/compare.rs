@@ -12,9 +12,11 @@ use crate::generate::{Generator, Plan};
 use crate::given::given;
 use crate::pair::{Pair, Start};
 use crate::shrink::{shrink, Failure};
+use crate::vectors::samples;
 
 #[derive(Default)]
 pub struct Report {
+    pub samples: u64,
     pub commands: u64,
     pub books: u64,
     pub given_books: u64,
@@ -36,7 +38,7 @@ pub enum Found {
 pub fn compare(other: &mut dyn Side, seed: u64, commands: u64) -> (Report, Option<Found>) {
     let began = Instant::now();
     let mut report = Report::default();
-    let mut found = None;
+    let mut found = compare_samples(other, &mut report);
     while found.is_none() && report.commands < commands {
         let mut chance = Chance::new(seed.wrapping_mul(0x9E37_79B9).wrapping_add(report.books));
         let mut chance = Chance::new(chance.number());
@@ -46,6 +48,17 @@ pub fn compare(other: &mut dyn Side, seed: u64, commands: u64) -> (Report, Optio
     }
     report.time = began.elapsed();
     (report, found)
+}
+
+/// The listings of the fixed sample, the longest journal that the program holds among them.
+fn compare_samples(other: &mut dyn Side, report: &mut Report) -> Option<Found> {
+    for sample in samples() {
+        report.samples += 1;
+        if let Some((one, two)) = listings_differ(other, &sample.bytes) {
+            return Some(Found::Bytes(sample.bytes, one, two));
+        }
+    }
+    None
 }
 
 fn compare_book(
