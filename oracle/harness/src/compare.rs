@@ -1,4 +1,5 @@
-//! A bounded comparison: books of generated commands, then damaged journals of the same.
+//! A bounded comparison: books of generated commands, then damaged journals of the same, and the
+//! fixed sample.
 
 use std::time::{Duration, Instant};
 
@@ -38,7 +39,7 @@ pub enum Found {
 pub fn compare(other: &mut dyn Side, seed: u64, commands: u64) -> (Report, Option<Found>) {
     let began = Instant::now();
     let mut report = Report::default();
-    let mut found = compare_samples(other, &mut report);
+    let mut found = None;
     while found.is_none() && report.commands < commands {
         let mut chance = Chance::new(seed.wrapping_mul(0x9E37_79B9).wrapping_add(report.books));
         let mut chance = Chance::new(chance.number());
@@ -46,6 +47,7 @@ pub fn compare(other: &mut dyn Side, seed: u64, commands: u64) -> (Report, Optio
         found = compare_book(other, &mut chance, most, &mut report);
         report.books += 1;
     }
+    let found = found.or_else(|| compare_samples(other, &mut report));
     report.time = began.elapsed();
     (report, found)
 }
