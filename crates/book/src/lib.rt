@@ -589,6 +589,23 @@ impl Book {
         self.settle(now, id)
     }
 
+    // Agreement, where mid is the book with the round. A refusal here undoes the round too.
+    fn agree(self, mid: Book, now: u64, id: u64) -> Step
+        requires { ⌜ Shelved self × Shelved mid ⌝ }
+        ensures { λ r. ⌜ r ≡ answered stepOf (modelOf self) (concluding now id (modelOf mid)) ⌝ }
+    {
+        let before = self;
+        let c = mid.conclude(now, id);
+        let n = c.answer;
+        if !(n == 0) {
+            return Step {
+                answer: n,
+                book: before,
+            };
+        }
+        c
+    }
+
     // The book with the lender's round, its offered total moved.
     fn with_amendment(mut self, now: u64, caller: u64, id: u64, row: Account, t: Terms) -> Book
         requires { ⌜ Shelved self ⌝ }
@@ -660,15 +677,7 @@ impl Book {
                 book: mid,
             };
         }
-        let c = mid.conclude(now, id);
-        let k = c.answer;
-        if !(k == 0) {
-            return Step {
-                answer: k,
-                book: self,
-            };
-        }
-        c
+        self.agree(mid, now, id)
     }
 
     fn countered(self, now: u64, caller: u64, id: u64, t: Terms, round: u32) -> Step
@@ -700,15 +709,7 @@ impl Book {
                 book: mid,
             };
         }
-        let c = mid.conclude(now, id);
-        let k = c.answer;
-        if !(k == 0) {
-            return Step {
-                answer: k,
-                book: self,
-            };
-        }
-        c
+        self.agree(mid, now, id)
     }
 
     // What stands before every command: 1 for a paused book, 4 for a caller without an account.

@@ -11,6 +11,7 @@ use Rattle.refusal.specs.Rule.{after}
 use Rattle.command.specs.declared.Command.{Command}
 use Rattle.book.specs.Model.{Model}
 use Rattle.book.specs.Rules.{commanded}
+use Rattle.soundness.specs.Played.{played}
 use Rattle.history.specs.Passed.{Passes, all-pass}
 
 pub record Run : Type 0 where
@@ -43,11 +44,7 @@ go-after r c = by (eqb (answerOf (r .model) c) 0)
     by true = refl
     by false = refl
 
--- the book after any commands, whatever the history
-unfoldable pub played : Model → List Command → Model
-played m [] = m
-played m (c ∷ cs) = played (after m (commanded m c)) cs
-
+-- and after any commands
 pub run-played : (r : Run) (cs : List Command) → run r cs .model ≡ played (r .model) cs
 unfolding run played
 run-played r [] = refl

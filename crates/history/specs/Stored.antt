@@ -8,9 +8,10 @@ use Rattle.command.specs.declared.Command.{Command}
 use Rattle.book.specs.Model.{Model, freshModel}
 use Rattle.book.specs.Stored.{modelOf, stored}
 use Rattle.book.specs.declared.Book.{Book}
+use Rattle.soundness.specs.Played.{played}
 use Rattle.history.specs.Figures.{tally}
 use Rattle.history.specs.Ledger.{balanceOf, offeredOf, acceptedOf}
-use Rattle.history.specs.Run.{from, played, run-played}
+use Rattle.history.specs.Run.{from, run-played}
 use Rattle.history.specs.Demand.{Meets, holds, demand-3}
 
 -- they are figures of the accounts and of the totals alone

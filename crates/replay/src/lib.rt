@@ -41,7 +41,7 @@ pub fn replay(s: &[u8]) -> Outcome
     let mut at = first;
     let mut k: usize = 0;
     loop {
-        let d = journal::decode(s, at);
+        let d = reader::read(s, at);
         match d {
             Decoded::Command(c, next) => {
                 let t = book.obey(c);
@@ -98,7 +98,7 @@ fn tell(s: &[u8], out: &mut [u8], ink: bool) -> Pen
     let mut at = first;
     let mut k: usize = 0;
     loop {
-        let d = journal::decode(s, at);
+        let d = reader::read(s, at);
         match d {
             Decoded::Command(c, next) => {
                 let t = book.obey(c);

@@ -5,7 +5,7 @@ use mathlib.Core.Bool.{Bool, true, false, _&&_}
 use mathlib.Core.List.{List, [], _∷_}
 use Rattle.refusal.specs.Choice.{pick, pick-on}
 use Rattle.refusal.specs.Refusal.{first}
-use Rattle.refusal.specs.Rule.{after, answered}
+use Rattle.refusal.specs.Rule.{answered}
 use Rattle.table.specs.Sound.{All}
 use Rattle.account.specs.Account.{accountSound}
 use Rattle.invoice.specs.Invoice.{invoiceSound}
@@ -25,6 +25,7 @@ use Rattle.book.specs.Shelving.{fits-of}
 use Rattle.book.specs.Tested.{tests-of, shelved-of}
 use Rattle.soundness.specs.Sound.{ModelSound, fresh-model}
 use Rattle.soundness.specs.Keeps.{stays-sound}
+use Rattle.soundness.specs.Played.{played}
 
 -- what the types of a book's arrays say
 pub record Typed (b : Book) : Type 0 where
@@ -66,17 +67,13 @@ sound-kept b c y e =
     ∙ book-sound (stays-sound (model-sound b y e) c)
 
 -- ── Any commands from a fresh book ────────────────────────────────
-unfoldable pub run : Model → List Command → Model
-run m [] = m
-run m (c ∷ cs) = run (after m (commanded m c)) cs
-
-pub run-sound : {m : Model} → ModelSound m → (cs : List Command) → ModelSound (run m cs)
-unfolding run
-run-sound s [] = s
-run-sound s (c ∷ cs) = run-sound (stays-sound s c) cs
+pub played-sound : {m : Model} → ModelSound m → (cs : List Command) → ModelSound (played m cs)
+unfolding played
+played-sound s [] = s
+played-sound s (c ∷ cs) = played-sound (stays-sound s c) cs
 
 -- so refusal 15 never occurs: each command is answered by its rule
 pub never-unsound : {m : Model} → ModelSound m → (cs : List Command) (c : Command)
-    → answers (stored (run m cs)) c ≡ answered stepOf (modelOf (stored (run m cs))) (commanded (modelOf (stored (run m cs))) c)
+    → answers (stored (played m cs)) c ≡ answered stepOf (modelOf (stored (played m cs))) (commanded (modelOf (stored (played m cs))) c)
 unfolding answers
-never-unsound s cs c = pick-on _ _ (book-sound (run-sound s cs))
+never-unsound s cs c = pick-on _ _ (book-sound (played-sound s cs))

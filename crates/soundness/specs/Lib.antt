@@ -2,4 +2,5 @@ pub mod Sound
 pub mod Parts
 pub mod Keeps
 pub mod Session
+pub mod Played
 pub mod Books

@@ -13,7 +13,7 @@ use Rattle.replay.proofs.replay.Reads as reads
 use Rattle.replay.proofs.replay.Lts as lts
 use Rattle.book.proofs.Book.fresh.Reads as fresh-reads
 use Rattle.book.proofs.Book.obey.Reads as obey-reads
-use Rattle.journal.proofs.decode.Reads as decode-reads
+use Rattle.reader.proofs.read.Reads as read-reads
 use Rattle.journal.proofs.header.Reads as header-reads
 
 abbrev Inv-loop : tie.InvT-loop
@@ -47,8 +47,8 @@ loop-holds : tie.Need-loop-holds Inv-loop μ-loop
 loop-holds c = play-begins _ (sym (c .before .before .before .header .ensures) ∙ ap opening (c .before .h .given .1)) (fresh (c .before .before .before .before .fresh .ensures))
 
 -- src/lib.rt:44:13
-decode-requires : tie.Need-decode-requires Inv-loop μ-loop
-decode-requires c κs = search needs
+read-requires : tie.Need-read-requires Inv-loop μ-loop
+read-requires c κs = search needs
 
 -- src/lib.rt:46:30
 enum-known-d : tie.Need-enum-known-d Inv-loop μ-loop
@@ -60,17 +60,17 @@ obey-requires c κs = c .before .before .before .before .loop .inv .stand .shelv
 
 -- src/lib.rt:49:17
 add-k : tie.Need-add-k Inv-loop μ-loop
-add-k c = omega (arith, c .before .before .before .before .before .before .loop .inv .stand .few, ahead _ _ (sym (c .before .before .before .before .before .decode .ensures) ∙ ap reading (c .before .before .before .d .given .1)))
+add-k c = omega (arith, c .before .before .before .before .before .before .loop .inv .stand .few, ahead _ _ (sym (c .before .before .before .before .before .read .ensures) ∙ ap reading (c .before .before .before .d .given .1)))
 
 -- src/lib.rt:43:5
 loop-less : tie.Need-loop-less Inv-loop μ-loop
-loop-less c = omega (arith, ahead _ _ (sym (c .before .before .before .before .before .decode .ensures) ∙ ap reading (c .before .before .before .d .given .1)))
+loop-less c = omega (arith, ahead _ _ (sym (c .before .before .before .before .before .read .ensures) ∙ ap reading (c .before .before .before .d .given .1)))
 
 -- src/lib.rt:43:5
 loop-again : tie.Need-loop-again Inv-loop μ-loop
 loop-again c =
     let i = c .before .before .before .before .before .before .loop .inv in
-    plays-on i (sym (c .before .before .before .before .before .decode .ensures) ∙ ap reading (c .before .before .before .d .given .1)) (stepped (i .stand .shelved) (c .before .obey .ensures))
+    plays-on i (sym (c .before .before .before .before .before .read .ensures) ∙ ap reading (c .before .before .before .d .given .1)) (stepped (i .stand .shelved) (c .before .obey .ensures))
 
 -- src/lib.rt:52:32
 enum-known-d-2 : tie.Need-enum-known-d-2 Inv-loop μ-loop
@@ -78,7 +78,7 @@ enum-known-d-2 c = search needs
 
 -- src/lib.rt:53:17
 returns-2 : tie.Need-returns-2 Inv-loop μ-loop
-returns-2 c = play-stops (c .before .before .before .before .loop .inv) (sym (c .before .before .before .decode .ensures) ∙ ap reading (c .before .d2 .given .1))
+returns-2 c = play-stops (c .before .before .before .before .loop .inv) (sym (c .before .before .before .read .ensures) ∙ ap reading (c .before .d2 .given .1))
 
 -- src/lib.rt:61:17
 enum-told-2 : tie.Need-enum-told-2 Inv-loop μ-loop
@@ -86,7 +86,7 @@ enum-told-2 c = search needs
 
 -- src/lib.rt:61:17
 returns-3 : tie.Need-returns-3 Inv-loop μ-loop
-returns-3 c = play-ends (c .before .before .before .loop .inv) (sym (c .before .before .decode .ensures) ∙ ap reading (c .enum-told2 .given .1))
+returns-3 c = play-ends (c .before .before .before .loop .inv) (sym (c .before .before .read .ensures) ∙ ap reading (c .enum-told2 .given .1))
 
 pub replay-spec : {M : Type 1} → statement M
 replay-spec =
@@ -100,7 +100,7 @@ replay-spec =
     enum-told
     returns
     loop-holds
-    decode-requires
+    read-requires
     enum-known-d
     obey-requires
     add-k

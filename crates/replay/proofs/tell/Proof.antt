@@ -14,7 +14,7 @@ use Rattle.replay.proofs.tell.Reads as reads
 use Rattle.replay.proofs.tell.Lts as lts
 use Rattle.book.proofs.Book.fresh.Reads as fresh-reads
 use Rattle.book.proofs.Book.obey.Reads as obey-reads
-use Rattle.journal.proofs.decode.Reads as decode-reads
+use Rattle.reader.proofs.read.Reads as read-reads
 use Rattle.journal.proofs.header.Reads as header-reads
 use Rattle.lines.proofs.put_answer.Reads as put-answer-reads
 use Rattle.lines.proofs.put_mark.Reads as put-mark-reads
@@ -63,8 +63,8 @@ loop-holds : tie.Need-loop-holds Inv-loop μ-loop
 loop-holds c = begins _ (sym (c .before .before .before .header .ensures) ∙ ap opening (c .before .h .given .1)) (fresh (c .before .before .before .before .fresh .ensures))
 
 -- src/lib.rt:101:13
-decode-requires : tie.Need-decode-requires Inv-loop μ-loop
-decode-requires c κs = search needs
+read-requires : tie.Need-read-requires Inv-loop μ-loop
+read-requires c κs = search needs
 
 -- src/lib.rt:103:30
 enum-known-d : tie.Need-enum-known-d Inv-loop μ-loop
@@ -76,7 +76,7 @@ obey-requires c κs = c .before .before .before .before .loop .inv .stand .shelv
 
 -- src/lib.rt:105:57
 add-put-answer : tie.Need-add-put-answer Inv-loop μ-loop
-add-put-answer c = omega (arith, c .before .before .before .before .before .before .loop .inv .stand .few, ahead _ _ (sym (c .before .before .before .before .before .decode .ensures) ∙ ap reading (c .before .before .before .d .given .1)))
+add-put-answer c = omega (arith, c .before .before .before .before .before .before .loop .inv .stand .few, ahead _ _ (sym (c .before .before .before .before .before .read .ensures) ∙ ap reading (c .before .before .before .d .given .1)))
 
 -- src/lib.rt:105:17
 put-answer-requires : tie.Need-put-answer-requires Inv-loop μ-loop
@@ -84,17 +84,17 @@ put-answer-requires c κs = search needs
 
 -- src/lib.rt:107:17
 add-k : tie.Need-add-k Inv-loop μ-loop
-add-k c = omega (arith, c .before .before .before .before .before .before .before .before .before .before .loop .inv .stand .few, ahead _ _ (sym (c .before .before .before .before .before .before .before .before .before .decode .ensures) ∙ ap reading (c .before .before .before .before .before .before .before .d .given .1)))
+add-k c = omega (arith, c .before .before .before .before .before .before .before .before .before .before .loop .inv .stand .few, ahead _ _ (sym (c .before .before .before .before .before .before .before .before .before .read .ensures) ∙ ap reading (c .before .before .before .before .before .before .before .d .given .1)))
 
 -- src/lib.rt:100:5
 loop-less : tie.Need-loop-less Inv-loop μ-loop
-loop-less c = omega (arith, ahead _ _ (sym (c .before .before .before .before .before .before .before .before .before .decode .ensures) ∙ ap reading (c .before .before .before .before .before .before .before .d .given .1)))
+loop-less c = omega (arith, ahead _ _ (sym (c .before .before .before .before .before .before .before .before .before .read .ensures) ∙ ap reading (c .before .before .before .before .before .before .before .d .given .1)))
 
 -- src/lib.rt:100:5
 loop-again : tie.Need-loop-again Inv-loop μ-loop
 loop-again c =
     let i = c .before .before .before .before .before .before .before .before .before .before .loop .inv in
-    goes-on i (sym (c .before .before .before .before .before .before .before .before .before .decode .ensures) ∙ ap reading (c .before .before .before .before .before .before .before .d .given .1)) (stepped (i .stand .shelved) (c .before .before .before .before .before .obey .ensures)) (c .before .before .before .put-answer .ensures)
+    goes-on i (sym (c .before .before .before .before .before .before .before .before .before .read .ensures) ∙ ap reading (c .before .before .before .before .before .before .before .d .given .1)) (stepped (i .stand .shelved) (c .before .before .before .before .before .obey .ensures)) (c .before .before .before .put-answer .ensures)
 
 -- src/lib.rt:110:32
 enum-known-d-2 : tie.Need-enum-known-d-2 Inv-loop μ-loop
@@ -102,7 +102,7 @@ enum-known-d-2 c = search needs
 
 -- src/lib.rt:111:57
 add-put-mark : tie.Need-add-put-mark Inv-loop μ-loop
-add-put-mark c = omega (arith, c .before .before .before .before .before .loop .inv .stand .few, inside _ _ (sym (c .before .before .before .before .decode .ensures) ∙ ap reading (c .before .before .d2 .given .1)))
+add-put-mark c = omega (arith, c .before .before .before .before .before .loop .inv .stand .few, inside _ _ (sym (c .before .before .before .before .read .ensures) ∙ ap reading (c .before .before .d2 .given .1)))
 
 -- src/lib.rt:111:21
 put-mark-requires-2 : tie.Need-put-mark-requires-2 Inv-loop μ-loop
@@ -114,11 +114,11 @@ put-book-requires-2 c κs = search needs
 
 -- src/lib.rt:112:17
 same-length-2 : tie.Need-same-length-2 Inv-loop μ-loop
-same-length-2 c = kept (stops (c .before .before .before .before .before .before .before .before .before .before .before .before .loop .inv) (sym (c .before .before .before .before .before .before .before .before .before .before .before .decode .ensures) ∙ ap reading (c .before .before .before .before .before .before .before .before .before .d2 .given .1)) (c .before .before .before .before .before .before .put-mark2 .ensures) (c .before .before .put-book2 .ensures))
+same-length-2 c = kept (stops (c .before .before .before .before .before .before .before .before .before .before .before .before .loop .inv) (sym (c .before .before .before .before .before .before .before .before .before .before .before .read .ensures) ∙ ap reading (c .before .before .before .before .before .before .before .before .before .d2 .given .1)) (c .before .before .before .before .before .before .put-mark2 .ensures) (c .before .before .put-book2 .ensures))
 
 -- src/lib.rt:112:17
 returns-2 : tie.Need-returns-2 Inv-loop μ-loop
-returns-2 c = stops (c .before .before .before .before .before .before .before .before .before .before .before .before .loop .inv) (sym (c .before .before .before .before .before .before .before .before .before .before .before .decode .ensures) ∙ ap reading (c .before .before .before .before .before .before .before .before .before .d2 .given .1)) (c .before .before .before .before .before .before .put-mark2 .ensures) (c .before .before .put-book2 .ensures)
+returns-2 c = stops (c .before .before .before .before .before .before .before .before .before .before .before .before .loop .inv) (sym (c .before .before .before .before .before .before .before .before .before .before .before .read .ensures) ∙ ap reading (c .before .before .before .before .before .before .before .before .before .d2 .given .1)) (c .before .before .before .before .before .before .put-mark2 .ensures) (c .before .before .put-book2 .ensures)
 
 -- src/lib.rt:115:33
 enum-told-2 : tie.Need-enum-told-2 Inv-loop μ-loop
@@ -130,11 +130,11 @@ put-book-requires-3 c κs = search needs
 
 -- src/lib.rt:115:17
 same-length-3 : tie.Need-same-length-3 Inv-loop μ-loop
-same-length-3 c = kept (ends (c .before .before .before .before .before .before .before .loop .inv) (sym (c .before .before .before .before .before .before .decode .ensures) ∙ ap reading (c .before .before .before .before .enum-told2 .given .1)) (c .before .before .put-book3 .ensures))
+same-length-3 c = kept (ends (c .before .before .before .before .before .before .before .loop .inv) (sym (c .before .before .before .before .before .before .read .ensures) ∙ ap reading (c .before .before .before .before .enum-told2 .given .1)) (c .before .before .put-book3 .ensures))
 
 -- src/lib.rt:115:17
 returns-3 : tie.Need-returns-3 Inv-loop μ-loop
-returns-3 c = ends (c .before .before .before .before .before .before .before .loop .inv) (sym (c .before .before .before .before .before .before .decode .ensures) ∙ ap reading (c .before .before .before .before .enum-told2 .given .1)) (c .before .before .put-book3 .ensures)
+returns-3 c = ends (c .before .before .before .before .before .before .before .loop .inv) (sym (c .before .before .before .before .before .before .read .ensures) ∙ ap reading (c .before .before .before .before .enum-told2 .given .1)) (c .before .before .put-book3 .ensures)
 
 pub tell-spec : {M : Type 1} → statement M
 tell-spec =
@@ -151,7 +151,7 @@ tell-spec =
     same-length
     returns
     loop-holds
-    decode-requires
+    read-requires
     enum-known-d
     obey-requires
     add-put-answer

@@ -1,4 +1,4 @@
-use Rattle.book.specs.Chains.{stops, goes, number-of, done-of, then-refused, then-accepted, agrees-on, agrees-off}
+use Rattle.book.specs.Chains.{stops, goes, number-of, done-of, then-accepted, then-answers, agrees-on, agrees-off}
 use Rattle.book.specs.Shelving.{Fits, fits-of, shelved-stored, model-stored}
 use Rattle.book.specs.Rules.{termsIn, withLenderRound, amendedIn, agreeing, concluding}
 use Rattle.book.specs.Model.{Model, accountIn, offerIn}
@@ -12,7 +12,7 @@ use mathlib.Core.Bool.{true, false}
 use mathlib.Core.List.{List, _++_}
 use Rattle.book.specs.Steps.{same}
 use Rattle.book.specs.Stored.{modelOf, stepOf}
-use Rattle.refusal.specs.Rule.{Rule, answered, refused, accepted}
+use Rattle.refusal.specs.Rule.{Rule, answered, refused}
 use Rattle.refusal.specs.Refusal.{Check, first, none-left}
 use borrow.Author.Tests.{eqb-true, eqb-false, not-true, not-false}
 use mathlib.Core.Path.{_≡_, refl, sym, ap, _∙_}
@@ -22,7 +22,7 @@ use Rattle.book.proofs.Book.amended.Tie as tie
 use Rattle.book.proofs.Book.amended.Reads as reads
 use Rattle.book.proofs.Book.amended.Lts as lts
 use Rattle.account.proofs.Account.reoffer.Reads as reoffer-reads
-use Rattle.book.proofs.Book.conclude.Reads as conclude-reads
+use Rattle.book.proofs.Book.agree.Reads as agree-reads
 use Rattle.book.proofs.Book.with_amendment.Reads as with-amendment-reads
 use Rattle.negotiation.proofs.Negotiation.agrees.Reads as agrees-reads
 use Rattle.offer.proofs.SeenDeal.amend_refusal.Reads as amend-refusal-reads
@@ -81,8 +81,8 @@ module _ (c : tie.After-with-amendment) where
 flag : (c : tie.After-agrees) → c .agrees .result ≡ agreesOf roundLimit (offerIn (model (c .before .before .before .before .before .before .before .before .before .before .before .before .before .before .before .before)) (c .before .before .before .before .before .before .before .before .before .before .before .before .before .before .before .before .args .id) .row .negotiation) (c .before .before .before .before .before .before .before .before .before .before .before .before .before .before .before .before .args .t)
 flag c = simp (c .before .before .before .before .before .before .before .before .before .before .before .get2 .ensures) at (c .agrees .ensures)
 
-concluded : (c : tie.After-conclude) → c .conclude .result ≡ answered stepOf (middle (c .before .before .before .before .before .before .before .before .before .before .before .before .before .before .before .before .before .before)) (concluding (c .before .before .before .before .before .before .before .before .before .before .before .before .before .before .before .before .before .before .args .now) (c .before .before .before .before .before .before .before .before .before .before .before .before .before .before .before .before .before .before .args .id) (middle (c .before .before .before .before .before .before .before .before .before .before .before .before .before .before .before .before .before .before)))
-concluded c = c .conclude .ensures ∙ ap (λ m. answered stepOf m (concluding (c .before .before .before .before .before .before .before .before .before .before .before .before .before .before .before .before .before .before .args .now) (c .before .before .before .before .before .before .before .before .before .before .before .before .before .before .before .before .before .before .args .id) m)) (ap modelOf (there (c .before .before .before .before)) ∙ model-stored (fits (c .before .before .before .before .before .before .before .before .before .before .before .before .before .before .before .before .before .before)))
+concluded : (c : tie.After-agree) → c .agree .result ≡ answered stepOf (model (c .before .before .before .before .before .before .before .before .before .before .before .before .before .before .before .before .before .before)) (concluding (c .before .before .before .before .before .before .before .before .before .before .before .before .before .before .before .before .before .before .args .now) (c .before .before .before .before .before .before .before .before .before .before .before .before .before .before .before .before .before .before .args .id) (middle (c .before .before .before .before .before .before .before .before .before .before .before .before .before .before .before .before .before .before)))
+concluded c = c .agree .ensures ∙ ap (λ m. answered stepOf (model (c .before .before .before .before .before .before .before .before .before .before .before .before .before .before .before .before .before .before)) (concluding (c .before .before .before .before .before .before .before .before .before .before .before .before .before .before .before .before .before .before .args .now) (c .before .before .before .before .before .before .before .before .before .before .before .before .before .before .before .before .before .before .args .id) m)) (ap modelOf (there (c .before .before .before .before)) ∙ model-stored (fits (c .before .before .before .before .before .before .before .before .before .before .before .before .before .before .before .before .before .before)))
 
 -- src/lib.rt:632:13
 get-requires : tie.Need-get-requires
@@ -123,23 +123,14 @@ returns-3 c =
     ∙ then-accepted stepOf _ (round (c .before .before .before .before .before .before .before .before .before .before .before .before .before .before .before .before .before)) (agreed (c .before .before .before .before .before .before .before .before .before .before .before .before .before .before .before .before .before)) _ (agrees-off _ _ _ (sym (flag (c .before)) ∙ not-true _ (c .if3 .taken))) (both (c .before .before .before)) (sym none-left) refl
 
 -- src/lib.rt:663:13
-conclude-requires : tie.Need-conclude-requires
-conclude-requires c κs = shelved (c .before .before .before)
+agree-requires : tie.Need-agree-requires
+agree-requires c κs = (c .before .before .before .before .before .before .before .before .before .before .before .before .before .before .before .before .before .pre, shelved (c .before .before .before))
 
--- src/lib.rt:666:13
+-- src/lib.rt
 returns-4 : tie.Need-returns-4
 returns-4 c =
-    same (c .before .before .before .before .before .before .before .before .before .before .before .before .before .before .before .before .before .before .before .pre) _
-    ∙ then-refused stepOf _ (round (c .before .before .before .before .before .before .before .before .before .before .before .before .before .before .before .before .before .before .before)) (agreed (c .before .before .before .before .before .before .before .before .before .before .before .before .before .before .before .before .before .before .before)) _ (agrees-on _ _ _ (sym (flag (c .before .before .before)) ∙ not-false _ (c .before .before .if3 .left))) (both (c .before .before .before .before .before)) (number-of stepOf _ _ (λ s. s .answer) (λ n x. refl) (concluded (c .before))) (eqb-false _ _ (not-true _ (c .if4 .taken)))
-
--- src/lib.rt:627:5
-returns-5 : tie.Need-returns-5
-returns-5 c =
-    let n = number-of stepOf _ _ (λ s. s .answer) (λ n x. refl) (concluded (c .before)) in
-    let z = eqb-true _ _ (not-false _ (c .if4 .left)) in
-    concluded (c .before)
-    ∙ sym (accepted stepOf _ _ n z refl)
-    ∙ then-accepted stepOf _ (round (c .before .before .before .before .before .before .before .before .before .before .before .before .before .before .before .before .before .before .before)) (agreed (c .before .before .before .before .before .before .before .before .before .before .before .before .before .before .before .before .before .before .before)) _ (agrees-on _ _ _ (sym (flag (c .before .before .before)) ∙ not-false _ (c .before .before .if3 .left))) (both (c .before .before .before .before .before)) (sym n ∙ z) refl
+    concluded c
+    ∙ then-answers stepOf _ (round (c .before .before .before .before .before .before .before .before .before .before .before .before .before .before .before .before .before .before)) (agreed (c .before .before .before .before .before .before .before .before .before .before .before .before .before .before .before .before .before .before)) _ (agrees-on _ _ _ (sym (flag (c .before .before)) ∙ not-false _ (c .before .if3 .left))) (both (c .before .before .before .before))
 
 pub amended-spec : {M : Type 1} → statement M
 amended-spec =
@@ -154,6 +145,5 @@ amended-spec =
     with-amendment-requires
     agrees-requires
     returns-3
-    conclude-requires
-    returns-4
-    returns-5)
+    agree-requires
+    returns-4)

@@ -1,4 +1,4 @@
-use Rattle.book.specs.Chains.{stops, number-of, then-refused, then-accepted, agrees-on, agrees-off}
+use Rattle.book.specs.Chains.{stops, then-accepted, then-answers, agrees-on, agrees-off}
 use Rattle.book.specs.Shelving.{Fits, fits-of, shelved-stored, model-stored}
 use Rattle.book.specs.Rules.{termsIn, counteredIn, agreeing, concluding}
 use Rattle.book.specs.Model.{Model, accountIn, offerIn, paperOf}
@@ -10,7 +10,7 @@ use mathlib.Core.Bool.{true, false}
 use mathlib.Core.List.{List}
 use Rattle.book.specs.Steps.{same}
 use Rattle.book.specs.Stored.{modelOf, stepOf}
-use Rattle.refusal.specs.Rule.{Rule, answered, refused, accepted}
+use Rattle.refusal.specs.Rule.{Rule, answered, refused}
 use Rattle.refusal.specs.Refusal.{Check, first, none-left}
 use borrow.Author.Tests.{eqb-true, eqb-false, not-true, not-false}
 use mathlib.Core.Path.{_≡_, refl, sym, ap, _∙_}
@@ -19,7 +19,7 @@ use Rattle.book.proofs.Book.countered.Statement.{statement}
 use Rattle.book.proofs.Book.countered.Tie as tie
 use Rattle.book.proofs.Book.countered.Reads as reads
 use Rattle.book.proofs.Book.countered.Lts as lts
-use Rattle.book.proofs.Book.conclude.Reads as conclude-reads
+use Rattle.book.proofs.Book.agree.Reads as agree-reads
 use Rattle.book.proofs.Book.with_counter.Reads as with-counter-reads
 use Rattle.offer.proofs.SeenDeal.counter_refusal.Reads as counter-refusal-reads
 use Rattle.shelves.proofs.Accounts.get.Reads as Accounts-get-reads
@@ -55,8 +55,8 @@ shelved c = rw (c .with-counter .ensures) (shelved-stored (fits (c .before .befo
 flag : (c : tie.After-same-terms) → c .same-terms .result ≡ sameTerms (termsIn (model (c .before .before .before .before .before .before .before .before .before .before .before .before .before .before)) (c .before .before .before .before .before .before .before .before .before .before .before .before .before .before .args .id)) (c .before .before .before .before .before .before .before .before .before .before .before .before .before .before .args .t)
 flag c = simp (c .before .before .before .before .before .before .before .before .before .get2 .ensures) at (c .same-terms .ensures)
 
-concluded : (c : tie.After-conclude) → c .conclude .result ≡ answered stepOf (middle (c .before .before .before .before .before .before .before .before .before .before .before .before .before .before .before .before)) (concluding (c .before .before .before .before .before .before .before .before .before .before .before .before .before .before .before .before .args .now) (c .before .before .before .before .before .before .before .before .before .before .before .before .before .before .before .before .args .id) (middle (c .before .before .before .before .before .before .before .before .before .before .before .before .before .before .before .before)))
-concluded c = c .conclude .ensures ∙ ap (λ m. answered stepOf m (concluding (c .before .before .before .before .before .before .before .before .before .before .before .before .before .before .before .before .args .now) (c .before .before .before .before .before .before .before .before .before .before .before .before .before .before .before .before .args .id) m)) (ap modelOf (c .before .before .before .before .with-counter .ensures) ∙ model-stored (fits (c .before .before .before .before .before .before .before .before .before .before .before .before .before .before .before .before)))
+concluded : (c : tie.After-agree) → c .agree .result ≡ answered stepOf (model (c .before .before .before .before .before .before .before .before .before .before .before .before .before .before .before .before)) (concluding (c .before .before .before .before .before .before .before .before .before .before .before .before .before .before .before .before .args .now) (c .before .before .before .before .before .before .before .before .before .before .before .before .before .before .before .before .args .id) (middle (c .before .before .before .before .before .before .before .before .before .before .before .before .before .before .before .before)))
+concluded c = c .agree .ensures ∙ ap (λ m. answered stepOf (model (c .before .before .before .before .before .before .before .before .before .before .before .before .before .before .before .before)) (concluding (c .before .before .before .before .before .before .before .before .before .before .before .before .before .before .before .before .args .now) (c .before .before .before .before .before .before .before .before .before .before .before .before .before .before .before .before .args .id) m)) (ap modelOf (c .before .before .before .before .with-counter .ensures) ∙ model-stored (fits (c .before .before .before .before .before .before .before .before .before .before .before .before .before .before .before .before)))
 
 -- src/lib.rt:679:13
 get-requires : tie.Need-get-requires
@@ -93,23 +93,14 @@ returns-2 c =
     ∙ then-accepted stepOf _ (round (c .before .before .before .before .before .before .before .before .before .before .before .before .before .before .before)) (agreed (c .before .before .before .before .before .before .before .before .before .before .before .before .before .before .before)) _ (agrees-off _ _ _ (sym (flag (c .before)) ∙ not-true _ (c .if2 .taken))) (sym (number (c .before .before .before .before .before)) ∙ eqb-true _ _ (not-false _ (c .before .before .before .before .if1 .left))) (sym none-left) refl
 
 -- src/lib.rt:703:13
-conclude-requires : tie.Need-conclude-requires
-conclude-requires c κs = shelved (c .before .before .before)
+agree-requires : tie.Need-agree-requires
+agree-requires c κs = (c .before .before .before .before .before .before .before .before .before .before .before .before .before .before .before .pre, shelved (c .before .before .before))
 
--- src/lib.rt:706:13
+-- src/lib.rt
 returns-3 : tie.Need-returns-3
 returns-3 c =
-    same (c .before .before .before .before .before .before .before .before .before .before .before .before .before .before .before .before .before .pre) _
-    ∙ then-refused stepOf _ (round (c .before .before .before .before .before .before .before .before .before .before .before .before .before .before .before .before .before)) (agreed (c .before .before .before .before .before .before .before .before .before .before .before .before .before .before .before .before .before)) _ (agrees-on _ _ _ (sym (flag (c .before .before .before)) ∙ not-false _ (c .before .before .if2 .left))) (sym (number (c .before .before .before .before .before .before .before)) ∙ eqb-true _ _ (not-false _ (c .before .before .before .before .before .before .if1 .left))) (number-of stepOf _ _ (λ s. s .answer) (λ n x. refl) (concluded (c .before))) (eqb-false _ _ (not-true _ (c .if3 .taken)))
-
--- src/lib.rt:674:5
-returns-4 : tie.Need-returns-4
-returns-4 c =
-    let n = number-of stepOf _ _ (λ s. s .answer) (λ n x. refl) (concluded (c .before)) in
-    let z = eqb-true _ _ (not-false _ (c .if3 .left)) in
-    concluded (c .before)
-    ∙ sym (accepted stepOf _ _ n z refl)
-    ∙ then-accepted stepOf _ (round (c .before .before .before .before .before .before .before .before .before .before .before .before .before .before .before .before .before)) (agreed (c .before .before .before .before .before .before .before .before .before .before .before .before .before .before .before .before .before)) _ (agrees-on _ _ _ (sym (flag (c .before .before .before)) ∙ not-false _ (c .before .before .if2 .left))) (sym (number (c .before .before .before .before .before .before .before)) ∙ eqb-true _ _ (not-false _ (c .before .before .before .before .before .before .if1 .left))) (sym n ∙ z) refl
+    concluded c
+    ∙ then-answers stepOf _ (round (c .before .before .before .before .before .before .before .before .before .before .before .before .before .before .before .before)) (agreed (c .before .before .before .before .before .before .before .before .before .before .before .before .before .before .before .before)) _ (agrees-on _ _ _ (sym (flag (c .before .before)) ∙ not-false _ (c .before .if2 .left))) (sym (number (c .before .before .before .before .before .before)) ∙ eqb-true _ _ (not-false _ (c .before .before .before .before .before .if1 .left)))
 
 pub countered-spec : {M : Type 1} → statement M
 countered-spec =
@@ -123,6 +114,5 @@ countered-spec =
     with-counter-requires
     same-terms-requires
     returns-2
-    conclude-requires
-    returns-3
-    returns-4)
+    agree-requires
+    returns-3)

@@ -1,0 +1,2 @@
+pub mod Journals
+pub mod Replayed
