@@ -1,4 +1,5 @@
-//! A bounded comparison: books of generated commands, then damaged journals of the same.
+//! A bounded comparison: books of generated commands, then damaged journals of the same, and the
+//! fixed sample.
 
 use std::time::{Duration, Instant};
 
@@ -12,9 +13,11 @@ use crate::generate::{Generator, Plan};
 use crate::given::given;
 use crate::pair::{Pair, Start};
 use crate::shrink::{shrink, Failure};
+use crate::vectors::samples;
 
 #[derive(Default)]
 pub struct Report {
+    pub samples: u64,
     pub commands: u64,
     pub books: u64,
     pub given_books: u64,
@@ -44,8 +47,20 @@ pub fn compare(other: &mut dyn Side, seed: u64, commands: u64) -> (Report, Optio
         found = compare_book(other, &mut chance, most, &mut report);
         report.books += 1;
     }
+    let found = found.or_else(|| compare_samples(other, &mut report));
     report.time = began.elapsed();
     (report, found)
+}
+
+/// The listings of the fixed sample, the longest journal that the program holds among them.
+fn compare_samples(other: &mut dyn Side, report: &mut Report) -> Option<Found> {
+    for sample in samples() {
+        report.samples += 1;
+        if let Some((one, two)) = listings_differ(other, &sample.bytes) {
+            return Some(Found::Bytes(sample.bytes, one, two));
+        }
+    }
+    None
 }
 
 fn compare_book(

@@ -5,13 +5,16 @@ use std::process::ExitCode;
 use harness::compare::{compare, Found, Report};
 use harness::shrink::show;
 use layer::Original;
-use plain::{Plain, SLIPS};
+use plain::{Plain, Slip, SLIPS};
+use port::Port;
+use side::Side;
 
 const USAGE: &str = "usage:
-  harness compare [--seed S] [--commands N] [--slip K]
-      runs N commands (200000) from seed S (1) on the original and on the plain model, and compares
-      after each the answer, the whole book and the queries; K from 1 to 5 plants a slip in the
-      plain model, which must then be found
+  harness compare [--side plain] [--seed S] [--commands N] [--slip K]
+      runs N commands (200000) from seed S (1) on the original and on the proved book, which the
+      command in the variable SOLGAVERNA_BRIDGE serves, and compares after each the answer, the
+      whole book and queries; on the plain model where that is asked for. K from 1 to 5 plants a
+      slip in the plain model, which must then be found
   harness replay FILE
       prints the original's listing of a journal
   harness vectors [--check] DIR
@@ -45,48 +48,82 @@ fn replay(file: &str) -> Result<(), String> {
 /// Below so many commands the table is shown, but nothing is asked of it.
 const COVERING: u64 = 200_000;
 
-fn compare_command(options: &[&str]) -> Result<(), String> {
-    let (mut seed, mut commands, mut slip) = (1, 200_000, 0);
+/// What `compare` is asked to do.
+struct Asked {
+    plain: bool,
+    seed: u64,
+    commands: u64,
+    slip: Option<Slip>,
+}
+
+fn asked(options: &[&str]) -> Result<Asked, String> {
+    let mut asked = Asked { plain: false, seed: 1, commands: COVERING, slip: None };
     for option in options.chunks(2) {
-        let [name, number] = option else { return Err(USAGE.to_string()) };
-        let number: u64 = number.parse().map_err(|_| USAGE.to_string())?;
+        let [name, value] = option else { return Err(USAGE.to_string()) };
+        let number = || value.parse::<u64>().map_err(|_| USAGE.to_string());
         match *name {
-            "--seed" => seed = number,
-            "--commands" => commands = number,
-            "--slip" if number <= SLIPS.len() as u64 => slip = number as usize,
+            "--side" if *value == "plain" => asked.plain = true,
+            "--seed" => asked.seed = number()?,
+            "--commands" => asked.commands = number()?,
+            "--slip" => asked.slip = slip(number()?)?,
             _ => return Err(USAGE.to_string()),
         }
     }
-    let planted = slip.checked_sub(1).map(|index| SLIPS[index]);
-    let mut plain = Plain::with_slip(planted);
-    let (report, found) = compare(&mut plain, seed, commands);
-    print_report(&report, seed);
-    match (found, planted) {
-        (Some(found), None) => Err(told(&mut plain, found)),
+    Ok(asked)
+}
+
+fn slip(number: u64) -> Result<Option<Slip>, String> {
+    let Some(index) = (number as usize).checked_sub(1) else { return Ok(None) };
+    SLIPS.get(index).map(|slip| Some(*slip)).ok_or(USAGE.to_string())
+}
+
+fn other_side(asked: &Asked) -> Result<Box<dyn Side>, String> {
+    if asked.plain || asked.slip.is_some() {
+        return Ok(Box::new(Plain::with_slip(asked.slip)));
+    }
+    match std::env::var(port::COMMAND) {
+        Ok(command) => Ok(Box::new(Port::start(&command)?)),
+        Err(_) => Err(format!(
+            "{} does not name the command of the proved book; oracle/run does, and --side plain \
+             compares with the plain model",
+            port::COMMAND
+        )),
+    }
+}
+
+fn compare_command(options: &[&str]) -> Result<(), String> {
+    let asked = asked(options)?;
+    let mut other = other_side(&asked)?;
+    let (report, found) = compare(&mut *other, asked.seed, asked.commands);
+    print_report(&report, asked.seed, other.name());
+    match (found, asked.slip) {
+        (Some(found), None) => Err(told(&mut *other, found)),
         (Some(found), Some(slip)) => {
-            println!("{}", told(&mut plain, found));
+            println!("{}", told(&mut *other, found));
             println!("the planted slip {slip:?} is found");
             Ok(())
         }
         (None, Some(slip)) => Err(format!("the planted slip {slip:?} is not found")),
-        (None, None) => covered(&report, commands),
+        (None, None) => covered(&report, asked.commands),
     }
 }
 
-fn told(plain: &mut Plain, found: Found) -> String {
+fn told(other: &mut dyn Side, found: Found) -> String {
     match found {
-        Found::Run(failure) => show(plain, &failure),
+        Found::Run(failure) => show(other, &failure),
         Found::Bytes(bytes, one, two) => {
             let digits: String = bytes.iter().map(|byte| format!("{byte:02x}")).collect();
-            format!("a journal is read differently: {digits}\nthe original:\n{one}plain:\n{two}")
+            let name = other.name();
+            format!("a journal is read differently: {digits}\nthe original:\n{one}{name}:\n{two}")
         }
     }
 }
 
-fn print_report(report: &Report, seed: u64) {
+fn print_report(report: &Report, seed: u64, name: &str) {
     println!(
-        "{} commands compared, seed {seed}: {} books, {} of them from given rows, {} queries, {} damaged journals, {:.1} s",
+        "{} commands compared with {name}, seed {seed}: {} journals of the sample, {} books, {} of them from given rows, {} queries, {} damaged journals, {:.1} s",
         report.commands,
+        report.samples,
         report.books,
         report.given_books,
         report.queries,

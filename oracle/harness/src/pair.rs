@@ -27,6 +27,8 @@ pub struct Pair<'a> {
     pub book: Book,
     pub met: Met,
     turn: usize,
+    /// One in so many queries is asked after each command.
+    pub one_in: usize,
     room: Room,
 }
 
@@ -61,7 +63,8 @@ impl<'a> Pair<'a> {
         }
         let book = Book::of_flat(&flat).expect("the flat form of a book");
         let (met, room) = (Met::default(), Room::default());
-        Pair { original, other, book, met, turn: 0, room }
+        let one_in = other.one_in();
+        Pair { original, other, book, met, turn: 0, one_in, room }
     }
 
     /// Applies one command to both sides; `Err` says how they differ.
@@ -105,6 +108,11 @@ impl<'a> Pair<'a> {
     fn compare_queries(&mut self, now: u64) -> Result<(), String> {
         let mut queries = std::mem::take(&mut self.room.queries);
         questions(&self.book, now, self.turn, &mut queries);
+        let mut place = self.turn;
+        queries.retain(|_| {
+            place += 1;
+            place % self.one_in == 0
+        });
         let ended = queries.iter().try_for_each(|query| self.compare_query(*query));
         self.met.queries += queries.len() as u64;
         self.room.queries = queries;

@@ -1,9 +1,12 @@
 //! The intended differences of docs/DIFFERENCES.md, each with its smallest input: what the bare
-//! original answers and what the port answers.
+//! original answers and what the port answers. The plain model answers for the port, and the
+//! proved book must say the same where its command is named.
 
 use harness::script::steps;
+use journal::Command;
 use layer::Original;
 use plain::Plain;
+use port::Port;
 use side::{Account, Book, Query, Side, Totals};
 
 /// Accounts 1 and 2, an invoice of account 2 and the least offer on it.
@@ -13,29 +16,67 @@ register caller=2 id=10 amount=1 : 0
 create caller=1 id=20 invoice=10 amount=1 rate=1 : 0
 ";
 
+/// The plain model and, where its command is named, the proved book, which must agree.
+struct Ported {
+    plain: Plain,
+    proved: Option<Port>,
+}
+
+impl Ported {
+    fn start() -> Ported {
+        let command = std::env::var(port::COMMAND).ok();
+        let proved = command.map(|command| Port::start(&command).expect("the program starts"));
+        Ported { plain: Plain::default(), proved }
+    }
+
+    fn load(&mut self, flat: &[u64]) {
+        self.plain.load(flat);
+        self.proved.iter_mut().for_each(|proved| proved.load(flat));
+    }
+
+    fn run(&mut self, command: &Command) -> u64 {
+        let answer = self.plain.run(command);
+        let mut record = Vec::new();
+        journal::write(command, &mut record);
+        self.proved.iter_mut().for_each(|proved| assert_eq!(proved.apply(&record), answer));
+        answer
+    }
+
+    fn ask(&mut self, query: Query) -> u64 {
+        let mut number = [9];
+        self.plain.ask(query, &mut number);
+        if let Some(proved) = &mut self.proved {
+            let mut same = [9];
+            proved.ask(query, &mut same);
+            assert_eq!(same, number);
+        }
+        number[0]
+    }
+}
+
 /// The last command's answers: the bare original's, the original's within the port's layer, and
-/// the plain model's.
+/// the port's.
 fn last(text: &str) -> [u64; 3] {
-    let (mut bare, mut layered, mut plain) =
-        (Original::bare(), Original::default(), Plain::default());
+    let (mut bare, mut layered, mut port) =
+        (Original::bare(), Original::default(), Ported::start());
     let mut last = [0; 3];
     for (command, _) in steps(text) {
-        last = [bare.run(&command).number, layered.run(&command).number, plain.run(&command)];
+        last = [bare.run(&command).number, layered.run(&command).number, port.run(&command)];
     }
     last
 }
 
 /// The answers to one command from given rows.
 fn last_from(book: &Book, line: &str) -> [u64; 3] {
-    let (mut bare, mut layered, mut plain) =
-        (Original::bare(), Original::default(), Plain::default());
+    let (mut bare, mut layered, mut port) =
+        (Original::bare(), Original::default(), Ported::start());
     let mut flat = Vec::new();
     book.flat(&mut flat);
     bare.load(&flat);
     layered.load(&flat);
-    plain.load(&flat);
+    port.load(&flat);
     let (command, _) = steps(line)[0];
-    [bare.run(&command).number, layered.run(&command).number, plain.run(&command)]
+    [bare.run(&command).number, layered.run(&command).number, port.run(&command)]
 }
 
 #[test]
@@ -43,14 +84,13 @@ fn the_paid_quotient_is_compared_whole() {
     let text = "schedule caller=1 id=20 count=1 code=1 first=101 : 0
         repayment-account id=1 : 0
         repaid caller=1 id=20 amount=4294967296 : 0";
-    let (mut original, mut plain) = (Original::default(), Plain::default());
+    let (mut original, mut port) = (Original::default(), Ported::start());
     for (command, answer) in steps(&[OFFER, text].concat()) {
-        assert_eq!((original.run(&command).number, plain.run(&command)), (answer, answer));
+        assert_eq!((original.run(&command).number, port.run(&command)), (answer, answer));
     }
-    let mut due = [[9], [9]];
-    original.ask(Query::Due(20, 101), &mut due[0]);
-    plain.ask(Query::Due(20, 101), &mut due[1]);
-    assert_eq!(due, [[1], [0]]);
+    let mut due = [9];
+    original.ask(Query::Due(20, 101), &mut due);
+    assert_eq!((due, port.ask(Query::Due(20, 101))), ([1], 0));
 }
 
 #[test]

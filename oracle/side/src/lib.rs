@@ -33,4 +33,10 @@ pub trait Side {
 
     /// The whole output of the replay program for these input bytes, from a fresh book.
     fn listing(&mut self, journal: &[u8]) -> Vec<u8>;
+
+    /// One in so many of the queries is asked after each command, the next one after the next
+    /// command: more than 1 for a side to which every question is a long way.
+    fn one_in(&self) -> usize {
+        1
+    }
 }

@@ -1,0 +1,104 @@
+//! The proved book behind the trait `Side`: the program `bridge` of this repository, which serves
+//! it over its standard input and output. crates/bridge/src/main.rt says what goes over them.
+
+mod pipe;
+
+use std::cell::RefCell;
+
+use pipe::{Pipe, Request};
+use side::{Query, Reply, Side, PROGRAM_HOLDS, TOO_LONG};
+
+/// Names the command that starts the program, its words parted by spaces.
+pub const COMMAND: &str = "SOLGAVERNA_BRIDGE";
+
+pub struct Port {
+    pipe: RefCell<Pipe>,
+    /// The book after the last command, which its answer brings along.
+    shown: Option<Vec<u64>>,
+}
+
+impl Port {
+    pub fn start(command: &str) -> Result<Port, String> {
+        let pipe = Pipe::start(command).map_err(|error| format!("{command}: {error}"))?;
+        Ok(Port { pipe: RefCell::new(pipe), shown: None })
+    }
+
+    fn list(&mut self, query: Query, out: &mut [u64]) -> Reply {
+        let [query, a, b] = query.numbers();
+        let fill = out.first().copied().unwrap_or(0);
+        assert!(out.iter().all(|number| *number == fill), "a lent buffer holds one number");
+        let pipe = self.pipe.get_mut();
+        pipe.send(Request::List, &[query, a, b, out.len() as u64, fill], &[]);
+        let answer = pipe.answer();
+        let (head, numbers) = answer.split_at(3);
+        out.copy_from_slice(numbers);
+        Reply { number: head[0], written: 10 * head[1] as usize }
+    }
+}
+
+impl Side for Port {
+    fn name(&self) -> &'static str {
+        "the port"
+    }
+
+    fn reset(&mut self) {
+        self.shown = None;
+        self.pipe.get_mut().send(Request::Fresh, &[], &[]);
+    }
+
+    fn load(&mut self, book: &[u64]) {
+        self.shown = None;
+        let pipe = self.pipe.get_mut();
+        pipe.send(Request::Load, &[], &[]);
+        let bytes: Vec<_> = book.iter().flat_map(|number| number.to_be_bytes()).collect();
+        pipe.send_large(&bytes);
+    }
+
+    fn apply(&mut self, record: &[u8]) -> u64 {
+        let pipe = self.pipe.get_mut();
+        pipe.send(Request::Apply, &[record.len() as u64], record);
+        pipe.send(Request::Show, &[], &[]);
+        let answer = pipe.answer();
+        self.shown = Some(pipe.answer());
+        answer[0]
+    }
+
+    fn dump(&self, out: &mut Vec<u64>) {
+        out.clear();
+        if let Some(shown) = &self.shown {
+            return out.extend(shown);
+        }
+        let mut pipe = self.pipe.borrow_mut();
+        pipe.send(Request::Show, &[], &[]);
+        out.extend(pipe.answer());
+    }
+
+    fn ask(&mut self, query: Query, out: &mut [u64]) -> Reply {
+        let [number, a, b] = query.numbers();
+        if number <= 6 {
+            return self.list(query, out);
+        }
+        let pipe = self.pipe.get_mut();
+        pipe.send(Request::Ask, &[number, a, b], &[]);
+        let answer = pipe.answer();
+        match answer[0] {
+            0 => Reply::write(&answer[3..], out),
+            number => Reply::refused(number),
+        }
+    }
+
+    fn listing(&mut self, journal: &[u8]) -> Vec<u8> {
+        if journal.len() > PROGRAM_HOLDS {
+            return TOO_LONG.into();
+        }
+        let pipe = self.pipe.get_mut();
+        pipe.send(Request::Listing, &[journal.len() as u64], &[]);
+        pipe.send_large(journal);
+        let length = pipe.answer()[0] as usize;
+        pipe.bytes(length)
+    }
+
+    fn one_in(&self) -> usize {
+        8
+    }
+}
