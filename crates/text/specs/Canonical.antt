@@ -1,23 +1,20 @@
 -- A text that reads as commands is the lines of those commands. Assumes nothing.
 use mathlib.Core.Path.{_≡_, refl, sym, ap, _∙_}
 use mathlib.Core.Bool.{Bool, true, false, _&&_, _||_}
-use mathlib.Core.List.{List, [], _∷_, _++_, append-nil, append-assoc}
+use mathlib.Core.List.{List, [], _∷_, _++_}
 use Prim.Native.Nat.{ℕ, zero, suc, _+_, _-_, _*_, _/_, _%_, _≤_, _<_}
 use native.Mathlib.Omega.{arith}
-use native.Mathlib.Nat.{add-zero}
-use native.Mathlib.Numerals.{add-one}
-use lib.ListN.{length, getD, take, drop, length-drop, length-append}
-use lib.Seq.{take-suc, take-add, drop-drop, drop-cons, length-take-le}
+use lib.ListN.{length, getD, take, drop}
+use lib.Seq.{take-suc, take-add}
 use lib.Dec.{eqb, leb, ltb}
-use borrow.Author.Tests.{eqb-true, leb-true, ltb-true, le-ltb, lt-ltb, ltb-false, lt-leb}
+use borrow.Author.Tests.{eqb-true, leb-true, ltb-true, le-ltb, lt-ltb, lt-leb}
 use Rattle.refusal.specs.Choice.{pick, pick-on, pick-off}
 use Rattle.wire.specs.FieldLaws.{and-left, and-right}
-use Rattle.sheet.specs.Decimal.{decimalOf, space, newline}
+use Rattle.sheet.specs.Decimal.{decimalOf, space}
 use Rattle.sheet.specs.DecimalLaws.{decimal-again}
-use Rattle.journal.specs.Table.{topOf, fieldsOf}
+use Rattle.journal.specs.Table.{topOf}
 use Rattle.journal.specs.HeldLaws.{Tops}
-use Rattle.text.specs.Names.{wordOf}
-use Rattle.text.specs.Line.{isSigned, minus, signedOf, numeralOf, numeralsOf, lineOf}
+use Rattle.text.specs.Line.{isSigned, minus, signedOf, numeralOf, numeralsOf}
 use Rattle.text.specs.Reading.{leads, isDigit, digitsIn, valueIn, numeral, noNumeral, isPlain, checked, naturalIn, negated, signedIn, numeralIn, Read, unread, joined, spacedIn, readIn}
 use Rattle.text.specs.ReadingLaws.{there, digit-low, digit-high, digit-there}
 use Rattle.text.specs.declared.reading.Numeral.{Numeral}

@@ -1,16 +1,16 @@
 -- The walk over a text's lines. Assumes nothing.
 use mathlib.Core.Path.{_≡_, refl, sym, ap, _∙_}
 use mathlib.Core.Bool.{Bool, true, false, _&&_}
-use mathlib.Core.List.{List, [], _∷_, _++_}
-use Prim.Native.Nat.{ℕ, suc, _+_, _-_, _≤_, _<_}
+use mathlib.Core.List.{List, []}
+use Prim.Native.Nat.{ℕ, suc, _+_, _≤_, _<_}
 use native.Mathlib.Omega.{arith}
 use native.Mathlib.Numerals.{add-one}
 use lib.ListN.{length, getD, drop, length-drop}
 use lib.Dec.{eqb, leb, ltb}
 use borrow.Author.Tests.{eqb-true, le-leb, lt-leb, leb-true, leb-false}
 use Rattle.refusal.specs.Choice.{pick, pick-on, pick-off, on, off}
-use Rattle.wire.specs.FieldLaws.{and-left, and-right}
-use Rattle.journal.specs.Table.{fieldsOf, padded, sent}
+use Rattle.wire.specs.FieldLaws.{and-right}
+use Rattle.journal.specs.Table.{fieldsOf, sent}
 use Rattle.journal.specs.Format.{headerOf, recordOf}
 use Rattle.journal.specs.WriteLaws.{record-sent}
 use Rattle.journal.specs.declared.writing.Parts.{Parts}
@@ -18,7 +18,7 @@ use Rattle.sheet.specs.declared.Pen.{Pen}
 use Rattle.sheet.specs.Sheet.{Wrote}
 use Rattle.sheet.specs.SheetLaws.{next}
 use Rattle.text.specs.Names.{wordOf}
-use Rattle.text.specs.Walk.{Item, item, fault, end, Walk, allOf}
+use Rattle.text.specs.Walk.{Item, item, fault, end}
 use Rattle.text.specs.WalkLaws.{Onward}
 use Rattle.text.specs.Telling.{Ended}
 use Rattle.text.specs.Reading.{tagIn, Read, readIn, closed, lineIn, lineAt, lineFor}

@@ -1,21 +1,20 @@
 -- A line that is written is read back. Assumes nothing.
 use mathlib.Core.Path.{_≡_, refl, sym, ap, _∙_}
-use mathlib.Core.Bool.{Bool, true, false, _&&_}
+use mathlib.Core.Bool.{true}
 use mathlib.Core.List.{List, [], _∷_, _++_, append-assoc}
-use Prim.Native.Nat.{ℕ, zero, suc, _+_, _≤_, _<_}
+use Prim.Native.Nat.{ℕ, _+_, _≤_, _<_}
 use native.Mathlib.Omega.{arith}
 use lib.ListN.{length, getD, drop, length-append}
 use lib.Seq.{drop-append-seam, getD-append-seam, getD-append-add}
-use lib.Dec.{eqb}
-use borrow.Author.Tests.{eqb-true}
 use Rattle.refusal.specs.Choice.{pick, pick-on}
 use Rattle.sheet.specs.Decimal.{space, newline}
 use Rattle.journal.specs.Table.{topOf, fieldsOf}
 use Rattle.journal.specs.HeldLaws.{Tops}
-use Rattle.text.specs.Names.{Name, names, wordIn, wordOf}
+use Rattle.text.specs.Names.{names, wordIn, wordOf}
+use Rattle.text.specs.NameLaws.{Each, _▸_, each}
 use Rattle.text.specs.Line.{numeralOf, numeralsOf, lineOf}
-use Rattle.text.specs.Walk.{Item, item}
-use Rattle.text.specs.Reading.{leads, isNamed, tagBy, tagIn, isDigit, numeral, Read, unread, joined, spacedIn, readIn, lineIn, lineAt}
+use Rattle.text.specs.Walk.{item}
+use Rattle.text.specs.Reading.{leads, isNamed, tagBy, tagIn, numeral, Read, spacedIn, readIn, lineIn, lineAt}
 use Rattle.text.specs.LineReads.{numbersThere, lined}
 use Rattle.text.specs.JournalLaws.{onward, at-line, at-end}
 use Rattle.text.specs.NumberBack.{Stop, numeral-back}
@@ -60,16 +59,8 @@ read-back (f ∷ fs) (x ∷ xs) r h =
 abbrev Found : ℕ → Type 0
 Found t = (r : List ℕ) → tagIn (wordOf t ++ r) ≡ t
 
-abbrev Each : List Name → Type 0
-Each [] = Unit
-Each (n ∷ ns) = Found (n .tag) × Each ns
-
-infixr 5 _▸_
-abbrev _▸_ : {A B : Type 0} → A → B → A × B
-a ▸ b = (a, b)
-
 -- no name begins another
-all-found : Each names
+all-found : Each Found names
 unfolding tagIn tagBy isNamed leads wordOf wordIn pick
 all-found =
     (λ r. refl)
@@ -98,18 +89,8 @@ all-found =
     ▸ (λ r. refl)
     ▸ tt
 
-found-in : (ns : List Name) (t : ℕ) → Each ns → 0 < length (wordIn ns t) → Found t
-unfolding wordIn pick
-found-in [] t a h = absurd (omega arith)
-found-in (n ∷ ns) t a h = go (eqb t (n .tag)) refl (λ k. found-in ns t (a .1) k) h
-  where
-    go : (b : Bool) → eqb t (n .tag) ≡ b → (0 < length (wordIn ns t) → Found t) → 0 < length (pick b (n .word) (wordIn ns t)) → Found t
-    go true e i k = rw (eqb-true t (n .tag) e) (a .0)
-    go false e i k = i k
-
 found : (t : ℕ) → 0 < length (wordOf t) → Found t
-unfolding wordOf
-found t h = found-in names t all-found h
+found t h = each Found t all-found h
 
 -- no name belongs to the tag 0
 zero-nameless : length (wordOf 0) ≡ 0

@@ -1,17 +1,17 @@
 -- What a line reads as, by its name, its numbers and its end. Assumes nothing.
-use mathlib.Core.Path.{_≡_, refl, sym, ap, _∙_}
+use mathlib.Core.Path.{_≡_, sym, ap, _∙_}
 use mathlib.Core.Bool.{Bool, true, false, _&&_}
-use mathlib.Core.List.{List, [], _∷_}
-use Prim.Native.Nat.{ℕ, _+_, _≤_, _<_}
+use mathlib.Core.List.{List, []}
+use Prim.Native.Nat.{ℕ, _+_}
 use native.Mathlib.Omega.{arith}
 use lib.ListN.{length, getD, drop}
 use lib.Dec.{eqb, ltb}
 use borrow.Author.Tests.{eq-eqb, ne-eqb, lt-ltb, le-ltb}
-use Rattle.refusal.specs.Choice.{pick, pick-on, pick-off}
+use Rattle.refusal.specs.Choice.{pick-on, pick-off}
 use Rattle.journal.specs.Table.{fieldsOf}
 use Rattle.journal.specs.FieldLaws.{and-off}
 use Rattle.text.specs.Names.{wordOf}
-use Rattle.text.specs.Walk.{Item, item, fault}
+use Rattle.text.specs.Walk.{item, fault}
 use Rattle.text.specs.Reading.{tagIn, Read, readIn, closed, lineIn}
 
 module _ (t : List ℕ) (at : ℕ) {k : ℕ} (e : k ≡ tagIn t) where

@@ -1,11 +1,11 @@
 -- The line that stands at a place is what writing its command gives. Assumes nothing.
 use mathlib.Core.Path.{_≡_, refl, sym, ap, _∙_}
 use mathlib.Core.Bool.{Bool, true, false, _&&_}
-use mathlib.Core.List.{List, [], _∷_, _++_, append-assoc}
-use Prim.Native.Nat.{ℕ, _+_, _≤_, _<_}
+use mathlib.Core.List.{List, [], _∷_, _++_}
+use Prim.Native.Nat.{ℕ, _+_, _<_}
 use native.Mathlib.Omega.{arith}
 use native.Mathlib.Nat.{add-zero}
-use lib.ListN.{length, getD, take, drop, length-drop, length-append}
+use lib.ListN.{length, getD, take, drop, length-drop}
 use lib.Seq.{take-add, take-suc, drop-drop, getD-drop, length-take-le}
 use lib.Dec.{eqb, leb, ltb}
 use borrow.Author.Tests.{eqb-true, ltb-true}
@@ -17,7 +17,7 @@ use Rattle.journal.specs.HeldLaws.{Tops}
 use Rattle.text.specs.Names.{wordOf}
 use Rattle.text.specs.Line.{numeralsOf, lineOf}
 use Rattle.text.specs.Walk.{Item, item, fault, end}
-use Rattle.text.specs.Reading.{leads, tagIn, Read, readIn, closed, lineIn, lineAt}
+use Rattle.text.specs.Reading.{leads, tagIn, Read, readIn, lineIn, lineAt}
 use Rattle.text.specs.ReadingLaws.{there, tag-named}
 use Rattle.text.specs.JournalLaws.{onward}
 use Rattle.text.specs.Canonical.{leads-take, read-spelt}

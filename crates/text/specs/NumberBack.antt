@@ -1,21 +1,20 @@
 -- A number that is written is read back. Assumes nothing.
 use mathlib.Core.Path.{_≡_, refl, sym, ap, _∙_}
-use mathlib.Core.Bool.{Bool, true, false, _&&_, _||_}
+use mathlib.Core.Bool.{Bool, true, false, _||_}
 use mathlib.Core.List.{List, [], _∷_, _++_, append-assoc}
 use Prim.Native.Nat.{ℕ, zero, suc, _+_, _-_, _*_, _/_, _%_, _≤_, _<_}
 use native.Mathlib.Omega.{arith}
-use lib.ListN.{length, getD, drop, length-append}
+use lib.ListN.{length, getD, length-append}
 use lib.Seq.{getD-append-seam}
 use lib.Dec.{eqb, leb, ltb}
-use borrow.Author.Tests.{eq-eqb, ne-eqb, le-leb, lt-leb, lt-ltb, le-ltb, ltb-true, ltb-false}
-use Rattle.refusal.specs.Choice.{pick, pick-on, pick-off, on, off}
+use borrow.Author.Tests.{ne-eqb, le-leb, lt-ltb, ltb-true, ltb-false}
+use Rattle.refusal.specs.Choice.{pick, pick-on, pick-off}
 use Rattle.sheet.specs.Decimal.{decimalBy, decimalOf}
 use Rattle.journal.specs.Table.{topOf}
 use Rattle.text.specs.Line.{isSigned, minus, signedOf, numeralOf}
-use Rattle.text.specs.Reading.{isDigit, digitsIn, valueIn, numeral, noNumeral, isPlain, checked, naturalIn, negated, signedIn, numeralIn}
-use Rattle.text.specs.ReadingLaws.{digit-low, digit-high, no-negative, negative}
+use Rattle.text.specs.Reading.{isDigit, digitsIn, valueIn, numeral, isPlain, checked, naturalIn, negated, signedIn, numeralIn}
+use Rattle.text.specs.ReadingLaws.{digit-low, negative}
 use Rattle.text.specs.Canonical.{signed-wide}
-use Rattle.text.specs.declared.reading.Numeral.{Numeral}
 
 -- no digit stands first
 abbrev pub Stop : List ℕ → Type 0

@@ -1,17 +1,15 @@
 -- A record or the header in an array that has room for it. Assumes nothing.
 use mathlib.Core.Path.{_≡_, refl, sym, ap, _∙_}
 use mathlib.Core.List.{List}
-use Prim.Native.Nat.{ℕ, _+_, _*_, _≤_}
+use Prim.Native.Nat.{ℕ, _+_, _≤_}
 use native.Mathlib.Omega.{arith}
 use lib.ListN.{length, take, drop, replicate}
-use lib.Seq.{take-append-seam, length-take-le}
+use lib.Seq.{take-append-seam}
 use borrow.Author.Tests.{le-leb}
 use Rattle.refusal.specs.Choice.{pick, pick-on}
-use Rattle.refusal.specs.Refusal.{number, bufferShort}
 use Rattle.wire.specs.Field.{bytesOf, headOf, fieldOf, placed, laid}
 use Rattle.wire.specs.PlaceLaws.{laid-in, length-placed}
 use Rattle.journal.specs.Answers.{written}
-use Rattle.journal.specs.Table.{fieldsOf}
 use Rattle.journal.specs.TableLaws.{few}
 use Rattle.journal.specs.Format.{headerOf, recordOf, writing}
 use Rattle.journal.specs.WriteLaws.{length-record}

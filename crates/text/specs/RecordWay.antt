@@ -1,26 +1,25 @@
 -- The records of a journal are what writing their commands gives, and are read back. Assumes nothing.
 use mathlib.Core.Path.{_≡_, refl, sym, ap, _∙_}
-use mathlib.Core.Bool.{Bool, true, false, _&&_}
+use mathlib.Core.Bool.{Bool, true, false}
 use mathlib.Core.List.{List, [], _∷_, _++_}
-use Prim.Native.Nat.{ℕ, zero, suc, _+_, _^_, _≤_, _<_}
+use Prim.Native.Nat.{ℕ, zero, suc, _+_, _^_, _<_}
 use native.Mathlib.Omega.{arith}
 use lib.ListN.{length, getD}
-use lib.Dec.{eqb}
-use borrow.Author.Tests.{eqb-true}
 use Rattle.refusal.specs.Choice.{pick}
 use Rattle.command.specs.declared.Command.{Command}
 use Rattle.command.specs.declared.Command.the-variants.{OpenAccount, Deposit, Payout, Approve, RegisterInvoice, CancelInvoice, CreateOffer, WithdrawOffer, AcceptOffer, RejectOffer, AmendOffer, CounterOffer, CloseNegotiation, ScheduleRepayment, UpdateStatus, UpdateRepaid, UpdateLenderRepaid, UpdateTotalsRepaid, Pause, Unpause, SetWindow, SetRepaymentAccount, SetBlacklisted, SetSeats}
 use Rattle.wire.specs.NumberLaws.{Bytes}
 use Rattle.journal.specs.Answers.{Reading, found, refused, ended}
 use Rattle.journal.specs.Table.{isNarrow, topOf, named, fieldsOf, madeIn, made, partsOf}
-use Rattle.journal.specs.Format.{zeros, readAt, recordOf, bytesFor}
+use Rattle.journal.specs.Format.{zeros, readAt, bytesFor}
 use Rattle.journal.specs.HeldLaws.{Tops, byTag}
 use Rattle.journal.specs.Faithful.{made-of}
 use Rattle.journal.specs.Canonical.{canonical}
 use Rattle.journal.specs.RoundTrip.{parts-back}
 use Rattle.journal.specs.ReadLaws.{at-end}
-use Rattle.text.specs.Names.{Name, names, wordIn, wordOf}
-use Rattle.text.specs.Walk.{Item, item, fault, end}
+use Rattle.text.specs.Names.{names, wordIn, wordOf}
+use Rattle.text.specs.NameLaws.{Each, _▸_, each}
+use Rattle.text.specs.Walk.{item}
 use Rattle.text.specs.Text.{itemOf}
 use Rattle.text.specs.TextLaws.{onward}
 use Rattle.text.specs.Journal.{recordFor}
@@ -59,12 +58,7 @@ tag-word (SetSeats t s h x) = omega arith
 abbrev Makes : ℕ → Type 0
 Makes t = (xs : List ℕ) (at next : ℕ) → (c : Command) × (made t (named xs) at next ≡ found c next)
 
-infixr 5 _▸_
-data Each : List Name → Type 0 where
-  none : Each []
-  _▸_ : {n : Name} {ns : List Name} → Makes (n .tag) → Each ns → Each (n ∷ ns)
-
-all-make : Each names
+all-make : Each Makes names
 unfolding made madeIn pick
 all-make =
     (λ xs at next. (_, refl))
@@ -91,20 +85,10 @@ all-make =
     ▸ (λ xs at next. (_, refl))
     ▸ (λ xs at next. (_, refl))
     ▸ (λ xs at next. (_, refl))
-    ▸ none
-
-makes-in : (ns : List Name) (t : ℕ) → Each ns → 0 < length (wordIn ns t) → Makes t
-unfolding wordIn pick
-makes-in [] t a h = absurd (omega arith)
-makes-in (n ∷ ns) t (m ▸ a) h = go (eqb t (n .tag)) refl (λ k. makes-in ns t a k) h
-  where
-    go : (b : Bool) → eqb t (n .tag) ≡ b → (0 < length (wordIn ns t) → Makes t) → 0 < length (pick b (n .word) (wordIn ns t)) → Makes t
-    go true e i k = rw (eqb-true t (n .tag) e) m
-    go false e i k = i k
+    ▸ tt
 
 makes : (t : ℕ) → 0 < length (wordOf t) → Makes t
-unfolding wordOf
-makes t h = makes-in names t all-make h
+makes t h = each Makes t all-make h
 
 -- ---- what stands in a journal
 

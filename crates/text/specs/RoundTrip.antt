@@ -1,12 +1,12 @@
 -- The two translations undo each other. Assumes nothing.
 use mathlib.Core.Path.{_≡_, refl, sym, ap, _∙_}
 use mathlib.Core.Bool.{Bool, true, false, _&&_}
-use mathlib.Core.List.{List, [], _∷_, _++_}
-use Prim.Native.Nat.{ℕ, _+_, _≤_, _<_}
+use mathlib.Core.List.{List, [], _++_}
+use Prim.Native.Nat.{ℕ}
 use native.Mathlib.Omega.{arith}
-use lib.ListN.{length, take, drop}
+use lib.ListN.{length, drop}
 use lib.Dec.{eqb}
-use Rattle.refusal.specs.Choice.{pick, pick-on, pick-off}
+use Rattle.refusal.specs.Choice.{pick, pick-on}
 use Rattle.refusal.specs.Refusal.{number, journalMalformed}
 use Rattle.wire.specs.Field.{bytesOf, headOf, fieldOf, begins, numberAt}
 use Rattle.wire.specs.NumberLaws.{Bytes}
@@ -15,7 +15,6 @@ use Rattle.journal.specs.RoundTrip.{header-back}
 use Rattle.journal.specs.Canonical.{header-canonical}
 use Rattle.text.specs.Line.{lineOf}
 use Rattle.text.specs.Walk.{Walk, halted, walkBy, allOf}
-use Rattle.text.specs.Reading.{lineAt}
 use Rattle.text.specs.Answers.{Outcome, whole, faulty}
 use Rattle.text.specs.Text.{itemOf, recordsFrom, recordsOf, linesOf, textOf}
 use Rattle.text.specs.TextLaws.{records-headed, text-whole}

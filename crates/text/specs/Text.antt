@@ -1,5 +1,5 @@
 -- The text of a journal: the lines of its commands in order. The header is implied.
-use mathlib.Core.Bool.{Bool, true, false}
+use mathlib.Core.Bool.{true}
 use mathlib.Core.List.{List}
 use Prim.Native.Nat.{ℕ}
 use lib.Dec.{eqb}

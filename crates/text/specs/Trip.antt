@@ -1,13 +1,12 @@
 -- A walk and writing: what is read is what writing gives, and what is written is read. Assumes nothing.
 use mathlib.Core.Path.{_≡_, refl, sym, ap, _∙_}
-use mathlib.Core.Bool.{Bool, true, false}
+use mathlib.Core.Bool.{false}
 use mathlib.Core.List.{List, [], _∷_, _++_, append-nil, append-assoc}
 use Prim.Native.Nat.{ℕ, zero, suc, _+_, _≤_, _<_}
 use native.Mathlib.Omega.{arith}
-use native.Mathlib.Nat.{add-zero}
 use lib.ListN.{length, take, drop, length-append}
 use lib.Seq.{drop-drop}
-use Rattle.text.specs.Walk.{Item, item, fault, end, Walk, halted, more, follow, walkBy, allOf}
+use Rattle.text.specs.Walk.{Item, item, fault, end, Walk, follow, walkBy, allOf}
 use Rattle.text.specs.WalkLaws.{Onward, from-here}
 use Rattle.text.specs.ReadingLaws.{drop-all}
 

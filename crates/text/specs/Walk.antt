@@ -1,7 +1,7 @@
 -- What is read from a place on, command after command, to the end or to a fault.
 use mathlib.Core.Bool.{Bool, true, false}
 use mathlib.Core.List.{List, [], _∷_, _++_}
-use Prim.Native.Nat.{ℕ, zero, suc, _≤_, _<_}
+use Prim.Native.Nat.{ℕ, zero, suc}
 
 -- what stands at a place: a command, as its tag and its numbers, and the place past it; a fault; or the end
 pub data Item : Type 0 where

@@ -2,14 +2,6 @@ use Rattle.text.specs.AnswerLaws.{within}
 use borrow.Author.Needs.{needs}
 use Rattle.scribe.proofs.main.Statement.{statement}
 use Rattle.scribe.proofs.main.Tie as tie
-use Rattle.scribe.proofs.main.Reads as reads
-use Rattle.scribe.proofs.main.Lts as lts
-use Rattle.io.proofs.read_full.Reads as read-full-reads
-use Rattle.scribe.proofs.is_journal.Reads as is-journal-reads
-use Rattle.scribe.proofs.show.Reads as show-reads
-use Rattle.scribe.proofs.too_long.Reads as too-long-reads
-use Rattle.text.proofs.to_journal.Reads as to-journal-reads
-use Rattle.text.proofs.to_text.Reads as to-text-reads
 
 -- src/main.rt:41:30
 slice-aggregate-read-full : tie.Need-slice-aggregate-read-full

@@ -3,11 +3,6 @@ use mathlib.Core.Path.{sym}
 use borrow.Author.Needs.{needs}
 use Rattle.scribe.proofs.show.Statement.{statement}
 use Rattle.scribe.proofs.show.Tie as tie
-use Rattle.scribe.proofs.show.Reads as reads
-use Rattle.scribe.proofs.show.Lts as lts
-use Rattle.io.proofs.print_decimal.Reads as print-decimal-reads
-use Rattle.io.proofs.write_all.Reads as write-all-reads
-use Rattle.scribe.proofs.too_long.Reads as too-long-reads
 
 -- src/main.rt:24:22
 enum-known-r : tie.Need-enum-known-r

@@ -1,13 +1,10 @@
 use Rattle.text.specs.JournalLaws.{journal-faulty, journal-whole}
 use Rattle.text.specs.AnswerLaws.{at-fault, no-space, in-space}
 use Rattle.text.specs.Answers.{faulty}
-use mathlib.Core.Path.{_≡_, sym, ap, _∙_}
+use mathlib.Core.Path.{sym, ap, _∙_}
 use borrow.Author.Needs.{needs}
 use Rattle.text.proofs.to_journal.Statement.{statement}
 use Rattle.text.proofs.to_journal.Tie as tie
-use Rattle.text.proofs.to_journal.Reads as reads
-use Rattle.text.proofs.to_journal.Lts as lts
-use Rattle.text.proofs.tell_lines.Reads as tell-lines-reads
 
 -- src/lib.rt:76:9
 tell-lines-requires : tie.Need-tell-lines-requires

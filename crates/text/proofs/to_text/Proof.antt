@@ -1,13 +1,10 @@
 use Rattle.text.specs.TextLaws.{text-faulty, text-whole}
 use Rattle.text.specs.AnswerLaws.{at-fault, no-space, in-space}
 use Rattle.text.specs.Answers.{faulty}
-use mathlib.Core.Path.{_≡_, sym, ap, _∙_}
+use mathlib.Core.Path.{sym, ap, _∙_}
 use borrow.Author.Needs.{needs}
 use Rattle.text.proofs.to_text.Statement.{statement}
 use Rattle.text.proofs.to_text.Tie as tie
-use Rattle.text.proofs.to_text.Reads as reads
-use Rattle.text.proofs.to_text.Lts as lts
-use Rattle.text.proofs.tell.Reads as tell-reads
 
 -- src/lib.rt:76:9
 tell-requires : tie.Need-tell-requires

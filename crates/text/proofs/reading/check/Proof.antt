@@ -1,4 +1,4 @@
-use mathlib.Core.Path.{_∙_, sym, refl}
+use mathlib.Core.Path.{_∙_, sym}
 use borrow.Author.Needs.{needs}
 use Rattle.refusal.specs.Choice.{pick-on, pick-off}
 use Rattle.text.specs.Reading.{checked}

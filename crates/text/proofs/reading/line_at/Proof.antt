@@ -1,5 +1,5 @@
-use mathlib.Core.Path.{_≡_, refl, sym, ap, _∙_}
-use mathlib.Core.Bool.{true, false}
+use mathlib.Core.Path.{_≡_, sym, ap, _∙_}
+use mathlib.Core.Bool.{true}
 use mathlib.Core.List.{List}
 use Prim.Native.Nat.{ℕ, _+_, _≤_, _<_}
 use native.Mathlib.Omega.{arith}
@@ -7,17 +7,15 @@ use lib.ListN.{length, getD, take, drop, length-drop}
 use lib.Seq.{drop-drop, getD-drop}
 use borrow.Author.Needs.{needs}
 use borrow.Author.Tests.{not-true, not-false}
-use Rattle.journal.specs.Table.{fieldsOf, padded, listed}
+use Rattle.journal.specs.Table.{fieldsOf, padded}
 use Rattle.journal.specs.TableLaws.{few, take-padded}
 use Rattle.journal.specs.declared.table.Listed.{Listed}
 use Rattle.text.specs.Names.{wordOf}
-use Rattle.text.specs.Walk.{item}
 use Rattle.text.specs.Reading.{leads, tagIn, Read, readIn, numbersFor, lineFor}
 use Rattle.text.specs.ReadingLaws.{there, tag-leads, leads-room}
 use Rattle.text.specs.LineReads.{numbersThere, nameless, numberless, endless, lined}
 use Rattle.text.specs.declared.names.Spelling.{Spelling}
 use Rattle.text.specs.declared.reading.Numbers.{Numbers}
-use Rattle.text.specs.declared.reading.Line.{Line}
 use Rattle.text.proofs.reading.line_at.Statement.{statement}
 use Rattle.text.proofs.reading.line_at.Tie as tie
 

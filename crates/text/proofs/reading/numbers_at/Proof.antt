@@ -1,5 +1,4 @@
-use mathlib.Core.Path.{_≡_, refl, sym, ap, _∙_}
-use mathlib.Core.List.{List}
+use mathlib.Core.Path.{_≡_, sym, ap, _∙_}
 use Prim.Native.Nat.{ℕ, _+_, _-_, _≤_, _<_}
 use native.Mathlib.Omega.{arith}
 use native.Mathlib.Nat.{add-zero}
@@ -8,7 +7,7 @@ use lib.Seq.{drop-drop, getD-take, length-take-le}
 use borrow.Author.Needs.{needs}
 use borrow.Author.Tests.{not-true, not-false}
 use Rattle.journal.specs.Table.{padded}
-use Rattle.text.specs.Reading.{Read, unread, spacedIn, readIn, numbersFor}
+use Rattle.text.specs.Reading.{unread, spacedIn, readIn, numbersFor}
 use Rattle.text.specs.ReadingLaws.{spaced-size}
 use Rattle.text.specs.NumbersLaws.{Gathering, gather-none, gather-on, gather-out, gather-done}
 use Rattle.text.specs.declared.reading.Numeral.{Numeral}

@@ -1,15 +1,12 @@
-use mathlib.Core.Path.{_≡_, refl, sym, ap, _∙_}
-use mathlib.Core.Bool.{Bool, true, false, _&&_}
+use mathlib.Core.Path.{_≡_, sym, ap, _∙_}
 use mathlib.Core.List.{List}
-use Prim.Native.Nat.{ℕ, _+_, _-_, _≤_, _<_}
+use Prim.Native.Nat.{ℕ, _+_, _-_, _<_}
 use native.Mathlib.Omega.{arith}
 use lib.ListN.{length, getD, drop, length-drop}
 use lib.Seq.{drop-drop}
-use lib.Dec.{ltb}
 use borrow.Author.Needs.{needs}
 use borrow.Author.Tests.{not-true, not-false, ltb-true}
 use Rattle.wire.specs.FieldLaws.{and-right}
-use Rattle.text.specs.Line.{isSigned}
 use Rattle.text.specs.Reading.{numeral, naturalIn, negated, numeralIn}
 use Rattle.text.specs.ReadingLaws.{there, first-of, plain-number, positive-number, negative-number, no-negative, negative, natural-size}
 use Rattle.text.specs.declared.reading.Numeral.{Numeral}

@@ -1,12 +1,12 @@
-use mathlib.Core.Path.{_≡_, sym, ap, _∙_}
+use mathlib.Core.Path.{sym, ap, _∙_}
 use mathlib.Core.List.{List}
-use Prim.Native.Nat.{ℕ, _≤_}
+use Prim.Native.Nat.{ℕ}
 use native.Mathlib.Omega.{arith}
-use lib.ListN.{length, take}
+use lib.ListN.{take}
 use lib.Seq.{length-take-le}
 use borrow.Author.Needs.{needs}
 use Rattle.sheet.specs.SheetLaws.{next, retext}
-use Rattle.journal.specs.Table.{fieldsOf, listed}
+use Rattle.journal.specs.Table.{fieldsOf}
 use Rattle.journal.specs.TableLaws.{few, take-padded}
 use Rattle.journal.specs.declared.table.Listed.{Listed}
 use Rattle.text.specs.Names.{wordOf}
@@ -14,12 +14,6 @@ use Rattle.text.specs.Line.{numeralsOf, lineOf}
 use Rattle.text.specs.LineLaws.{word-fits, word-in}
 use Rattle.text.proofs.writing.put_line.Statement.{statement}
 use Rattle.text.proofs.writing.put_line.Tie as tie
-use Rattle.text.proofs.writing.put_line.Reads as reads
-use Rattle.text.proofs.writing.put_line.Lts as lts
-use Rattle.journal.proofs.table.fields.Reads as fields-reads
-use Rattle.sheet.proofs.put.Reads as put-reads
-use Rattle.text.proofs.names.word.Reads as word-reads
-use Rattle.text.proofs.writing.put_numerals.Reads as put-numerals-reads
 
 -- src/writing.rt:61:9
 word-requires : tie.Need-word-requires

@@ -1,15 +1,10 @@
-use mathlib.Core.Path.{_≡_, sym, _∙_}
+use mathlib.Core.Path.{sym, _∙_}
 use borrow.Author.Needs.{needs}
 use Rattle.refusal.specs.Choice.{pick-on, pick-off}
 use Rattle.sheet.specs.SheetLaws.{retext}
 use Rattle.text.specs.Line.{numeralOf}
 use Rattle.text.proofs.writing.put_numeral.Statement.{statement}
 use Rattle.text.proofs.writing.put_numeral.Tie as tie
-use Rattle.text.proofs.writing.put_numeral.Reads as reads
-use Rattle.text.proofs.writing.put_numeral.Lts as lts
-use Rattle.sheet.proofs.put_decimal.Reads as put-decimal-reads
-use Rattle.text.proofs.writing.put_signed.Reads as put-signed-reads
-use Rattle.text.proofs.writing.signed.Reads as signed-reads
 
 -- src/writing.rt:28:8
 signed-requires : tie.Need-signed-requires

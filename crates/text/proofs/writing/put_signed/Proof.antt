@@ -1,18 +1,13 @@
-use mathlib.Core.Path.{_≡_, sym, ap}
-use Prim.Native.Nat.{ℕ, _+_, _-_}
+use mathlib.Core.Path.{_≡_, sym}
+use Prim.Native.Nat.{_+_, _-_}
 use native.Mathlib.Omega.{arith}
 use borrow.Author.Needs.{needs}
 use borrow.Author.Tests.{lt-ltb, le-ltb}
 use Rattle.refusal.specs.Choice.{pick-on, pick-off}
-use Rattle.sheet.specs.Decimal.{decimalOf}
 use Rattle.sheet.specs.SheetLaws.{next, retext}
 use Rattle.text.specs.Line.{signedOf}
 use Rattle.text.proofs.writing.put_signed.Statement.{statement}
 use Rattle.text.proofs.writing.put_signed.Tie as tie
-use Rattle.text.proofs.writing.put_signed.Reads as reads
-use Rattle.text.proofs.writing.put_signed.Lts as lts
-use Rattle.sheet.proofs.put.Reads as put-reads
-use Rattle.sheet.proofs.put_decimal.Reads as put-decimal-reads
 
 -- src/writing.rt:19:9
 put-decimal-requires : tie.Need-put-decimal-requires

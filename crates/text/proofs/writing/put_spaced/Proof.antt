@@ -2,10 +2,6 @@ use Rattle.sheet.specs.SheetLaws.{next}
 use borrow.Author.Needs.{needs}
 use Rattle.text.proofs.writing.put_spaced.Statement.{statement}
 use Rattle.text.proofs.writing.put_spaced.Tie as tie
-use Rattle.text.proofs.writing.put_spaced.Reads as reads
-use Rattle.text.proofs.writing.put_spaced.Lts as lts
-use Rattle.sheet.proofs.put.Reads as put-reads
-use Rattle.text.proofs.writing.put_numeral.Reads as put-numeral-reads
 
 -- src/writing.rt:41:39
 slice-aggregate-put : tie.Need-slice-aggregate-put
