@@ -1,0 +1,63 @@
+// What the benchmark runs: one call repeated on the book of a journal. What comes back only keeps the calls from being left out.
+use query::LenderAnswer;
+use query::OfferAnswer;
+
+#[no_mangle]
+pub extern "C" fn timing_replay(journal: &[u8]) -> u64 {
+    let o = replay::replay(journal);
+    o.count as u64
+}
+
+#[no_mangle]
+pub extern "C" fn timing_lender(journal: &[u8], account: u64, times: u64) -> u64 {
+    let o = replay::replay(journal);
+    let book = o.book;
+    let mut mixed: u64 = 0;
+    for i in 0..times {
+        let r = query::get_lender_stats(book, account ^ (i & 1));
+        match r {
+            LenderAnswer::Lender(x) => {
+                mixed = mixed ^ x.offered;
+            }
+            LenderAnswer::Unsound => {
+                mixed = mixed ^ 1;
+            }
+        }
+    }
+    mixed
+}
+
+#[no_mangle]
+pub extern "C" fn timing_offer(journal: &[u8], id: u64, times: u64) -> u64 {
+    let o = replay::replay(journal);
+    let book = o.book;
+    let mut mixed: u64 = 0;
+    for i in 0..times {
+        let r = query::get_offer(book, id ^ (i & 1));
+        match r {
+            OfferAnswer::Offer(x) => {
+                mixed = mixed ^ x.amount;
+            }
+            OfferAnswer::Absent => {
+                mixed = mixed ^ 4;
+            }
+            OfferAnswer::Unsound => {
+                mixed = mixed ^ 1;
+            }
+        }
+    }
+    mixed
+}
+
+#[no_mangle]
+pub extern "C" fn timing_sound(journal: &[u8], times: u64) -> u64 {
+    let o = replay::replay(journal);
+    let book = o.book;
+    let mut mixed: u64 = 0;
+    for i in 0..times {
+        if book.sound() {
+            mixed = mixed ^ i;
+        }
+    }
+    mixed
+}
