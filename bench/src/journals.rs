@@ -7,8 +7,27 @@ use plain::Plain;
 
 const HEADER: [u8; 5] = [0x10, 0, 2, 0, 1];
 
-pub fn mixed(journals: u64, commands: usize) -> Vec<Vec<u8>> {
-    (0..journals).map(|seed| one(seed, commands)).collect()
+/// Writes so many journals one after the other, each after its length in eight bytes.
+pub fn write(file: &str, journals: u64, commands: usize) {
+    let mut all = Vec::new();
+    for seed in 0..journals {
+        let bytes = one(seed, commands);
+        all.extend((bytes.len() as u64).to_be_bytes());
+        all.extend(bytes);
+    }
+    std::fs::write(file, all).expect("the file can be written");
+}
+
+pub fn read(file: &str) -> Vec<Vec<u8>> {
+    let all = std::fs::read(file).expect("the file can be read");
+    let mut rest = &all[..];
+    let mut journals = Vec::new();
+    while let Some((length, more)) = rest.split_first_chunk() {
+        let (bytes, after) = more.split_at(u64::from_be_bytes(*length) as usize);
+        journals.push(bytes.to_vec());
+        rest = after;
+    }
+    journals
 }
 
 fn one(seed: u64, commands: usize) -> Vec<u8> {

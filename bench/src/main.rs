@@ -14,11 +14,11 @@ const COMMANDS: usize = 500;
 
 fn main() {
     let words: Vec<_> = std::env::args().skip(1).collect();
-    let journals = journals::mixed(JOURNALS, COMMANDS);
     match words.iter().map(String::as_str).collect::<Vec<_>>()[..] {
-        ["count", side] => count(side, &journals),
-        [runs] => measure(runs.parse().expect("a number of runs"), &journals),
-        _ => measure(7, &journals),
+        ["write", file] => journals::write(file, JOURNALS, COMMANDS),
+        ["count", side, file] => count(side, &journals::read(file)),
+        ["measure", runs, file] => measure(runs.parse().expect("a number of runs"), &journals::read(file)),
+        _ => eprintln!("usage: bench write FILE, bench measure RUNS FILE, bench count SIDE FILE"),
     }
 }
 
