@@ -9,7 +9,7 @@
 //! assert_eq!(journal.lender(1).unwrap().offered, 0);
 //! ```
 //!
-//! Nothing is kept between calls but the bytes of the journal: every read replays them. A call takes up to 1 MiB of stack.
+//! Nothing is kept between calls but the bytes of the journal: every read replays them. Give a thread that calls it 1 MiB of stack or more.
 
 mod calls;
 
@@ -114,8 +114,8 @@ impl Journal {
 
     /// Adds commands, one a line. A line that is none is refused by its number, and nothing is added.
     pub fn write(&mut self, text: &str) -> Result<(), Refusal> {
-        // a line of n bytes is a record of at most 12 n bytes: each field takes two or more of the line and eleven of the record
-        let mut more = vec![0; HEADER + 12 * text.len()];
+        // a line of k fields has 6 + 2 k bytes or more, and its record 3 + 11 k
+        let mut more = vec![0; HEADER + 6 * text.len()];
         let size = calls::journal(text, &mut more)?;
         self.0.extend_from_slice(&more[HEADER..size]);
         Ok(())
@@ -123,8 +123,8 @@ impl Journal {
 
     /// The commands as lines of text.
     pub fn text(&self) -> Result<String, Refusal> {
-        // a field of eleven bytes is at most a space and twenty digits
-        let mut out = vec![0; 32 + 2 * self.0.len()];
+        // a record of k fields has 3 + 11 k bytes, k from 2 on, and its line at most 18 + 21 k: a name, k numbers, a newline
+        let mut out = vec![0; 3 * self.0.len()];
         let size = calls::text(&self.0, &mut out)?;
         out.truncate(size);
         Ok(String::from_utf8(out).expect("names, digits and spaces"))

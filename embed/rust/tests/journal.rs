@@ -54,6 +54,24 @@ fn text_comes_back() {
 }
 
 #[test]
+fn the_longest_lines_come_back() {
+    let most = u64::MAX;
+    let line = format!("repayment-account {most} {most} {most}\nopen-account {most} {most}\n");
+    let text = line.repeat(50);
+    let mut journal = Journal::new();
+    journal.write(&text).expect("lines of commands");
+    assert_eq!(journal.text().expect("a whole journal"), text);
+}
+
+#[test]
+fn the_shortest_lines_are_written() {
+    let text = "create 0 0 0 0 0 0 0 0\npause 0 0\n".repeat(50);
+    let mut journal = Journal::new();
+    journal.write(&text).expect("lines of commands");
+    assert_eq!(journal.text().expect("a whole journal"), text);
+}
+
+#[test]
 fn figures_after_the_session() {
     let journal = session();
     let lender = Lender { offered: 900, accepted: 900, pending: 1, repaid: 0 };
