@@ -1,4 +1,4 @@
--- How a method that changes one part of the book answers
+-- How a step that changes one part of what it sees answers
 use Prim.Native.Nat.{ℕ}
 use mathlib.Core.Path.{_≡_, refl, sym, ap, _∙_}
 use mathlib.Core.Bool.{Bool, true, false}
@@ -27,11 +27,11 @@ use Rattle.settings.specs.declared.TotalsPosted.{TotalsPosted}
 use Rattle.shelves.specs.Accounts.{accountsOf, storedAccounts, seenAccount}
 use Rattle.shelves.specs.Invoices.{invoicesOf, storedInvoices, seenInvoice}
 use Rattle.shelves.specs.Offers.{dealsOf, storedDeals, seenDeal}
-use Rattle.book.specs.declared.Book.{Book}
-use Rattle.book.specs.declared.Step.{Step}
+use Rattle.book.specs.declared.Near.{Near}
+use Rattle.book.specs.declared.Turn.{Turn}
 use Rattle.book.specs.Model.{Model, accountIn, invoiceIn, offerIn, onAccount, onInvoice, onOffer, onTotals, onSettings, withAccounts, withInvoices, withOffers, withTotals, withSettings}
-use Rattle.book.specs.Stored.{modelOf, stored, stepOf, Shelved}
-use Rattle.book.specs.Shelving.{bookOf, back, new-accounts, new-invoices, new-offers, new-totals, new-settings}
+use Rattle.book.specs.Near.{putDeal, Sited, modelNear, viewOf, turnOf, Shows}
+use Rattle.book.specs.Sites.{nearBy, back, new-accounts, new-invoices, new-deal, new-totals, new-settings, seen-put}
 
 module _ {A : Type 0} where
   adjust-id : (t : Table A) (i : ℕ) → adjust t i (λ old. old) ≡ t
@@ -59,68 +59,68 @@ module _ {A : Type 0} where
   after-row g h t i u false = adjust-back g h t i
 
 -- a table in the book: `into` puts it there
-module _ {A : Type 0} (g : Found A → A) (h : (r : A) → g (here r) ≡ r) (into : Table A → Model) (t : Table A) (i : ℕ) (u : Rule A) where
-  table-step : stepOf (first (u .checks)) (into (adjust t i (λ old. after (g (find t i)) u))) ≡ answered stepOf (into t) (record { checks = u .checks; done = into (adjust t i (λ old. u .done)) })
+module _ {A S : Type 0} (mk : ℕ → Model → S) (g : Found A → A) (h : (r : A) → g (here r) ≡ r) (into : Table A → Model) (t : Table A) (i : ℕ) (u : Rule A) where
+  table-step : mk (first (u .checks)) (into (adjust t i (λ old. after (g (find t i)) u))) ≡ answered mk (into t) (record { checks = u .checks; done = into (adjust t i (λ old. u .done)) })
   unfolding answered after pick
-  table-step = ap (λ z. stepOf (first (u .checks)) (into z)) (after-row g h t i u (eqb (first (u .checks)) 0)) ∙ go (eqb (first (u .checks)) 0)
+  table-step = ap (λ z. mk (first (u .checks)) (into z)) (after-row g h t i u (eqb (first (u .checks)) 0)) ∙ go (eqb (first (u .checks)) 0)
     where
-      go : (b : Bool) → stepOf (first (u .checks)) (into (pick b (adjust t i (λ old. u .done)) t)) ≡ stepOf (first (u .checks)) (pick b (into (adjust t i (λ old. u .done))) (into t))
+      go : (b : Bool) → mk (first (u .checks)) (into (pick b (adjust t i (λ old. u .done)) t)) ≡ mk (first (u .checks)) (pick b (into (adjust t i (λ old. u .done))) (into t))
       go true = refl
       go false = refl
 
-module _ {b : Book} (k : Shelved b) where
-  pub account-step : (a : ℕ) (u : Rule Account) (p : AccountPosted) → p ≡ answered Account.posted (accountIn (modelOf b) a .row) u
-      → record { answer = p .answer; book = bookOf (storedAccounts (adjust (accountsOf (b .accounts)) a (λ old. p .row))) (b .invoices) (b .offers) (b .totals) (b .settings) }
-      ≡ answered stepOf (modelOf b) (onAccount (modelOf b) a u)
+-- a part that is one value: `into` puts it into the model
+part-step : {A S : Type 0} (mk : ℕ → Model → S) (into : A → Model) (old : A) (u : Rule A) → mk (first (u .checks)) (into (after old u)) ≡ answered mk (into old) (record { checks = u .checks; done = into (u .done) })
+unfolding answered after pick
+part-step mk into old u = go (eqb (first (u .checks)) 0)
+  where
+    go : (e : Bool) → mk (first (u .checks)) (into (pick e (u .done) old)) ≡ mk (first (u .checks)) (pick e (into (u .done)) (into old))
+    go true = refl
+    go false = refl
+
+abbrev turned : ℕ → Near → Turn
+turned a n = record { answer = a; near = n }
+
+module _ {n : Near} (k : Sited n) {o : ℕ} {t : Table declaredDeal.Deal} (e : Shows n o t) where
+  pub account-step : (a : ℕ) (u : Rule Account) (p : AccountPosted) → p ≡ answered Account.posted (accountIn (modelNear n t) a .row) u
+      → turned (p .answer) (nearBy (storedAccounts (adjust (accountsOf (n .accounts)) a (λ old. p .row))) (n .invoices) (n .deal) (n .totals) (n .settings)) ≡ answered (turnOf o) (modelNear n t) (onAccount (modelNear n t) a u)
   unfolding answered
-  account-step a u p e =
-      ap (λ z. record { answer = z .answer; book = bookOf (storedAccounts (adjust (accountsOf (b .accounts)) a (λ old. z .row))) (b .invoices) (b .offers) (b .totals) (b .settings) }) e
-      ∙ ap (λ z. record { answer = first (u .checks); book = z }) (new-accounts k _)
-      ∙ table-step (λ o. seenAccount o .row) (λ r. refl) (λ t. withAccounts t (modelOf b)) (accountsOf (b .accounts)) a u
+  account-step a u p q =
+      ap (λ z. turned (z .answer) (nearBy (storedAccounts (adjust (accountsOf (n .accounts)) a (λ old. z .row))) (n .invoices) (n .deal) (n .totals) (n .settings))) q
+      ∙ ap (turned (first (u .checks))) (new-accounts k e _)
+      ∙ table-step (turnOf o) (λ x. seenAccount x .row) (λ r. refl) (λ x. withAccounts x (modelNear n t)) (accountsOf (n .accounts)) a u
 
-  pub invoice-step : (i : ℕ) (u : Rule declaredInvoice.Invoice) (p : InvoicePosted) → p ≡ answered Invoice.posted (invoiceIn (modelOf b) i .row) u
-      → record { answer = p .answer; book = bookOf (b .accounts) (storedInvoices (adjust (invoicesOf (b .invoices)) i (λ old. p .row))) (b .offers) (b .totals) (b .settings) }
-      ≡ answered stepOf (modelOf b) (onInvoice (modelOf b) i u)
+  pub invoice-step : (i : ℕ) (u : Rule declaredInvoice.Invoice) (p : InvoicePosted) → p ≡ answered Invoice.posted (invoiceIn (modelNear n t) i .row) u
+      → turned (p .answer) (nearBy (n .accounts) (storedInvoices (adjust (invoicesOf (n .invoices)) i (λ old. p .row))) (n .deal) (n .totals) (n .settings)) ≡ answered (turnOf o) (modelNear n t) (onInvoice (modelNear n t) i u)
   unfolding answered
-  invoice-step i u p e =
-      ap (λ z. record { answer = z .answer; book = bookOf (b .accounts) (storedInvoices (adjust (invoicesOf (b .invoices)) i (λ old. z .row))) (b .offers) (b .totals) (b .settings) }) e
-      ∙ ap (λ z. record { answer = first (u .checks); book = z }) (new-invoices k _)
-      ∙ table-step (λ o. seenInvoice o .row) (λ r. refl) (λ t. withInvoices t (modelOf b)) (invoicesOf (b .invoices)) i u
+  invoice-step i u p q =
+      ap (λ z. turned (z .answer) (nearBy (n .accounts) (storedInvoices (adjust (invoicesOf (n .invoices)) i (λ old. z .row))) (n .deal) (n .totals) (n .settings))) q
+      ∙ ap (turned (first (u .checks))) (new-invoices k e _)
+      ∙ table-step (turnOf o) (λ x. seenInvoice x .row) (λ r. refl) (λ x. withInvoices x (modelNear n t)) (invoicesOf (n .invoices)) i u
 
-  pub offer-step : (o : ℕ) (u : Rule declaredDeal.Deal) (p : DealPosted) → p ≡ answered Offer.posted (offerIn (modelOf b) o .row) u
-      → record { answer = p .answer; book = bookOf (b .accounts) (b .invoices) (storedDeals (adjust (dealsOf (b .offers)) o (λ old. p .row))) (b .totals) (b .settings) }
-      ≡ answered stepOf (modelOf b) (onOffer (modelOf b) o u)
+  pub offer-step : (u : Rule declaredDeal.Deal) (p : DealPosted) → p ≡ answered Offer.posted (offerIn (modelNear n t) o .row) u
+      → turned (p .answer) (nearBy (n .accounts) (n .invoices) (putDeal (n .deal) (p .row)) (n .totals) (n .settings)) ≡ answered (turnOf o) (modelNear n t) (onOffer (modelNear n t) o u)
   unfolding answered
-  offer-step o u p e =
-      ap (λ z. record { answer = z .answer; book = bookOf (b .accounts) (b .invoices) (storedDeals (adjust (dealsOf (b .offers)) o (λ old. z .row))) (b .totals) (b .settings) }) e
-      ∙ ap (λ z. record { answer = first (u .checks); book = z }) (new-offers k _)
-      ∙ table-step (λ o. seenDeal o .row) (λ r. refl) (λ t. withOffers t (modelOf b)) (dealsOf (b .offers)) o u
+  offer-step u p q =
+      ap (λ z. turned (z .answer) (nearBy (n .accounts) (n .invoices) (putDeal (n .deal) (z .row)) (n .totals) (n .settings))) q
+      ∙ ap (turned (first (u .checks))) (new-deal k e _)
+      ∙ table-step (turnOf o) (λ x. seenDeal x .row) (λ r. refl) (λ x. withOffers x (modelNear n t)) t o u
 
-  -- a part that is one value: `into` puts it into the model
-  part-step : {A : Type 0} (into : A → Model) (old : A) (u : Rule A) → stepOf (first (u .checks)) (into (after old u)) ≡ answered stepOf (into old) (record { checks = u .checks; done = into (u .done) })
-  unfolding answered after pick
-  part-step into old u = go (eqb (first (u .checks)) 0)
-    where
-      go : (e : Bool) → stepOf (first (u .checks)) (into (pick e (u .done) old)) ≡ stepOf (first (u .checks)) (pick e (into (u .done)) (into old))
-      go true = refl
-      go false = refl
-
-  pub totals-step : (u : Rule declaredTotals.Totals) (p : TotalsPosted) → p ≡ answered Totals.counted (b .totals) u
-      → record { answer = p .answer; book = bookOf (b .accounts) (b .invoices) (b .offers) (p .row) (b .settings) } ≡ answered stepOf (modelOf b) (onTotals (modelOf b) u)
+  pub totals-step : (u : Rule declaredTotals.Totals) (p : TotalsPosted) → p ≡ answered Totals.counted (n .totals) u
+      → turned (p .answer) (nearBy (n .accounts) (n .invoices) (n .deal) (p .row) (n .settings)) ≡ answered (turnOf o) (modelNear n t) (onTotals (modelNear n t) u)
   unfolding answered
-  totals-step u p e =
-      ap (λ z. record { answer = z .answer; book = bookOf (b .accounts) (b .invoices) (b .offers) (z .row) (b .settings) }) e
-      ∙ ap (λ z. record { answer = first (u .checks); book = z }) (new-totals k _)
-      ∙ part-step (λ t. withTotals t (modelOf b)) (b .totals) u
+  totals-step u p q =
+      ap (λ z. turned (z .answer) (nearBy (n .accounts) (n .invoices) (n .deal) (z .row) (n .settings))) q
+      ∙ ap (turned (first (u .checks))) (new-totals k e _)
+      ∙ part-step (turnOf o) (λ x. withTotals x (modelNear n t)) (n .totals) u
 
-  pub settings-step : (u : Rule declaredSettings.Settings) (p : SettingsPosted) → p ≡ answered Settings.posted (b .settings) u
-      → record { answer = p .answer; book = bookOf (b .accounts) (b .invoices) (b .offers) (b .totals) (p .row) } ≡ answered stepOf (modelOf b) (onSettings (modelOf b) u)
+  pub settings-step : (u : Rule declaredSettings.Settings) (p : SettingsPosted) → p ≡ answered Settings.posted (n .settings) u
+      → turned (p .answer) (nearBy (n .accounts) (n .invoices) (n .deal) (n .totals) (p .row)) ≡ answered (turnOf o) (modelNear n t) (onSettings (modelNear n t) u)
   unfolding answered
-  settings-step u p e =
-      ap (λ z. record { answer = z .answer; book = bookOf (b .accounts) (b .invoices) (b .offers) (b .totals) (z .row) }) e
-      ∙ ap (λ z. record { answer = first (u .checks); book = z }) (new-settings k _)
-      ∙ part-step (λ s. withSettings s (modelOf b)) (b .settings) u
+  settings-step u p q =
+      ap (λ z. turned (z .answer) (nearBy (n .accounts) (n .invoices) (n .deal) (n .totals) (z .row))) q
+      ∙ ap (turned (first (u .checks))) (new-settings k e _)
+      ∙ part-step (turnOf o) (λ x. withSettings x (modelNear n t)) (n .settings) u
 
-  -- the book as it was, with a number
-  pub same : (n : ℕ) → record { answer = n; book = b } ≡ stepOf n (modelOf b)
-  same n = ap (λ z. record { answer = n; book = z }) (back k)
+  -- what was seen, with a number
+  pub same : (a : ℕ) → turned a n ≡ turnOf o a (modelNear n t)
+  same a = ap (turned a) (back k e)

@@ -5,6 +5,7 @@ use command::Command;
 use invoice::Invoice;
 use offer::Deal;
 use offer::DealPosted;
+use offer::SeenDeal;
 use settings::Settings;
 use settings::Totals;
 use shelves::Accounts;
@@ -20,10 +21,13 @@ ghost use Rattle.invoice.specs.Invoice.{cancelOf};
 ghost use Rattle.offer.specs.Rules.{withdrawOf, rejectOf, closeOf, scheduleOf, statusUpdateOf, repaidUpdateOf};
 ghost use Rattle.settings.specs.Settings.{adminPasses, isRepayer, pauseOf, windowOf, repayerOf, seatsOf};
 ghost use Rattle.settings.specs.Totals.{repayOf};
+ghost use Rattle.command.specs.Caller.{offerNamed};
 ghost use Rattle.command.specs.declared.Command.the-variants.{OpenAccount, Deposit, Payout, Approve, RegisterInvoice, CancelInvoice, CreateOffer, WithdrawOffer, AcceptOffer, RejectOffer, AmendOffer, CounterOffer, CloseNegotiation, ScheduleRepayment, UpdateStatus, UpdateRepaid, UpdateLenderRepaid, UpdateTotalsRepaid, Pause, Unpause, SetWindow, SetRepaymentAccount, SetBlacklisted, SetSeats};
 ghost use Rattle.book.specs.Model.{freshModel, accountIn, invoiceIn, offerIn, paperOf, onAccount, onInvoice, onOffer, onTotals, onSettings};
 ghost use Rattle.book.specs.Rules.{gateChecks, opening, registering, creating, settling, accepting, concluding, amending, countering, withLenderRound, counteredIn, rule, commanded};
 ghost use Rattle.book.specs.Stored.{modelOf, stored, stepOf, Shelved, bookTest, answers};
+ghost use Rattle.book.specs.Near.{putDeal, nearOf, bookWith, Sited, modelNear, Views, Turns, TurnsIn, TurnsAt, Concludes};
+ghost use Rattle.table.specs.Tables.{Table};
 
 // The whole book: it goes into a command by value and comes back with the answer.
 pub struct Book {
@@ -38,6 +42,843 @@ pub struct Book {
 pub struct Step {
     pub answer: u64,
     pub book: Book,
+}
+
+// What one command sees of a book: all but the offers, and of these the one that it names.
+pub struct Near {
+    pub accounts: Accounts,
+    pub invoices: Invoices,
+    pub deal: SeenDeal,
+    pub totals: Totals,
+    pub settings: Settings,
+}
+
+// A command's answer, 0 where it is accepted, and what it leaves of what it saw.
+pub struct Turn {
+    pub answer: u64,
+    pub near: Near,
+}
+
+// The row made `row`, where there is one.
+fn put(s: SeenDeal, row: Deal) -> SeenDeal
+    ensures { λ r. ⌜ r ≡ putDeal s row ⌝ }
+{
+    if !s.here {
+        return s;
+    }
+    SeenDeal {
+        here: true,
+        row: row,
+    }
+}
+
+impl Near {
+    fn opened(mut self, caller: u64) -> Turn
+        requires { ⌜ Sited self ⌝ }
+        ensures { λ r. ⌜ Turns self r (λ o m. opening m caller) ⌝ }
+    {
+        let accounts = self.accounts;
+        let s = accounts.get(caller);
+        if s.here {
+            return Turn {
+                answer: refusal::ALREADY_EXISTS,
+                near: self,
+            };
+        }
+        if accounts.full() {
+            return Turn {
+                answer: refusal::NO_ROOM,
+                near: self,
+            };
+        }
+        let row = Account::none();
+        let next = accounts.let_in(caller, row);
+        self.accounts = next;
+        Turn {
+            answer: 0,
+            near: self,
+        }
+    }
+
+    fn deposited(mut self, caller: u64, amount: i64) -> Turn
+        requires { ⌜ Sited self ⌝ }
+        ensures { λ r. ⌜ Turns self r (λ o m. onAccount m caller (depositOf (accountIn m caller .row) amount)) ⌝ }
+    {
+        let accounts = self.accounts;
+        let s = accounts.get(caller);
+        let r = s.row;
+        let p = r.deposit(amount);
+        let n = p.answer;
+        let row = p.row;
+        let next = accounts.put(caller, row);
+        self.accounts = next;
+        Turn {
+            answer: n,
+            near: self,
+        }
+    }
+
+    fn paid_out(mut self, caller: u64, amount: i64) -> Turn
+        requires { ⌜ Sited self ⌝ }
+        ensures { λ r. ⌜ Turns self r (λ o m. onAccount m caller (payoutOf (accountIn m caller .row) amount)) ⌝ }
+    {
+        let accounts = self.accounts;
+        let s = accounts.get(caller);
+        let r = s.row;
+        let p = r.payout(amount);
+        let n = p.answer;
+        let row = p.row;
+        let next = accounts.put(caller, row);
+        self.accounts = next;
+        Turn {
+            answer: n,
+            near: self,
+        }
+    }
+
+    fn approved(mut self, caller: u64, amount: i64) -> Turn
+        requires { ⌜ Sited self ⌝ }
+        ensures { λ r. ⌜ Turns self r (λ o m. onAccount m caller (approveOf (accountIn m caller .row) amount)) ⌝ }
+    {
+        let accounts = self.accounts;
+        let s = accounts.get(caller);
+        let r = s.row;
+        let p = r.approve(amount);
+        let n = p.answer;
+        let row = p.row;
+        let next = accounts.put(caller, row);
+        self.accounts = next;
+        Turn {
+            answer: n,
+            near: self,
+        }
+    }
+
+    fn registered(mut self, caller: u64, id: u64, amount: i64) -> Turn
+        requires { ⌜ Sited self ⌝ }
+        ensures { λ r. ⌜ Turns self r (λ o m. registering m caller id amount) ⌝ }
+    {
+        let invoices = self.invoices;
+        let s = invoices.get(id);
+        let f = invoices.full();
+        let n = invoice::register_refusal(amount, s.here, f);
+        if !(n == 0) {
+            return Turn {
+                answer: n,
+                near: self,
+            };
+        }
+        let row = Invoice::new(caller, amount);
+        let next = invoices.let_in(id, row);
+        self.invoices = next;
+        Turn {
+            answer: 0,
+            near: self,
+        }
+    }
+
+    fn cancelled(mut self, caller: u64, id: u64) -> Turn
+        requires { ⌜ Sited self ⌝ }
+        ensures { λ r. ⌜ Turns self r (λ o m. onInvoice m id (cancelOf (invoiceIn m id) caller)) ⌝ }
+    {
+        let invoices = self.invoices;
+        let s = invoices.get(id);
+        let p = s.cancel(caller);
+        let n = p.answer;
+        let row = p.row;
+        let next = invoices.put(id, row);
+        self.invoices = next;
+        Turn {
+            answer: n,
+            near: self,
+        }
+    }
+
+    fn withdrawn(mut self, caller: u64) -> Turn
+        requires { ⌜ Sited self ⌝ }
+        ensures { λ r. ⌜ Turns self r (λ o m. onOffer m o (withdrawOf (offerIn m o) caller)) ⌝ }
+    {
+        let s = self.deal;
+        let p = s.withdraw(caller);
+        let n = p.answer;
+        let row = p.row;
+        let next = put(s, row);
+        self.deal = next;
+        Turn {
+            answer: n,
+            near: self,
+        }
+    }
+
+    fn rejected(mut self, caller: u64) -> Turn
+        requires { ⌜ Sited self ⌝ }
+        ensures { λ r. ⌜ Turns self r (λ o m. onOffer m o (rejectOf (offerIn m o) caller (paperOf m o))) ⌝ }
+    {
+        let s = self.deal;
+        let d = s.row;
+        let o = d.offer;
+        let key = o.invoice;
+        let invoices = self.invoices;
+        let paper = invoices.get(key);
+        let p = s.reject(caller, paper);
+        let n = p.answer;
+        let row = p.row;
+        let next = put(s, row);
+        self.deal = next;
+        Turn {
+            answer: n,
+            near: self,
+        }
+    }
+
+    fn closed(mut self, now: u64, caller: u64) -> Turn
+        requires { ⌜ Sited self ⌝ }
+        ensures { λ r. ⌜ Turns self r (λ o m. onOffer m o (closeOf (offerIn m o) now caller (paperOf m o))) ⌝ }
+    {
+        let s = self.deal;
+        let d = s.row;
+        let o = d.offer;
+        let key = o.invoice;
+        let invoices = self.invoices;
+        let paper = invoices.get(key);
+        let p = s.close(now, caller, paper);
+        let n = p.answer;
+        let row = p.row;
+        let next = put(s, row);
+        self.deal = next;
+        Turn {
+            answer: n,
+            near: self,
+        }
+    }
+
+    fn scheduled(mut self, now: u64, caller: u64, count: u32, code: u32, first: u64) -> Turn
+        requires { ⌜ Sited self ⌝ }
+        ensures { λ r. ⌜ Turns self r (λ o m. onOffer m o (scheduleOf (offerIn m o) now caller count code first (paperOf m o))) ⌝ }
+    {
+        let s = self.deal;
+        let d = s.row;
+        let o = d.offer;
+        let key = o.invoice;
+        let invoices = self.invoices;
+        let paper = invoices.get(key);
+        let p = s.schedule(now, caller, count, code, first, paper);
+        let n = p.answer;
+        let row = p.row;
+        let next = put(s, row);
+        self.deal = next;
+        Turn {
+            answer: n,
+            near: self,
+        }
+    }
+
+    fn status_updated(mut self, caller: u64, code: u32) -> Turn
+        requires { ⌜ Sited self ⌝ }
+        ensures { λ r. ⌜ Turns self r (λ o m. onOffer m o (statusUpdateOf (offerIn m o) (isRepayer (m .settings) caller) code)) ⌝ }
+    {
+        let s = self.deal;
+        let settings = self.settings;
+        let allowed = settings.is_repayer(caller);
+        let p = s.update_status(allowed, code);
+        let n = p.answer;
+        let row = p.row;
+        let next = put(s, row);
+        self.deal = next;
+        Turn {
+            answer: n,
+            near: self,
+        }
+    }
+
+    fn repaid_updated(mut self, caller: u64, amount: i64) -> Turn
+        requires { ⌜ Sited self ⌝ }
+        ensures { λ r. ⌜ Turns self r (λ o m. onOffer m o (repaidUpdateOf (offerIn m o) (isRepayer (m .settings) caller) amount)) ⌝ }
+    {
+        let s = self.deal;
+        let settings = self.settings;
+        let allowed = settings.is_repayer(caller);
+        let p = s.update_repaid(allowed, amount);
+        let n = p.answer;
+        let row = p.row;
+        let next = put(s, row);
+        self.deal = next;
+        Turn {
+            answer: n,
+            near: self,
+        }
+    }
+
+    fn lender_repaid(mut self, caller: u64, id: u64, flag: u32) -> Turn
+        requires { ⌜ Sited self ⌝ }
+        ensures { λ r. ⌜ Turns self r (λ o m. onAccount m id (lenderRepaidOf (accountIn m id) (isRepayer (m .settings) caller) flag)) ⌝ }
+    {
+        let accounts = self.accounts;
+        let s = accounts.get(id);
+        let settings = self.settings;
+        let allowed = settings.is_repayer(caller);
+        let p = s.lender_repaid(allowed, flag);
+        let n = p.answer;
+        let row = p.row;
+        let next = accounts.put(id, row);
+        self.accounts = next;
+        Turn {
+            answer: n,
+            near: self,
+        }
+    }
+
+    fn blacklisted(mut self, id: u64, code: u32, seats: u64) -> Turn
+        requires { ⌜ Sited self ⌝ }
+        ensures { λ r. ⌜ Turns self r (λ o m. onAccount m id (blacklistOf (accountIn m id) (adminPasses (m .settings) seats) code)) ⌝ }
+    {
+        let accounts = self.accounts;
+        let s = accounts.get(id);
+        let settings = self.settings;
+        let allowed = settings.admin_passes(seats);
+        let p = s.blacklist(allowed, code);
+        let n = p.answer;
+        let row = p.row;
+        let next = accounts.put(id, row);
+        self.accounts = next;
+        Turn {
+            answer: n,
+            near: self,
+        }
+    }
+
+    fn totals_repaid(mut self, caller: u64, amount: i64, fee: i64) -> Turn
+        requires { ⌜ Sited self ⌝ }
+        ensures { λ r. ⌜ Turns self r (λ o m. onTotals m (repayOf (m .totals) (isRepayer (m .settings) caller) amount fee)) ⌝ }
+    {
+        let settings = self.settings;
+        let allowed = settings.is_repayer(caller);
+        let totals = self.totals;
+        let p = totals.repay(allowed, amount, fee);
+        let n = p.answer;
+        let next = p.row;
+        self.totals = next;
+        Turn {
+            answer: n,
+            near: self,
+        }
+    }
+
+    fn pause_set(mut self, seats: u64, paused: bool) -> Turn
+        requires { ⌜ Sited self ⌝ }
+        ensures { λ r. ⌜ Turns self r (λ o m. onSettings m (pauseOf (m .settings) seats paused)) ⌝ }
+    {
+        let settings = self.settings;
+        let p = settings.pause(seats, paused);
+        let n = p.answer;
+        let next = p.row;
+        self.settings = next;
+        Turn {
+            answer: n,
+            near: self,
+        }
+    }
+
+    fn window_set(mut self, seats: u64, window: u64) -> Turn
+        requires { ⌜ Sited self ⌝ }
+        ensures { λ r. ⌜ Turns self r (λ o m. onSettings m (windowOf (m .settings) seats window)) ⌝ }
+    {
+        let settings = self.settings;
+        let p = settings.set_window(seats, window);
+        let n = p.answer;
+        let next = p.row;
+        self.settings = next;
+        Turn {
+            answer: n,
+            near: self,
+        }
+    }
+
+    fn repayer_set(mut self, id: u64, seats: u64) -> Turn
+        requires { ⌜ Sited self ⌝ }
+        ensures { λ r. ⌜ Turns self r (λ o m. onSettings m (repayerOf (m .settings) seats id (accountIn m id .here))) ⌝ }
+    {
+        let accounts = self.accounts;
+        let s = accounts.get(id);
+        let settings = self.settings;
+        let p = settings.set_repayer(seats, id, s.here);
+        let n = p.answer;
+        let next = p.row;
+        self.settings = next;
+        Turn {
+            answer: n,
+            near: self,
+        }
+    }
+
+    fn seats_set(mut self, seats: u64, threshold: u32, fresh: u64) -> Turn
+        requires { ⌜ Sited self ⌝ }
+        ensures { λ r. ⌜ Turns self r (λ o m. onSettings m (seatsOf (m .settings) seats threshold fresh)) ⌝ }
+    {
+        let settings = self.settings;
+        let p = settings.set_seats(seats, threshold, fresh);
+        let n = p.answer;
+        let next = p.row;
+        self.settings = next;
+        Turn {
+            answer: n,
+            near: self,
+        }
+    }
+
+    fn created(mut self, caller: u64, invoice: u64, t: Terms, expires: u64, full: bool) -> Turn
+        requires { ⌜ Sited self ⌝ }
+        ensures { λ r. ⌜ TurnsIn full self r (λ o m. creating m caller o invoice t expires) ⌝ }
+    {
+        let accounts = self.accounts;
+        let s = accounts.get(caller);
+        let lender = s.row;
+        let invoices = self.invoices;
+        let paper = invoices.get(invoice);
+        let d = self.deal;
+        let n = offer::create_refusal(caller, lender, t, paper, d.here, full);
+        if !(n == 0) {
+            return Turn {
+                answer: n,
+                near: self,
+            };
+        }
+        let p = lender.offer(t);
+        let a = p.answer;
+        if !(a == 0) {
+            return Turn {
+                answer: a,
+                near: self,
+            };
+        }
+        let totals = self.totals;
+        let q = totals.count();
+        let b = q.answer;
+        if !(b == 0) {
+            return Turn {
+                answer: b,
+                near: self,
+            };
+        }
+        let row = p.row;
+        let x = accounts.put(caller, row);
+        self.accounts = x;
+        let deal = Deal::new(caller, invoice, t, expires);
+        let y = SeenDeal {
+            here: true,
+            row: deal,
+        };
+        self.deal = y;
+        let z = q.row;
+        self.totals = z;
+        Turn {
+            answer: 0,
+            near: self,
+        }
+    }
+
+    // Settlement: the money moves, and every row that an accepted offer touches says so.
+    fn settle(mut self, now: u64) -> Turn
+        requires { ⌜ Sited self ⌝ }
+        ensures { λ r. ⌜ Turns self r (λ o m. settling now o m) ⌝ }
+    {
+        let s = self.deal;
+        let d = s.row;
+        let o = d.offer;
+        let key = o.invoice;
+        let lender = o.lender;
+        let t = o.terms;
+        let invoices = self.invoices;
+        let paper = invoices.get(key);
+        let i = paper.row;
+        let originator = i.originator;
+        let accounts = self.accounts;
+        let p = accounts.settle(lender, originator, t);
+        let n = p.answer;
+        if !(n == 0) {
+            return Turn {
+                answer: n,
+                near: self,
+            };
+        }
+        let totals = self.totals;
+        let q = totals.finance(t);
+        let k = q.answer;
+        if !(k == 0) {
+            return Turn {
+                answer: k,
+                near: self,
+            };
+        }
+        let x = p.table;
+        self.accounts = x;
+        let j = i.financed();
+        let y = invoices.put(key, j);
+        self.invoices = y;
+        let e = d.settled(now);
+        let z = put(s, e);
+        self.deal = z;
+        let u = q.row;
+        self.totals = u;
+        Turn {
+            answer: 0,
+            near: self,
+        }
+    }
+
+    fn accepted(self, now: u64, caller: u64) -> Turn
+        requires { ⌜ Sited self ⌝ }
+        ensures { λ r. ⌜ Turns self r (λ o m. accepting m now caller o) ⌝ }
+    {
+        let s = self.deal;
+        let d = s.row;
+        let o = d.offer;
+        let key = o.invoice;
+        let invoices = self.invoices;
+        let paper = invoices.get(key);
+        let n = s.accept_refusal(now, caller, paper);
+        if !(n == 0) {
+            return Turn {
+                answer: n,
+                near: self,
+            };
+        }
+        self.settle(now)
+    }
+
+    // What an agreement does to the book that has the round.
+    fn conclude(self, now: u64) -> Turn
+        requires { ⌜ Sited self ⌝ }
+        ensures { λ r. ⌜ Turns self r (λ o m. concluding now o m) ⌝ }
+    {
+        let s = self.deal;
+        let d = s.row;
+        let o = d.offer;
+        let key = o.invoice;
+        let invoices = self.invoices;
+        let paper = invoices.get(key);
+        let i = paper.row;
+        let accounts = self.accounts;
+        let lender = accounts.get(o.lender);
+        let originator = accounts.get(i.originator);
+        let n = d.agreement_refusal(now, paper, lender, originator);
+        if !(n == 0) {
+            return Turn {
+                answer: n,
+                near: self,
+            };
+        }
+        self.settle(now)
+    }
+
+    // Agreement, where mid is the book with the round. A refusal here undoes the round too.
+    fn agree(self, mid: Near, now: u64) -> Turn
+        requires { ⌜ Sited self × Sited mid ⌝ }
+        ensures { λ r. ⌜ Concludes now self mid r ⌝ }
+    {
+        let before = self;
+        let c = mid.conclude(now);
+        let n = c.answer;
+        if !(n == 0) {
+            return Turn {
+                answer: n,
+                near: before,
+            };
+        }
+        c
+    }
+
+    // The book with the lender's round, its offered total moved.
+    fn with_amendment(mut self, now: u64, caller: u64, row: Account, t: Terms) -> Near
+        requires { ⌜ Sited self ⌝ }
+        ensures views { λ r. ⌜ Views self r (λ o m. withLenderRound m now caller o row t) ⌝ }
+        ensures sited { λ r. ⌜ Sited r ⌝ }
+    {
+        let accounts = self.accounts;
+        let x = accounts.put(caller, row);
+        let s = self.deal;
+        let d = s.row;
+        let settings = self.settings;
+        let window = settings.window;
+        let e = d.amended(now, window, t);
+        let y = put(s, e);
+        self.accounts = x;
+        self.deal = y;
+        self
+    }
+
+    // The book with the originator's round.
+    fn with_counter(mut self, now: u64, t: Terms) -> Near
+        requires { ⌜ Sited self ⌝ }
+        ensures views { λ r. ⌜ Views self r (λ o m. counteredIn m now o t) ⌝ }
+        ensures sited { λ r. ⌜ Sited r ⌝ }
+    {
+        let s = self.deal;
+        let d = s.row;
+        let settings = self.settings;
+        let window = settings.window;
+        let e = d.countered(now, window, t);
+        let y = put(s, e);
+        self.deal = y;
+        self
+    }
+
+    fn amended(self, now: u64, caller: u64, t: Terms, round: u32) -> Turn
+        requires { ⌜ Sited self ⌝ }
+        ensures { λ r. ⌜ Turns self r (λ o m. amending m now caller o t round) ⌝ }
+    {
+        let accounts = self.accounts;
+        let a = accounts.get(caller);
+        let lender = a.row;
+        let s = self.deal;
+        let n = s.amend_refusal(now, caller, lender, t, round);
+        if !(n == 0) {
+            return Turn {
+                answer: n,
+                near: self,
+            };
+        }
+        let d = s.row;
+        let o = d.offer;
+        let old = o.terms;
+        let p = lender.reoffer(old, t);
+        let m = p.answer;
+        if !(m == 0) {
+            return Turn {
+                answer: m,
+                near: self,
+            };
+        }
+        let row = p.row;
+        let mid = self.with_amendment(now, caller, row, t);
+        let g = d.negotiation;
+        if !g.agrees(t) {
+            return Turn {
+                answer: 0,
+                near: mid,
+            };
+        }
+        self.agree(mid, now)
+    }
+
+    fn countered(self, now: u64, caller: u64, t: Terms, round: u32) -> Turn
+        requires { ⌜ Sited self ⌝ }
+        ensures { λ r. ⌜ Turns self r (λ o m. countering m now caller o t round) ⌝ }
+    {
+        let accounts = self.accounts;
+        let a = accounts.get(caller);
+        let originator = a.row;
+        let s = self.deal;
+        let d = s.row;
+        let o = d.offer;
+        let key = o.invoice;
+        let invoices = self.invoices;
+        let paper = invoices.get(key);
+        let n = s.counter_refusal(now, caller, originator, t, round, paper);
+        if !(n == 0) {
+            return Turn {
+                answer: n,
+                near: self,
+            };
+        }
+        let mid = self.with_counter(now, t);
+        let present = o.terms;
+        if !terms::same_terms(present, t) {
+            return Turn {
+                answer: 0,
+                near: mid,
+            };
+        }
+        self.agree(mid, now)
+    }
+
+    // What stands before every command: 1 for a paused book, 4 for a caller without an account.
+    fn gate(self, c: Command) -> u64
+        requires { ⌜ Sited self ⌝ }
+        ensures { λ r. ⌜ ((t : Table Deal) → r ≡ first (gateChecks (modelNear self t) c)) ⌝ }
+    {
+        let settings = self.settings;
+        let p = settings.paused;
+        let q = c.stopped_by_pause();
+        if p & q {
+            return refusal::PAUSED;
+        }
+        let Caller::Account(a) = c.caller() else {
+            return 0;
+        };
+        let accounts = self.accounts;
+        let s = accounts.get(a);
+        if !s.here {
+            return refusal::NOT_FOUND;
+        }
+        0
+    }
+
+    fn execute(self, c: Command, full: bool) -> Turn
+        requires { ⌜ Sited self ⌝ }
+        ensures { λ r. ⌜ TurnsAt (offerNamed c) full self r (λ m. rule m c) ⌝ }
+    {
+        match c {
+            Command::OpenAccount { now: _, caller } => self.opened(caller),
+            Command::Deposit {
+                now: _,
+                caller,
+                amount,
+            } => self.deposited(caller, amount),
+            Command::Payout {
+                now: _,
+                caller,
+                amount,
+            } => self.paid_out(caller, amount),
+            Command::Approve {
+                now: _,
+                caller,
+                amount,
+            } => self.approved(caller, amount),
+            Command::RegisterInvoice {
+                now: _,
+                caller,
+                id,
+                amount,
+            } => self.registered(caller, id, amount),
+            Command::CancelInvoice { now: _, caller, id } => self.cancelled(caller, id),
+            Command::CreateOffer {
+                now: _,
+                caller,
+                id: _,
+                invoice,
+                terms,
+                expires,
+            } => self.created(caller, invoice, terms, expires, full),
+            Command::WithdrawOffer {
+                now: _,
+                caller,
+                id: _,
+            } => self.withdrawn(caller),
+            Command::AcceptOffer { now, caller, id: _ } => self.accepted(now, caller),
+            Command::RejectOffer {
+                now: _,
+                caller,
+                id: _,
+            } => self.rejected(caller),
+            Command::AmendOffer {
+                now,
+                caller,
+                id: _,
+                terms,
+                round,
+            } => self.amended(now, caller, terms, round),
+            Command::CounterOffer {
+                now,
+                caller,
+                id: _,
+                terms,
+                round,
+            } => self.countered(now, caller, terms, round),
+            Command::CloseNegotiation { now, caller, id: _ } => self.closed(now, caller),
+            Command::ScheduleRepayment {
+                now,
+                caller,
+                id: _,
+                count,
+                code,
+                first,
+            } => self.scheduled(now, caller, count, code, first),
+            Command::UpdateStatus {
+                now: _,
+                caller,
+                id: _,
+                code,
+            } => self.status_updated(caller, code),
+            Command::UpdateRepaid {
+                now: _,
+                caller,
+                id: _,
+                amount,
+            } => self.repaid_updated(caller, amount),
+            Command::UpdateLenderRepaid {
+                now: _,
+                caller,
+                id,
+                code,
+            } => self.lender_repaid(caller, id, code),
+            Command::UpdateTotalsRepaid {
+                now: _,
+                caller,
+                amount,
+                fee,
+            } => self.totals_repaid(caller, amount, fee),
+            Command::Pause { now: _, seats } => self.pause_set(seats, true),
+            Command::Unpause { now: _, seats } => self.pause_set(seats, false),
+            Command::SetWindow {
+                now: _,
+                seats,
+                window,
+            } => self.window_set(seats, window),
+            Command::SetRepaymentAccount { now: _, id, seats } => self.repayer_set(id, seats),
+            Command::SetBlacklisted {
+                now: _,
+                id,
+                code,
+                seats,
+            } => self.blacklisted(id, code, seats),
+            Command::SetSeats {
+                now: _,
+                seats,
+                threshold,
+                next,
+            } => self.seats_set(seats, threshold, next),
+        }
+    }
+
+    // The gate, then the command's own rule. `full`: the offers' table has no room.
+    pub fn turn(self, c: Command, full: bool) -> Turn
+        requires { ⌜ Sited self ⌝ }
+        ensures { λ r. ⌜ TurnsAt (offerNamed c) full self r (λ m. commanded m c) ⌝ }
+    {
+        let n = self.gate(c);
+        if !(n == 0) {
+            return Turn {
+                answer: n,
+                near: self,
+            };
+        }
+        self.execute(c, full)
+    }
+}
+
+// What a command sees of a book where `deal` is the offer that it names.
+pub fn near_of(book: Book, deal: SeenDeal) -> Near
+    ensures { λ r. ⌜ r ≡ nearOf book deal ⌝ }
+{
+    let accounts = book.accounts;
+    let invoices = book.invoices;
+    let totals = book.totals;
+    let settings = book.settings;
+    Near {
+        accounts: accounts,
+        invoices: invoices,
+        deal: deal,
+        totals: totals,
+        settings: settings,
+    }
+}
+
+// The book of what a command saw and of the offers.
+pub fn book_of(near: Near, offers: Offers) -> Book
+    ensures { λ r. ⌜ r ≡ bookWith near offers ⌝ }
+{
+    let accounts = near.accounts;
+    let invoices = near.invoices;
+    let totals = near.totals;
+    let settings = near.settings;
+    Book {
+        accounts: accounts,
+        invoices: invoices,
+        offers: offers,
+        totals: totals,
+        settings: settings,
+    }
 }
 
 impl Book {
@@ -75,787 +916,34 @@ impl Book {
         a & b & c & d & e
     }
 
-    fn opened(mut self, caller: u64) -> Step
-        requires { ⌜ Shelved self ⌝ }
-        ensures { λ r. ⌜ r ≡ answered stepOf (modelOf self) (opening (modelOf self) caller) ⌝ }
-    {
-        let accounts = self.accounts;
-        let s = accounts.get(caller);
-        if s.here {
-            return Step {
-                answer: refusal::ALREADY_EXISTS,
-                book: self,
-            };
-        }
-        if accounts.full() {
-            return Step {
-                answer: refusal::NO_ROOM,
-                book: self,
-            };
-        }
-        let row = Account::none();
-        let next = accounts.let_in(caller, row);
-        self.accounts = next;
-        Step {
-            answer: 0,
-            book: self,
-        }
-    }
-
-    fn deposited(mut self, caller: u64, amount: i64) -> Step
-        requires { ⌜ Shelved self ⌝ }
-        ensures { λ r. ⌜ r ≡ answered stepOf (modelOf self) (onAccount (modelOf self) caller (depositOf (accountIn (modelOf self) caller .row) amount)) ⌝ }
-    {
-        let accounts = self.accounts;
-        let s = accounts.get(caller);
-        let r = s.row;
-        let p = r.deposit(amount);
-        let n = p.answer;
-        let row = p.row;
-        let next = accounts.put(caller, row);
-        self.accounts = next;
-        Step {
-            answer: n,
-            book: self,
-        }
-    }
-
-    fn paid_out(mut self, caller: u64, amount: i64) -> Step
-        requires { ⌜ Shelved self ⌝ }
-        ensures { λ r. ⌜ r ≡ answered stepOf (modelOf self) (onAccount (modelOf self) caller (payoutOf (accountIn (modelOf self) caller .row) amount)) ⌝ }
-    {
-        let accounts = self.accounts;
-        let s = accounts.get(caller);
-        let r = s.row;
-        let p = r.payout(amount);
-        let n = p.answer;
-        let row = p.row;
-        let next = accounts.put(caller, row);
-        self.accounts = next;
-        Step {
-            answer: n,
-            book: self,
-        }
-    }
-
-    fn approved(mut self, caller: u64, amount: i64) -> Step
-        requires { ⌜ Shelved self ⌝ }
-        ensures { λ r. ⌜ r ≡ answered stepOf (modelOf self) (onAccount (modelOf self) caller (approveOf (accountIn (modelOf self) caller .row) amount)) ⌝ }
-    {
-        let accounts = self.accounts;
-        let s = accounts.get(caller);
-        let r = s.row;
-        let p = r.approve(amount);
-        let n = p.answer;
-        let row = p.row;
-        let next = accounts.put(caller, row);
-        self.accounts = next;
-        Step {
-            answer: n,
-            book: self,
-        }
-    }
-
-    fn registered(mut self, caller: u64, id: u64, amount: i64) -> Step
-        requires { ⌜ Shelved self ⌝ }
-        ensures { λ r. ⌜ r ≡ answered stepOf (modelOf self) (registering (modelOf self) caller id amount) ⌝ }
-    {
-        let invoices = self.invoices;
-        let s = invoices.get(id);
-        let f = invoices.full();
-        let n = invoice::register_refusal(amount, s.here, f);
-        if !(n == 0) {
-            return Step {
-                answer: n,
-                book: self,
-            };
-        }
-        let row = Invoice::new(caller, amount);
-        let next = invoices.let_in(id, row);
-        self.invoices = next;
-        Step {
-            answer: 0,
-            book: self,
-        }
-    }
-
-    fn cancelled(mut self, caller: u64, id: u64) -> Step
-        requires { ⌜ Shelved self ⌝ }
-        ensures { λ r. ⌜ r ≡ answered stepOf (modelOf self) (onInvoice (modelOf self) id (cancelOf (invoiceIn (modelOf self) id) caller)) ⌝ }
-    {
-        let invoices = self.invoices;
-        let s = invoices.get(id);
-        let p = s.cancel(caller);
-        let n = p.answer;
-        let row = p.row;
-        let next = invoices.put(id, row);
-        self.invoices = next;
-        Step {
-            answer: n,
-            book: self,
-        }
-    }
-
-    fn withdrawn(mut self, caller: u64, id: u64) -> Step
-        requires { ⌜ Shelved self ⌝ }
-        ensures { λ r. ⌜ r ≡ answered stepOf (modelOf self) (onOffer (modelOf self) id (withdrawOf (offerIn (modelOf self) id) caller)) ⌝ }
-    {
-        let offers = self.offers;
-        let s = offers.get(id);
-        let p = s.withdraw(caller);
-        let n = p.answer;
-        let row = p.row;
-        let next = offers.put(id, row);
-        self.offers = next;
-        Step {
-            answer: n,
-            book: self,
-        }
-    }
-
-    fn rejected(mut self, caller: u64, id: u64) -> Step
-        requires { ⌜ Shelved self ⌝ }
-        ensures { λ r. ⌜ r ≡ answered stepOf (modelOf self) (onOffer (modelOf self) id (rejectOf (offerIn (modelOf self) id) caller (paperOf (modelOf self) id))) ⌝ }
-    {
-        let offers = self.offers;
-        let s = offers.get(id);
-        let d = s.row;
-        let o = d.offer;
-        let key = o.invoice;
-        let invoices = self.invoices;
-        let paper = invoices.get(key);
-        let p = s.reject(caller, paper);
-        let n = p.answer;
-        let row = p.row;
-        let next = offers.put(id, row);
-        self.offers = next;
-        Step {
-            answer: n,
-            book: self,
-        }
-    }
-
-    fn closed(mut self, now: u64, caller: u64, id: u64) -> Step
-        requires { ⌜ Shelved self ⌝ }
-        ensures { λ r. ⌜ r ≡ answered stepOf (modelOf self) (onOffer (modelOf self) id (closeOf (offerIn (modelOf self) id) now caller (paperOf (modelOf self) id))) ⌝ }
-    {
-        let offers = self.offers;
-        let s = offers.get(id);
-        let d = s.row;
-        let o = d.offer;
-        let key = o.invoice;
-        let invoices = self.invoices;
-        let paper = invoices.get(key);
-        let p = s.close(now, caller, paper);
-        let n = p.answer;
-        let row = p.row;
-        let next = offers.put(id, row);
-        self.offers = next;
-        Step {
-            answer: n,
-            book: self,
-        }
-    }
-
-    fn scheduled(
-        mut self,
-        now: u64,
-        caller: u64,
-        id: u64,
-        count: u32,
-        code: u32,
-        first: u64,
-    ) -> Step
-        requires { ⌜ Shelved self ⌝ }
-        ensures { λ r. ⌜ r ≡ answered stepOf (modelOf self) (onOffer (modelOf self) id (scheduleOf (offerIn (modelOf self) id) now caller count code first (paperOf (modelOf self) id))) ⌝ }
-    {
-        let offers = self.offers;
-        let s = offers.get(id);
-        let d = s.row;
-        let o = d.offer;
-        let key = o.invoice;
-        let invoices = self.invoices;
-        let paper = invoices.get(key);
-        let p = s.schedule(now, caller, count, code, first, paper);
-        let n = p.answer;
-        let row = p.row;
-        let next = offers.put(id, row);
-        self.offers = next;
-        Step {
-            answer: n,
-            book: self,
-        }
-    }
-
-    fn status_updated(mut self, caller: u64, id: u64, code: u32) -> Step
-        requires { ⌜ Shelved self ⌝ }
-        ensures { λ r. ⌜ r ≡ answered stepOf (modelOf self) (onOffer (modelOf self) id (statusUpdateOf (offerIn (modelOf self) id) (isRepayer (self .settings) caller) code)) ⌝ }
-    {
-        let offers = self.offers;
-        let s = offers.get(id);
-        let settings = self.settings;
-        let allowed = settings.is_repayer(caller);
-        let p = s.update_status(allowed, code);
-        let n = p.answer;
-        let row = p.row;
-        let next = offers.put(id, row);
-        self.offers = next;
-        Step {
-            answer: n,
-            book: self,
-        }
-    }
-
-    fn repaid_updated(mut self, caller: u64, id: u64, amount: i64) -> Step
-        requires { ⌜ Shelved self ⌝ }
-        ensures { λ r. ⌜ r ≡ answered stepOf (modelOf self) (onOffer (modelOf self) id (repaidUpdateOf (offerIn (modelOf self) id) (isRepayer (self .settings) caller) amount)) ⌝ }
-    {
-        let offers = self.offers;
-        let s = offers.get(id);
-        let settings = self.settings;
-        let allowed = settings.is_repayer(caller);
-        let p = s.update_repaid(allowed, amount);
-        let n = p.answer;
-        let row = p.row;
-        let next = offers.put(id, row);
-        self.offers = next;
-        Step {
-            answer: n,
-            book: self,
-        }
-    }
-
-    fn lender_repaid(mut self, caller: u64, id: u64, flag: u32) -> Step
-        requires { ⌜ Shelved self ⌝ }
-        ensures { λ r. ⌜ r ≡ answered stepOf (modelOf self) (onAccount (modelOf self) id (lenderRepaidOf (accountIn (modelOf self) id) (isRepayer (self .settings) caller) flag)) ⌝ }
-    {
-        let accounts = self.accounts;
-        let s = accounts.get(id);
-        let settings = self.settings;
-        let allowed = settings.is_repayer(caller);
-        let p = s.lender_repaid(allowed, flag);
-        let n = p.answer;
-        let row = p.row;
-        let next = accounts.put(id, row);
-        self.accounts = next;
-        Step {
-            answer: n,
-            book: self,
-        }
-    }
-
-    fn blacklisted(mut self, id: u64, code: u32, seats: u64) -> Step
-        requires { ⌜ Shelved self ⌝ }
-        ensures { λ r. ⌜ r ≡ answered stepOf (modelOf self) (onAccount (modelOf self) id (blacklistOf (accountIn (modelOf self) id) (adminPasses (self .settings) seats) code)) ⌝ }
-    {
-        let accounts = self.accounts;
-        let s = accounts.get(id);
-        let settings = self.settings;
-        let allowed = settings.admin_passes(seats);
-        let p = s.blacklist(allowed, code);
-        let n = p.answer;
-        let row = p.row;
-        let next = accounts.put(id, row);
-        self.accounts = next;
-        Step {
-            answer: n,
-            book: self,
-        }
-    }
-
-    fn totals_repaid(mut self, caller: u64, amount: i64, fee: i64) -> Step
-        requires { ⌜ Shelved self ⌝ }
-        ensures { λ r. ⌜ r ≡ answered stepOf (modelOf self) (onTotals (modelOf self) (repayOf (self .totals) (isRepayer (self .settings) caller) amount fee)) ⌝ }
-    {
-        let settings = self.settings;
-        let allowed = settings.is_repayer(caller);
-        let totals = self.totals;
-        let p = totals.repay(allowed, amount, fee);
-        let n = p.answer;
-        let next = p.row;
-        self.totals = next;
-        Step {
-            answer: n,
-            book: self,
-        }
-    }
-
-    fn pause_set(mut self, seats: u64, paused: bool) -> Step
-        requires { ⌜ Shelved self ⌝ }
-        ensures { λ r. ⌜ r ≡ answered stepOf (modelOf self) (onSettings (modelOf self) (pauseOf (self .settings) seats paused)) ⌝ }
-    {
-        let settings = self.settings;
-        let p = settings.pause(seats, paused);
-        let n = p.answer;
-        let next = p.row;
-        self.settings = next;
-        Step {
-            answer: n,
-            book: self,
-        }
-    }
-
-    fn window_set(mut self, seats: u64, window: u64) -> Step
-        requires { ⌜ Shelved self ⌝ }
-        ensures { λ r. ⌜ r ≡ answered stepOf (modelOf self) (onSettings (modelOf self) (windowOf (self .settings) seats window)) ⌝ }
-    {
-        let settings = self.settings;
-        let p = settings.set_window(seats, window);
-        let n = p.answer;
-        let next = p.row;
-        self.settings = next;
-        Step {
-            answer: n,
-            book: self,
-        }
-    }
-
-    fn repayer_set(mut self, id: u64, seats: u64) -> Step
-        requires { ⌜ Shelved self ⌝ }
-        ensures { λ r. ⌜ r ≡ answered stepOf (modelOf self) (onSettings (modelOf self) (repayerOf (self .settings) seats id (accountIn (modelOf self) id .here))) ⌝ }
-    {
-        let accounts = self.accounts;
-        let s = accounts.get(id);
-        let settings = self.settings;
-        let p = settings.set_repayer(seats, id, s.here);
-        let n = p.answer;
-        let next = p.row;
-        self.settings = next;
-        Step {
-            answer: n,
-            book: self,
-        }
-    }
-
-    fn seats_set(mut self, seats: u64, threshold: u32, fresh: u64) -> Step
-        requires { ⌜ Shelved self ⌝ }
-        ensures { λ r. ⌜ r ≡ answered stepOf (modelOf self) (onSettings (modelOf self) (seatsOf (self .settings) seats threshold fresh)) ⌝ }
-    {
-        let settings = self.settings;
-        let p = settings.set_seats(seats, threshold, fresh);
-        let n = p.answer;
-        let next = p.row;
-        self.settings = next;
-        Step {
-            answer: n,
-            book: self,
-        }
-    }
-
-    fn created(mut self, caller: u64, id: u64, invoice: u64, t: Terms, expires: u64) -> Step
-        requires { ⌜ Shelved self ⌝ }
-        ensures { λ r. ⌜ r ≡ answered stepOf (modelOf self) (creating (modelOf self) caller id invoice t expires) ⌝ }
-    {
-        let accounts = self.accounts;
-        let s = accounts.get(caller);
-        let lender = s.row;
-        let invoices = self.invoices;
-        let paper = invoices.get(invoice);
-        let offers = self.offers;
-        let d = offers.get(id);
-        let f = offers.full();
-        let n = offer::create_refusal(caller, lender, t, paper, d.here, f);
-        if !(n == 0) {
-            return Step {
-                answer: n,
-                book: self,
-            };
-        }
-        let p = lender.offer(t);
-        let a = p.answer;
-        if !(a == 0) {
-            return Step {
-                answer: a,
-                book: self,
-            };
-        }
-        let totals = self.totals;
-        let q = totals.count();
-        let b = q.answer;
-        if !(b == 0) {
-            return Step {
-                answer: b,
-                book: self,
-            };
-        }
-        let row = p.row;
-        let x = accounts.put(caller, row);
-        self.accounts = x;
-        let deal = Deal::new(caller, invoice, t, expires);
-        let y = offers.let_in(id, deal);
-        self.offers = y;
-        let z = q.row;
-        self.totals = z;
-        Step {
-            answer: 0,
-            book: self,
-        }
-    }
-
-    // Settlement: the money moves, and every row that an accepted offer touches says so.
-    fn settle(mut self, now: u64, id: u64) -> Step
-        requires { ⌜ Shelved self ⌝ }
-        ensures { λ r. ⌜ r ≡ answered stepOf (modelOf self) (settling now id (modelOf self)) ⌝ }
-    {
-        let offers = self.offers;
-        let s = offers.get(id);
-        let d = s.row;
-        let o = d.offer;
-        let key = o.invoice;
-        let lender = o.lender;
-        let t = o.terms;
-        let invoices = self.invoices;
-        let paper = invoices.get(key);
-        let i = paper.row;
-        let originator = i.originator;
-        let accounts = self.accounts;
-        let p = accounts.settle(lender, originator, t);
-        let n = p.answer;
-        if !(n == 0) {
-            return Step {
-                answer: n,
-                book: self,
-            };
-        }
-        let totals = self.totals;
-        let q = totals.finance(t);
-        let k = q.answer;
-        if !(k == 0) {
-            return Step {
-                answer: k,
-                book: self,
-            };
-        }
-        let x = p.table;
-        self.accounts = x;
-        let j = i.financed();
-        let y = invoices.put(key, j);
-        self.invoices = y;
-        let e = d.settled(now);
-        let z = offers.put(id, e);
-        self.offers = z;
-        let u = q.row;
-        self.totals = u;
-        Step {
-            answer: 0,
-            book: self,
-        }
-    }
-
-    fn accepted(self, now: u64, caller: u64, id: u64) -> Step
-        requires { ⌜ Shelved self ⌝ }
-        ensures { λ r. ⌜ r ≡ answered stepOf (modelOf self) (accepting (modelOf self) now caller id) ⌝ }
-    {
-        let offers = self.offers;
-        let s = offers.get(id);
-        let d = s.row;
-        let o = d.offer;
-        let key = o.invoice;
-        let invoices = self.invoices;
-        let paper = invoices.get(key);
-        let n = s.accept_refusal(now, caller, paper);
-        if !(n == 0) {
-            return Step {
-                answer: n,
-                book: self,
-            };
-        }
-        self.settle(now, id)
-    }
-
-    // What an agreement does to the book that has the round.
-    fn conclude(self, now: u64, id: u64) -> Step
-        requires { ⌜ Shelved self ⌝ }
-        ensures { λ r. ⌜ r ≡ answered stepOf (modelOf self) (concluding now id (modelOf self)) ⌝ }
-    {
-        let offers = self.offers;
-        let s = offers.get(id);
-        let d = s.row;
-        let o = d.offer;
-        let key = o.invoice;
-        let invoices = self.invoices;
-        let paper = invoices.get(key);
-        let i = paper.row;
-        let accounts = self.accounts;
-        let lender = accounts.get(o.lender);
-        let originator = accounts.get(i.originator);
-        let n = d.agreement_refusal(now, paper, lender, originator);
-        if !(n == 0) {
-            return Step {
-                answer: n,
-                book: self,
-            };
-        }
-        self.settle(now, id)
-    }
-
-    // Agreement, where mid is the book with the round. A refusal here undoes the round too.
-    fn agree(self, mid: Book, now: u64, id: u64) -> Step
-        requires { ⌜ Shelved self × Shelved mid ⌝ }
-        ensures { λ r. ⌜ r ≡ answered stepOf (modelOf self) (concluding now id (modelOf mid)) ⌝ }
-    {
-        let before = self;
-        let c = mid.conclude(now, id);
-        let n = c.answer;
-        if !(n == 0) {
-            return Step {
-                answer: n,
-                book: before,
-            };
-        }
-        c
-    }
-
-    // The book with the lender's round, its offered total moved.
-    fn with_amendment(mut self, now: u64, caller: u64, id: u64, row: Account, t: Terms) -> Book
-        requires { ⌜ Shelved self ⌝ }
-        ensures { λ r. ⌜ r ≡ stored (withLenderRound (modelOf self) now caller id row t) ⌝ }
-    {
-        let accounts = self.accounts;
-        let x = accounts.put(caller, row);
-        let offers = self.offers;
-        let s = offers.get(id);
-        let d = s.row;
-        let settings = self.settings;
-        let window = settings.window;
-        let e = d.amended(now, window, t);
-        let y = offers.put(id, e);
-        self.accounts = x;
-        self.offers = y;
-        self
-    }
-
-    // The book with the originator's round.
-    fn with_counter(mut self, now: u64, id: u64, t: Terms) -> Book
-        requires { ⌜ Shelved self ⌝ }
-        ensures { λ r. ⌜ r ≡ stored (counteredIn (modelOf self) now id t) ⌝ }
-    {
-        let offers = self.offers;
-        let s = offers.get(id);
-        let d = s.row;
-        let settings = self.settings;
-        let window = settings.window;
-        let e = d.countered(now, window, t);
-        let y = offers.put(id, e);
-        self.offers = y;
-        self
-    }
-
-    fn amended(self, now: u64, caller: u64, id: u64, t: Terms, round: u32) -> Step
-        requires { ⌜ Shelved self ⌝ }
-        ensures { λ r. ⌜ r ≡ answered stepOf (modelOf self) (amending (modelOf self) now caller id t round) ⌝ }
-    {
-        let accounts = self.accounts;
-        let a = accounts.get(caller);
-        let lender = a.row;
-        let offers = self.offers;
-        let s = offers.get(id);
-        let n = s.amend_refusal(now, caller, lender, t, round);
-        if !(n == 0) {
-            return Step {
-                answer: n,
-                book: self,
-            };
-        }
-        let d = s.row;
-        let o = d.offer;
-        let old = o.terms;
-        let p = lender.reoffer(old, t);
-        let m = p.answer;
-        if !(m == 0) {
-            return Step {
-                answer: m,
-                book: self,
-            };
-        }
-        let row = p.row;
-        let mid = self.with_amendment(now, caller, id, row, t);
-        let g = d.negotiation;
-        if !g.agrees(t) {
-            return Step {
-                answer: 0,
-                book: mid,
-            };
-        }
-        self.agree(mid, now, id)
-    }
-
-    fn countered(self, now: u64, caller: u64, id: u64, t: Terms, round: u32) -> Step
-        requires { ⌜ Shelved self ⌝ }
-        ensures { λ r. ⌜ r ≡ answered stepOf (modelOf self) (countering (modelOf self) now caller id t round) ⌝ }
-    {
-        let accounts = self.accounts;
-        let a = accounts.get(caller);
-        let originator = a.row;
-        let offers = self.offers;
-        let s = offers.get(id);
-        let d = s.row;
-        let o = d.offer;
-        let key = o.invoice;
-        let invoices = self.invoices;
-        let paper = invoices.get(key);
-        let n = s.counter_refusal(now, caller, originator, t, round, paper);
-        if !(n == 0) {
-            return Step {
-                answer: n,
-                book: self,
-            };
-        }
-        let mid = self.with_counter(now, id, t);
-        let present = o.terms;
-        if !terms::same_terms(present, t) {
-            return Step {
-                answer: 0,
-                book: mid,
-            };
-        }
-        self.agree(mid, now, id)
-    }
-
-    // What stands before every command: 1 for a paused book, 4 for a caller without an account.
-    fn gate(self, c: Command) -> u64
-        requires { ⌜ Shelved self ⌝ }
-        ensures { λ r. ⌜ r ≡ first (gateChecks (modelOf self) c) ⌝ }
-    {
-        let settings = self.settings;
-        let p = settings.paused;
-        let q = c.stopped_by_pause();
-        if p & q {
-            return refusal::PAUSED;
-        }
-        let Caller::Account(a) = c.caller() else {
-            return 0;
-        };
-        let accounts = self.accounts;
-        let s = accounts.get(a);
-        if !s.here {
-            return refusal::NOT_FOUND;
-        }
-        0
-    }
-
-    fn execute(self, c: Command) -> Step
-        requires { ⌜ Shelved self ⌝ }
-        ensures { λ r. ⌜ r ≡ answered stepOf (modelOf self) (rule (modelOf self) c) ⌝ }
-    {
-        match c {
-            Command::OpenAccount { now: _, caller } => self.opened(caller),
-            Command::Deposit {
-                now: _,
-                caller,
-                amount,
-            } => self.deposited(caller, amount),
-            Command::Payout {
-                now: _,
-                caller,
-                amount,
-            } => self.paid_out(caller, amount),
-            Command::Approve {
-                now: _,
-                caller,
-                amount,
-            } => self.approved(caller, amount),
-            Command::RegisterInvoice {
-                now: _,
-                caller,
-                id,
-                amount,
-            } => self.registered(caller, id, amount),
-            Command::CancelInvoice { now: _, caller, id } => self.cancelled(caller, id),
-            Command::CreateOffer {
-                now: _,
-                caller,
-                id,
-                invoice,
-                terms,
-                expires,
-            } => self.created(caller, id, invoice, terms, expires),
-            Command::WithdrawOffer { now: _, caller, id } => self.withdrawn(caller, id),
-            Command::AcceptOffer { now, caller, id } => self.accepted(now, caller, id),
-            Command::RejectOffer { now: _, caller, id } => self.rejected(caller, id),
-            Command::AmendOffer {
-                now,
-                caller,
-                id,
-                terms,
-                round,
-            } => self.amended(now, caller, id, terms, round),
-            Command::CounterOffer {
-                now,
-                caller,
-                id,
-                terms,
-                round,
-            } => self.countered(now, caller, id, terms, round),
-            Command::CloseNegotiation { now, caller, id } => self.closed(now, caller, id),
-            Command::ScheduleRepayment {
-                now,
-                caller,
-                id,
-                count,
-                code,
-                first,
-            } => self.scheduled(now, caller, id, count, code, first),
-            Command::UpdateStatus {
-                now: _,
-                caller,
-                id,
-                code,
-            } => self.status_updated(caller, id, code),
-            Command::UpdateRepaid {
-                now: _,
-                caller,
-                id,
-                amount,
-            } => self.repaid_updated(caller, id, amount),
-            Command::UpdateLenderRepaid {
-                now: _,
-                caller,
-                id,
-                code,
-            } => self.lender_repaid(caller, id, code),
-            Command::UpdateTotalsRepaid {
-                now: _,
-                caller,
-                amount,
-                fee,
-            } => self.totals_repaid(caller, amount, fee),
-            Command::Pause { now: _, seats } => self.pause_set(seats, true),
-            Command::Unpause { now: _, seats } => self.pause_set(seats, false),
-            Command::SetWindow {
-                now: _,
-                seats,
-                window,
-            } => self.window_set(seats, window),
-            Command::SetRepaymentAccount { now: _, id, seats } => self.repayer_set(id, seats),
-            Command::SetBlacklisted {
-                now: _,
-                id,
-                code,
-                seats,
-            } => self.blacklisted(id, code, seats),
-            Command::SetSeats {
-                now: _,
-                seats,
-                threshold,
-                next,
-            } => self.seats_set(seats, threshold, next),
-        }
-    }
-
-    // The step on a sound book, which a replay takes: it tests nothing of the book again.
-    pub fn obey(self, c: Command) -> Step
+    // The step on a sound book: it tests nothing of the book again.
+    fn obey(self, c: Command) -> Step
         requires { ⌜ Shelved self ⌝ }
         ensures { λ r. ⌜ r ≡ answered stepOf (modelOf self) (commanded (modelOf self) c) ⌝ }
     {
-        let n = self.gate(c);
-        if !(n == 0) {
+        let offers = self.offers;
+        let id = c.offer();
+        let s = offers.get(id);
+        let f = offers.full();
+        let near = near_of(self, s);
+        let t = near.turn(c, f);
+        let after = t.near;
+        let d = after.deal;
+        let row = d.row;
+        if !s.here & d.here {
+            let more = offers.let_in(id, row);
+            let grown = book_of(after, more);
             return Step {
-                answer: n,
-                book: self,
+                answer: t.answer,
+                book: grown,
             };
         }
-        self.execute(c)
+        let same = offers.put(id, row);
+        let next = book_of(after, same);
+        Step {
+            answer: t.answer,
+            book: next,
+        }
     }
 
     // Any command on any book: 15 and the book as it was where it is not sound.

@@ -57,3 +57,30 @@ stoppedByPause (SetWindow now p w) = true
 stoppedByPause (SetRepaymentAccount now i p) = true
 stoppedByPause (SetBlacklisted now i c p) = true
 stoppedByPause (SetSeats now p h q) = true
+
+-- the offer that a command names, 0 where it names none
+unfoldable pub offerNamed : Command → ℕ
+offerNamed (OpenAccount now a) = 0
+offerNamed (Deposit now a x) = 0
+offerNamed (Payout now a x) = 0
+offerNamed (Approve now a x) = 0
+offerNamed (RegisterInvoice now a i x) = 0
+offerNamed (CancelInvoice now a i) = 0
+offerNamed (CreateOffer now a o i t e) = o
+offerNamed (WithdrawOffer now a o) = o
+offerNamed (AcceptOffer now a o) = o
+offerNamed (RejectOffer now a o) = o
+offerNamed (AmendOffer now a o t n) = o
+offerNamed (CounterOffer now a o t n) = o
+offerNamed (CloseNegotiation now a o) = o
+offerNamed (ScheduleRepayment now a o k c d) = o
+offerNamed (UpdateStatus now a o c) = o
+offerNamed (UpdateRepaid now a o x) = o
+offerNamed (UpdateLenderRepaid now a l c) = 0
+offerNamed (UpdateTotalsRepaid now a x f) = 0
+offerNamed (Pause now p) = 0
+offerNamed (Unpause now p) = 0
+offerNamed (SetWindow now p w) = 0
+offerNamed (SetRepaymentAccount now i p) = 0
+offerNamed (SetBlacklisted now i c p) = 0
+offerNamed (SetSeats now p h q) = 0

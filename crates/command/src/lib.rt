@@ -1,7 +1,7 @@
 // The 24 commands of document 01's journal, each with its fields in the order of their tags.
 use terms::Terms;
 ghost use mathlib.Core.Path.{_≡_};
-ghost use Rattle.command.specs.Caller.{callerOf, stoppedByPause};
+ghost use Rattle.command.specs.Caller.{callerOf, stoppedByPause, offerNamed};
 
 pub enum Command {
     OpenAccount {
@@ -409,6 +409,139 @@ impl Command {
                 threshold: _,
                 next: _,
             } => true,
+        }
+    }
+
+    // The offer that a command names, 0 where it names none: such a command changes no offer.
+    pub fn offer(self) -> u64
+        ensures { λ r. ⌜ r ≡ offerNamed self ⌝ }
+    {
+        match self {
+            Command::OpenAccount { now: _, caller: _ } => 0,
+            Command::Deposit {
+                now: _,
+                caller: _,
+                amount: _,
+            } => 0,
+            Command::Payout {
+                now: _,
+                caller: _,
+                amount: _,
+            } => 0,
+            Command::Approve {
+                now: _,
+                caller: _,
+                amount: _,
+            } => 0,
+            Command::RegisterInvoice {
+                now: _,
+                caller: _,
+                id: _,
+                amount: _,
+            } => 0,
+            Command::CancelInvoice {
+                now: _,
+                caller: _,
+                id: _,
+            } => 0,
+            Command::CreateOffer {
+                now: _,
+                caller: _,
+                id,
+                invoice: _,
+                terms: _,
+                expires: _,
+            } => id,
+            Command::WithdrawOffer {
+                now: _,
+                caller: _,
+                id,
+            } => id,
+            Command::AcceptOffer {
+                now: _,
+                caller: _,
+                id,
+            } => id,
+            Command::RejectOffer {
+                now: _,
+                caller: _,
+                id,
+            } => id,
+            Command::AmendOffer {
+                now: _,
+                caller: _,
+                id,
+                terms: _,
+                round: _,
+            } => id,
+            Command::CounterOffer {
+                now: _,
+                caller: _,
+                id,
+                terms: _,
+                round: _,
+            } => id,
+            Command::CloseNegotiation {
+                now: _,
+                caller: _,
+                id,
+            } => id,
+            Command::ScheduleRepayment {
+                now: _,
+                caller: _,
+                id,
+                count: _,
+                code: _,
+                first: _,
+            } => id,
+            Command::UpdateStatus {
+                now: _,
+                caller: _,
+                id,
+                code: _,
+            } => id,
+            Command::UpdateRepaid {
+                now: _,
+                caller: _,
+                id,
+                amount: _,
+            } => id,
+            Command::UpdateLenderRepaid {
+                now: _,
+                caller: _,
+                id: _,
+                code: _,
+            } => 0,
+            Command::UpdateTotalsRepaid {
+                now: _,
+                caller: _,
+                amount: _,
+                fee: _,
+            } => 0,
+            Command::Pause { now: _, seats: _ } => 0,
+            Command::Unpause { now: _, seats: _ } => 0,
+            Command::SetWindow {
+                now: _,
+                seats: _,
+                window: _,
+            } => 0,
+            Command::SetRepaymentAccount {
+                now: _,
+                id: _,
+                seats: _,
+            } => 0,
+            Command::SetBlacklisted {
+                now: _,
+                id: _,
+                code: _,
+                seats: _,
+            } => 0,
+            Command::SetSeats {
+                now: _,
+                seats: _,
+                threshold: _,
+                next: _,
+            } => 0,
         }
     }
 }

@@ -4,8 +4,10 @@ pub mod Ahead
 pub mod ReplayLaws
 pub mod TextLaws
 pub mod Standing
+pub mod Placing
 pub mod Playing
 pub mod Telling
+pub mod Going
 pub mod Shown
 pub mod Records
 pub mod Room

@@ -1,8 +1,8 @@
--- The invariant of `replay`: what is still to come completes the outcome. Assumes nothing.
+-- The walk replays: what is still to come completes the outcome. Assumes nothing.
 use mathlib.Core.Path.{_≡_, refl, sym, ap, _∙_}
 use mathlib.Core.Bool.{Bool, true, false}
 use mathlib.Core.List.{List}
-use Prim.Native.Nat.{ℕ, suc, _+_}
+use Prim.Native.Nat.{ℕ, suc, _+_, _≤_}
 use native.Mathlib.Omega.{arith}
 use native.Mathlib.Nat.{add-zero}
 use lib.ListN.{length}
@@ -18,7 +18,7 @@ use Rattle.book.specs.Model.{Model, freshModel}
 use Rattle.book.specs.Stored.{modelOf, stored, Shelved}
 use Rattle.book.specs.Shelving.{back}
 use Rattle.replay.specs.declared.Outcome.{Outcome}
-use Rattle.replay.specs.Replay.{atEnd, atHeader, atRecord, Replayed, halted, heard, replayFrom, replayOf, outcomeOf}
+use Rattle.replay.specs.Replay.{atEnd, atHeader, atRecord, Replayed, halted, heard, replayFrom, replayOf, outcomeOf, ending}
 use Rattle.replay.specs.ReplayLaws.{from-record, from-bad, from-end}
 use Rattle.replay.specs.Standing.{Fresh, Standing, Stepped, stands, stands-on}
 
@@ -31,12 +31,9 @@ pub replay-bare : (s : List ℕ) {at : ℕ} → openingOf s ≡ (number journalM
 unfolding replayOf pick
 replay-bare s e = rw e
 
-pub record Playing (s : List ℕ) (at k : ℕ) (b : Book) : Type 0 where
+pub record Playing (s : List ℕ) (end : Outcome) (at k : ℕ) (b : Book) : Type 0 where
   pub stand : Standing s at k b
-  pub completes : outcomeOf k (replayFrom s at (modelOf b)) ≡ outcomeOf 0 (replayOf s)
-
-abbrev pub ending : Book → ℕ → ℕ → ℕ → Outcome
-ending b k n at = record { book = b; count = k; number = n; at = at }
+  pub completes : outcomeOf k (replayFrom s at (modelOf b)) ≡ end
 
 outcome-heard : (k a : ℕ) (r : Replayed) → outcomeOf k (heard a r) ≡ outcomeOf (k + 1) r
 unfolding outcomeOf
@@ -46,22 +43,22 @@ pub play-bare : (s : List ℕ) {at : ℕ} {b : Book} → openingOf s ≡ (number
 unfolding outcomeOf
 play-bare s e f = rw (replay-bare s e, f .stores)
 
-pub play-begins : (s : List ℕ) {at : ℕ} {b : Book} → openingOf s ≡ (0, at) → Fresh b → Playing s at 0 b
-play-begins s e f = record { stand = stands s e f; completes = rw (f .model) (sym (ap (outcomeOf 0) (replay-headed s e))) }
+pub play-begins : (s : List ℕ) (at : ℕ) {b : Book} → at ≤ length s → Fresh b → Playing s (outcomeOf 0 (replayFrom s at freshModel)) at 0 b
+play-begins s at h f = record { stand = stands h f; completes = ap (λ m. outcomeOf 0 (replayFrom s at m)) (f .model) }
 
-pub plays-on : {s : List ℕ} {at k : ℕ} {b : Book} {c : Command} {next : ℕ} {t : Step}
-    → Playing s at k b → readAt s at ≡ found c next → Stepped (modelOf b) c t → Playing s next (k + 1) (t .book)
-plays-on {s} {at} {k} {b} i d e =
+pub plays-on : {s : List ℕ} {end : Outcome} {at k : ℕ} {b : Book} {c : Command} {next : ℕ} {t : Step}
+    → Playing s end at k b → readAt s at ≡ found c next → Stepped (modelOf b) c t → Playing s end next (k + 1) (t .book)
+plays-on {s} {end} {at} {k} {b} i d e =
     record { stand = stands-on (i .stand) d e; completes = rw (e .model) (sym (ap (outcomeOf k) (from-record s at (modelOf b) d) ∙ outcome-heard k _ _) ∙ i .completes) }
 
-pub play-stops : {s : List ℕ} {at k : ℕ} {b : Book} {n p : ℕ} → Playing s at k b → readAt s at ≡ refused n p → ending b k (number journalMalformed) p ≡ outcomeOf 0 (replayOf s)
+pub play-stops : {s : List ℕ} {end : Outcome} {at k : ℕ} {b : Book} {n p : ℕ} → Playing s end at k b → readAt s at ≡ refused n p → ending b k (number journalMalformed) p ≡ end
 unfolding outcomeOf
-play-stops {s} {at} {k} {b} {n} {p} i d =
+play-stops {s} {end} {at} {k} {b} {n} {p} i d =
     let e : ending (stored (modelOf b)) k (number journalMalformed) p ≡ outcomeOf k (halted (atRecord p) (modelOf b)) = rw (add-zero k) in
     ap (λ (x : Book). ending x k (number journalMalformed) p) (back (i .stand .shelved)) ∙ e ∙ sym (ap (outcomeOf k) (from-bad s at (modelOf b) d)) ∙ i .completes
 
-pub play-ends : {s : List ℕ} {at k : ℕ} {b : Book} → Playing s at k b → readAt s at ≡ ended → ending b k 0 0 ≡ outcomeOf 0 (replayOf s)
+pub play-ends : {s : List ℕ} {end : Outcome} {at k : ℕ} {b : Book} → Playing s end at k b → readAt s at ≡ ended → ending b k 0 0 ≡ end
 unfolding outcomeOf
-play-ends {s} {at} {k} {b} i d =
+play-ends {s} {end} {at} {k} {b} i d =
     let e : ending (stored (modelOf b)) k 0 0 ≡ outcomeOf k (halted atEnd (modelOf b)) = rw (add-zero k) in
     ap (λ (x : Book). ending x k 0 0) (back (i .stand .shelved)) ∙ e ∙ sym (ap (outcomeOf k) (from-end s at (modelOf b) d)) ∙ i .completes

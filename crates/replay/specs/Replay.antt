@@ -9,6 +9,7 @@ use Rattle.refusal.specs.Rule.{after}
 use Rattle.command.specs.declared.Command.{Command}
 use Rattle.journal.specs.Answers.{Reading, found, refused, ended}
 use Rattle.journal.specs.Format.{openingOf, readAt}
+use Rattle.book.specs.declared.Book.{Book}
 use Rattle.book.specs.Model.{Model, freshModel}
 use Rattle.book.specs.Rules.{commanded}
 use Rattle.book.specs.Stored.{stored}
@@ -68,3 +69,6 @@ stopOffset (atRecord at) = at
 
 unfoldable pub outcomeOf : ℕ → Replayed → Outcome
 outcomeOf k r = record { book = stored (r .model); count = k + length (r .answers); number = stopNumber (r .stop); at = stopOffset (r .stop) }
+
+abbrev pub ending : Book → ℕ → ℕ → ℕ → Outcome
+ending b k n at = record { book = b; count = k; number = n; at = at }

@@ -13,7 +13,7 @@ use Rattle.refusal.specs.Rule.{after, answered}
 use Rattle.table.specs.Tables.{keys}
 use Rattle.command.specs.declared.Command.{Command}
 use Rattle.journal.specs.Answers.{found}
-use Rattle.journal.specs.Format.{openingOf, readAt}
+use Rattle.journal.specs.Format.{readAt}
 use Rattle.book.specs.declared.Book.{Book}
 use Rattle.book.specs.declared.Step.{Step}
 use Rattle.book.specs.Model.{Model, freshModel}
@@ -22,7 +22,7 @@ use Rattle.book.specs.Stored.{modelOf, stored, stepOf, Shelved}
 use Rattle.book.specs.Shelving.{Fits, fits-of, shelved-stored, model-stored}
 use Rattle.book.specs.Fitting.{fits-kept}
 use Rattle.replay.specs.Replay.{answerTo, obeyed}
-use Rattle.replay.specs.Ahead.{ahead, opened}
+use Rattle.replay.specs.Ahead.{ahead}
 
 -- ── The book ──────────────────────────────────────────────────────
 fresh-fits : Fits freshModel
@@ -69,8 +69,8 @@ pub record Standing (s : List ℕ) (at k : ℕ) (b : Book) : Type 0 where
   pub within : at ≤ length s
   pub shelved : Shelved b
 
-pub stands : (s : List ℕ) {at : ℕ} {b : Book} → openingOf s ≡ (0, at) → Fresh b → Standing s at 0 b
-stands s e f = record { few = omega arith; within = opened s e; shelved = f .shelved }
+pub stands : {s : List ℕ} {at : ℕ} {b : Book} → at ≤ length s → Fresh b → Standing s at 0 b
+stands h f = record { few = omega arith; within = h; shelved = f .shelved }
 
 pub stands-on : {s : List ℕ} {at k : ℕ} {b : Book} {m : Model} {c : Command} {next : ℕ} {t : Step}
     → Standing s at k b → readAt s at ≡ found c next → Stepped m c t → Standing s next (k + 1) (t .book)

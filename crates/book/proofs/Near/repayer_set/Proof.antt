@@ -1,0 +1,24 @@
+use Rattle.book.specs.Steps.{settings-step}
+use mathlib.Core.Path.{_≡_, refl, sym, ap, _∙_}
+use borrow.Author.Needs.{needs}
+use Rattle.book.proofs.Near.repayer_set.Statement.{statement}
+use Rattle.book.proofs.Near.repayer_set.Tie as tie
+use Rattle.book.proofs.Near.repayer_set.Reads as reads
+use Rattle.book.proofs.Near.repayer_set.Lts as lts
+use Rattle.settings.proofs.Settings.set_repayer.Reads as set-repayer-reads
+use Rattle.shelves.proofs.Accounts.get.Reads as get-reads
+
+-- src/lib.rt:418:13
+get-requires : tie.Need-get-requires
+get-requires c κs = search needs
+
+-- src/lib.rt:420:13
+set-repayer-requires : tie.Need-set-repayer-requires
+set-repayer-requires c κs = search needs
+
+-- src/lib.rt:413:5
+returns : tie.Need-returns
+returns c = λ o t e. settings-step (c .before .before .before .before .before .pre) e _ (c .before .set-repayer .result) (simp (c .before .before .before .get .ensures) at (c .before .set-repayer .ensures))
+
+pub repayer-set-spec : {M : Type 1} → statement M
+repayer-set-spec = tie.close (tie.spec get-requires set-repayer-requires returns)
