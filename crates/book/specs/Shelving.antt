@@ -1,10 +1,6 @@
 -- A book whose arrays are tables is its model, stored; and a model whose tables fit is the model of what it is stored as
 use mathlib.Core.Path.{_≡_, refl, sym, ap, _∙_}
-use Rattle.table.specs.Tables.{Table}
 use Rattle.table.specs.Keeping.{Fine}
-use Rattle.account.specs.declared.Account.{Account}
-use Rattle.invoice.specs.declared.Invoice.{Invoice}
-use Rattle.offer.specs.declared.Deal.{Deal}
 use Rattle.settings.specs.declared.Settings.{Settings}
 use Rattle.settings.specs.declared.Totals.{Totals}
 use Rattle.shelves.specs.declared.Accounts.{Accounts}
@@ -16,13 +12,13 @@ use Rattle.shelves.specs.OfferLaws.{deals-keeping}
 use Rattle.shelves.specs.Invoices.{invoicesOf, storedInvoices}
 use Rattle.shelves.specs.Offers.{dealsOf, storedDeals}
 use Rattle.book.specs.declared.Book.{Book}
-use Rattle.book.specs.Model.{Model, withAccounts, withInvoices, withOffers, withTotals, withSettings}
+use Rattle.book.specs.Model.{Model}
 use Rattle.book.specs.Stored.{modelOf, stored, Shelved}
 
-abbrev pub bookOf : Accounts → Invoices → Offers → Totals → Settings → Book
+abbrev bookOf : Accounts → Invoices → Offers → Totals → Settings → Book
 bookOf a i o t s = record { accounts = a; invoices = i; offers = o; totals = t; settings = s }
 
-pub same-book : {a a′ : Accounts} {i i′ : Invoices} {o o′ : Offers} (t : Totals) (s : Settings) → a ≡ a′ → i ≡ i′ → o ≡ o′ → bookOf a i o t s ≡ bookOf a′ i′ o′ t s
+same-book : {a a′ : Accounts} {i i′ : Invoices} {o o′ : Offers} (t : Totals) (s : Settings) → a ≡ a′ → i ≡ i′ → o ≡ o′ → bookOf a i o t s ≡ bookOf a′ i′ o′ t s
 same-book {a} {a′} {i} {i′} {o} {o′} t s p q r = ap (λ z. bookOf z i o t s) p ∙ ap (λ z. bookOf a′ z o t s) q ∙ ap (λ z. bookOf a′ i′ z t s) r
 
 module _ {b : Book} (k : Shelved b) where
@@ -37,26 +33,6 @@ module _ {b : Book} (k : Shelved b) where
 
   pub back : b ≡ stored (modelOf b)
   back = same-book (b .totals) (b .settings) accounts-back invoices-back offers-back
-
-  -- a book with one part put anew
-  pub new-accounts : (t : Table Account) → bookOf (storedAccounts t) (b .invoices) (b .offers) (b .totals) (b .settings) ≡ stored (withAccounts t (modelOf b))
-  new-accounts t = same-book (b .totals) (b .settings) refl invoices-back offers-back
-
-  pub new-invoices : (t : Table Invoice) → bookOf (b .accounts) (storedInvoices t) (b .offers) (b .totals) (b .settings) ≡ stored (withInvoices t (modelOf b))
-  new-invoices t = same-book (b .totals) (b .settings) accounts-back refl offers-back
-
-  pub new-offers : (t : Table Deal) → bookOf (b .accounts) (b .invoices) (storedDeals t) (b .totals) (b .settings) ≡ stored (withOffers t (modelOf b))
-  new-offers t = same-book (b .totals) (b .settings) accounts-back invoices-back refl
-
-  pub new-totals : (t : Totals) → bookOf (b .accounts) (b .invoices) (b .offers) t (b .settings) ≡ stored (withTotals t (modelOf b))
-  new-totals t = same-book t (b .settings) accounts-back invoices-back offers-back
-
-  pub new-settings : (s : Settings) → bookOf (b .accounts) (b .invoices) (b .offers) (b .totals) s ≡ stored (withSettings s (modelOf b))
-  new-settings s = same-book (b .totals) s accounts-back invoices-back offers-back
-
-  pub new-moneys : (t : Table Account) (u : Table Deal) (x : Totals) → bookOf (storedAccounts t) (b .invoices) (storedDeals u) x (b .settings)
-      ≡ stored (withAccounts t (withOffers u (withTotals x (modelOf b))))
-  new-moneys t u x = same-book x (b .settings) refl invoices-back refl
 
 -- ── Tables that fit: at most 64 rows, ids that ascend ─────────────
 pub record Fits (m : Model) : Type 0 where

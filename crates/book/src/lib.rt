@@ -707,8 +707,7 @@ impl Near {
             return 0;
         };
         let accounts = self.accounts;
-        let s = accounts.get(a);
-        if !s.here {
+        if !accounts.has(a) {
             return refusal::NOT_FOUND;
         }
         0

@@ -3,6 +3,7 @@ pub mod Accounts
 pub mod Invoices
 pub mod Offers
 pub mod Deals
+pub mod Moving
 pub mod Laws
 pub mod OfferLaws
 pub mod Steps

@@ -92,6 +92,20 @@ impl Accounts {
         SeenAccount { here: true, row: r }
     }
 
+    // Whether `id` has a row. It looks at the ids alone, so that the rows are not copied.
+    pub fn has(self, id: u64) -> bool
+        requires { ⌜ AccountShelf self ⌝ }
+        ensures { λ r. ⌜ r ≡ seenAccount (find (accountsOf self) id) .here ⌝ }
+    {
+        let n = self.count;
+        let ids = self.ids;
+        let f = table::find(&ids, n, id);
+        let Found::At(_) = f else {
+            return false;
+        };
+        true
+    }
+
     // The row of `id` made `row`; without such a row nothing changes.
     pub fn put(mut self, id: u64, row: Account) -> Accounts
         requires { ⌜ AccountShelf self ⌝ }
@@ -254,48 +268,6 @@ pub struct Offers {
     pub count: usize,
 }
 
-pub fn insert_offer(mut xs: [Offer; 64], at: usize, x: Offer) -> [Offer; 64]
-    ensures { λ r. ⌜ r ≡ insertAt at x xs ⌝ }
-{
-    let mut carry = x;
-    let mut i = at;
-    while i < ROOM {
-        let next = xs[i];
-        xs[i] = carry;
-        carry = next;
-        i += 1;
-    }
-    xs
-}
-
-pub fn insert_negotiation(mut xs: [Negotiation; 64], at: usize, x: Negotiation) -> [Negotiation; 64]
-    ensures { λ r. ⌜ r ≡ insertAt at x xs ⌝ }
-{
-    let mut carry = x;
-    let mut i = at;
-    while i < ROOM {
-        let next = xs[i];
-        xs[i] = carry;
-        carry = next;
-        i += 1;
-    }
-    xs
-}
-
-pub fn insert_schedule(mut xs: [Schedule; 64], at: usize, x: Schedule) -> [Schedule; 64]
-    ensures { λ r. ⌜ r ≡ insertAt at x xs ⌝ }
-{
-    let mut carry = x;
-    let mut i = at;
-    while i < ROOM {
-        let next = xs[i];
-        xs[i] = carry;
-        carry = next;
-        i += 1;
-    }
-    xs
-}
-
 impl Offers {
     pub fn none() -> Offers
         ensures { λ r. ⌜ r ≡ storedDeals [] ⌝ }
@@ -387,6 +359,7 @@ impl Offers {
         self
     }
 
+    // From the id's place on each row moves up by one.
     pub fn let_in(mut self, id: u64, row: Deal) -> Offers
         requires { ⌜ DealShelf self × Room 64 (dealsOf self) id ⌝ }
         ensures { λ r. ⌜ r ≡ storedDeals (insert (dealsOf self) id row) ⌝ }
@@ -396,21 +369,26 @@ impl Offers {
         let Found::Absent(k) = f else {
             return self;
         };
-        let c = self.ids;
-        let d = table::insert_id(c, k, id);
-        self.ids = d;
-        let o = row.offer;
-        let a = self.rows;
-        let b = insert_offer(a, k, o);
-        self.rows = b;
-        let g = row.negotiation;
-        let e = self.negotiations;
-        let h = insert_negotiation(e, k, g);
-        self.negotiations = h;
-        let p = row.schedule;
-        let q = self.schedules;
-        let s = insert_schedule(q, k, p);
-        self.schedules = s;
+        let mut x = id;
+        let mut o = row.offer;
+        let mut g = row.negotiation;
+        let mut p = row.schedule;
+        let mut i = k;
+        while i < ROOM {
+            let a = self.ids[i];
+            let b = self.rows[i];
+            let c = self.negotiations[i];
+            let d = self.schedules[i];
+            self.ids[i] = x;
+            self.rows[i] = o;
+            self.negotiations[i] = g;
+            self.schedules[i] = p;
+            x = a;
+            o = b;
+            g = c;
+            p = d;
+            i += 1;
+        }
         self.count = n + 1;
         self
     }
