@@ -916,7 +916,7 @@ impl Book {
     }
 
     // The step on a sound book: it tests nothing of the book again.
-    fn obey(self, c: Command) -> Step
+    fn obey(mut self, c: Command) -> Step
         requires { ⌜ Shelved self ⌝ }
         ensures { λ r. ⌜ r ≡ answered stepOf (modelOf self) (commanded (modelOf self) c) ⌝ }
     {
@@ -931,17 +931,17 @@ impl Book {
         let row = d.row;
         if !s.here & d.here {
             let more = offers.let_in(id, row);
-            let grown = book_of(after, more);
+            self = book_of(after, more);
             return Step {
                 answer: t.answer,
-                book: grown,
+                book: self,
             };
         }
         let same = offers.put(id, row);
-        let next = book_of(after, same);
+        self = book_of(after, same);
         Step {
             answer: t.answer,
-            book: next,
+            book: self,
         }
     }
 
