@@ -1,5 +1,5 @@
 -- A book whose arrays are tables is its model, stored; and a model whose tables fit is the model of what it is stored as
-use mathlib.Core.Path.{_≡_, refl, sym, ap, _∙_}
+use mathlib.Core.Path.{_≡_, sym, ap, _∙_}
 use Rattle.table.specs.Keeping.{Fine}
 use Rattle.settings.specs.declared.Settings.{Settings}
 use Rattle.settings.specs.declared.Totals.{Totals}

@@ -1,8 +1,7 @@
 -- What is seen of a model is its parts, stored; and a part put anew is seen anew
 use Prim.Native.Nat.{ℕ}
 use mathlib.Core.Path.{_≡_, refl, sym, ap, _∙_}
-use mathlib.Core.Bool.{true, false, cond}
-use lib.Dec.{eqb}
+use mathlib.Core.Bool.{true, cond}
 use borrow.Author.Tests.{eq-eqb}
 use Rattle.refusal.specs.Choice.{pick}
 use Rattle.table.specs.Tables.{Found, absent, here, Table, find, adjust, insert, fmap}

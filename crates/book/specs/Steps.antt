@@ -1,6 +1,6 @@
 -- How a step that changes one part of what it sees answers
 use Prim.Native.Nat.{ℕ}
-use mathlib.Core.Path.{_≡_, refl, sym, ap, _∙_}
+use mathlib.Core.Path.{_≡_, refl, ap, _∙_}
 use mathlib.Core.Bool.{Bool, true, false}
 use mathlib.Core.List.{[], _∷_}
 use lib.Dec.{eqb}
@@ -26,12 +26,12 @@ use Rattle.settings.specs.declared.SettingsPosted.{SettingsPosted}
 use Rattle.settings.specs.declared.TotalsPosted.{TotalsPosted}
 use Rattle.shelves.specs.Accounts.{accountsOf, storedAccounts, seenAccount}
 use Rattle.shelves.specs.Invoices.{invoicesOf, storedInvoices, seenInvoice}
-use Rattle.shelves.specs.Offers.{dealsOf, storedDeals, seenDeal}
+use Rattle.shelves.specs.Offers.{seenDeal}
 use Rattle.book.specs.declared.Near.{Near}
 use Rattle.book.specs.declared.Turn.{Turn}
 use Rattle.book.specs.Model.{Model, accountIn, invoiceIn, offerIn, onAccount, onInvoice, onOffer, onTotals, onSettings, withAccounts, withInvoices, withOffers, withTotals, withSettings}
-use Rattle.book.specs.Near.{putDeal, Sited, modelNear, viewOf, turnOf, Shows}
-use Rattle.book.specs.Sites.{nearBy, back, new-accounts, new-invoices, new-deal, new-totals, new-settings, seen-put}
+use Rattle.book.specs.Near.{putDeal, Sited, modelNear, turnOf, Shows}
+use Rattle.book.specs.Sites.{nearBy, back, new-accounts, new-invoices, new-deal, new-totals, new-settings}
 
 module _ {A : Type 0} where
   adjust-id : (t : Table A) (i : ℕ) → adjust t i (λ old. old) ≡ t

@@ -10,7 +10,7 @@ use Rattle.refusal.specs.Choice.{pick}
 use Rattle.refusal.specs.Refusal.{first}
 use Rattle.refusal.specs.Rule.{after, passed, both-pass}
 use Rattle.table.specs.Tables.{Found, absent, here, Table, find, adjust, insert, Room, fmap, Is, is-true, is-false, decide}
-use Rattle.table.specs.TableLaws.{find-adjust, find-insert, adjust-absent, adjust-to}
+use Rattle.table.specs.TableLaws.{find-adjust, find-insert, adjust-absent}
 use Rattle.terms.specs.declared.Terms.{Terms}
 use Rattle.offer.specs.Offer.{settledDeal}
 use Rattle.offer.specs.declared.Deal.{Deal}

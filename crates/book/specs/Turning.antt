@@ -1,5 +1,4 @@
 -- A turn on what a command sees of a book is the book's own step: the named offer is put back, or let in
-use Prim.Native.Nat.{ℕ}
 use mathlib.Core.Path.{_≡_, sym, ap, _∙_}
 use mathlib.Core.Bool.{Bool, true, false, not, _&&_}
 use Rattle.refusal.specs.Refusal.{first}
@@ -18,7 +17,7 @@ use Rattle.book.specs.declared.Turn.{Turn}
 use Rattle.book.specs.Model.{Model}
 use Rattle.book.specs.Rules.{commanded}
 use Rattle.book.specs.Stored.{modelOf, stepOf, Shelved}
-use Rattle.book.specs.Near.{nearOf, bookWith, Sited, modelNear, viewOf, turnOf, Shows, TurnsAt}
+use Rattle.book.specs.Near.{nearOf, bookWith, Sited, modelNear, turnOf, TurnsAt}
 use Rattle.book.specs.Touching.{touched, laid, grown}
 
 pub sited-near : {b : Book} {s : SeenDeal} {n : Near} → Shelved b → n ≡ nearOf b s → Sited n

@@ -1,12 +1,10 @@
 -- The walk replays: what is still to come completes the outcome. Assumes nothing.
-use mathlib.Core.Path.{_≡_, refl, sym, ap, _∙_}
-use mathlib.Core.Bool.{Bool, true, false}
+use mathlib.Core.Path.{_≡_, sym, ap, _∙_}
 use mathlib.Core.List.{List}
 use Prim.Native.Nat.{ℕ, suc, _+_, _≤_}
 use native.Mathlib.Omega.{arith}
 use native.Mathlib.Nat.{add-zero}
 use lib.ListN.{length}
-use borrow.Author.Tests.{ne-eqb}
 use Rattle.refusal.specs.Choice.{pick}
 use Rattle.refusal.specs.Refusal.{number, journalMalformed}
 use Rattle.command.specs.declared.Command.{Command}
@@ -14,8 +12,8 @@ use Rattle.journal.specs.Answers.{found, refused, ended}
 use Rattle.journal.specs.Format.{openingOf, readAt}
 use Rattle.book.specs.declared.Book.{Book}
 use Rattle.book.specs.declared.Step.{Step}
-use Rattle.book.specs.Model.{Model, freshModel}
-use Rattle.book.specs.Stored.{modelOf, stored, Shelved}
+use Rattle.book.specs.Model.{freshModel}
+use Rattle.book.specs.Stored.{modelOf, stored}
 use Rattle.book.specs.Shelving.{back}
 use Rattle.replay.specs.declared.Outcome.{Outcome}
 use Rattle.replay.specs.Replay.{atEnd, atHeader, atRecord, Replayed, halted, heard, replayFrom, replayOf, outcomeOf, ending}

@@ -1,14 +1,13 @@
 -- What both walks keep: they stand within the journal, and the book's arrays are tables. Assumes nothing.
-use mathlib.Core.Path.{_≡_, refl, sym, ap, _∙_}
+use mathlib.Core.Path.{_≡_, refl, ap}
 use mathlib.Core.Bool.{Bool, true, false}
-use mathlib.Core.List.{List, []}
-use Prim.Native.Nat.{ℕ, _+_, _≤_, _<_}
+use mathlib.Core.List.{List}
+use Prim.Native.Nat.{ℕ, _+_, _≤_}
 use native.Mathlib.Omega.{arith}
 use borrow.Author.Tests.{eqb-true}
 use lib.Dec.{eqb}
 use lib.ListN.{length}
 use Rattle.refusal.specs.Choice.{pick}
-use Rattle.refusal.specs.Refusal.{first}
 use Rattle.refusal.specs.Rule.{after, answered}
 use Rattle.table.specs.Tables.{keys}
 use Rattle.command.specs.declared.Command.{Command}

@@ -1,14 +1,12 @@
 use borrow.Author.Tests.{not-true, not-false}
-use mathlib.Core.Path.{_≡_, refl, sym, ap, _∙_}
-use mathlib.Core.Bool.{Bool, true, false}
+use mathlib.Core.Path.{_≡_}
+use mathlib.Core.Bool.{true, false}
 use Rattle.book.specs.Near.{putDeal}
 use Rattle.offer.specs.declared.SeenDeal.{SeenDeal}
 use Rattle.offer.specs.declared.Deal.{Deal}
-use Rattle.refusal.specs.Choice.{on, off, pick}
+use Rattle.refusal.specs.Choice.{pick}
 use Rattle.book.proofs.put.Statement.{statement}
 use Rattle.book.proofs.put.Tie as tie
-use Rattle.book.proofs.put.Reads as reads
-use Rattle.book.proofs.put.Lts as lts
 
 kept : (s : SeenDeal) (d : Deal) → s .here ≡ false → s ≡ putDeal s d
 unfolding putDeal pick

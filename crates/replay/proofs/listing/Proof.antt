@@ -4,9 +4,6 @@ use native.Mathlib.Omega.{arith}
 use borrow.Author.Needs.{needs}
 use Rattle.replay.proofs.listing.Statement.{statement}
 use Rattle.replay.proofs.listing.Tie as tie
-use Rattle.replay.proofs.listing.Reads as reads
-use Rattle.replay.proofs.listing.Lts as lts
-use Rattle.replay.proofs.walk.Reads as walk-reads
 
 -- src/lib.rt:195:29
 sub-if2 : tie.Need-sub-if2

@@ -9,7 +9,6 @@ use Rattle.command.specs.Caller.{offerNamed}
 use Rattle.shelves.specs.Offers.{dealsOf, storedDeals}
 use Rattle.table.specs.Tables.{insert}
 use Rattle.table.specs.ShelfLaws.{at-below}
-use Rattle.table.specs.declared.Found.the-variants.{At, Absent}
 use Rattle.table.specs.Find.{findIn}
 use Prim.Native.Nat.{_+_, _-_, _<_}
 use mir.Syntax.{w64}
@@ -19,27 +18,12 @@ use lib.ListN.{length, take}
 use borrow.Author.Needs.{needs}
 use borrow.Author.Tests.{not-true, not-false}
 use mathlib.Core.Bool.{false}
-use mathlib.Core.Path.{_≡_, refl, sym, ap, _∙_}
+use mathlib.Core.Path.{_≡_, sym, ap, _∙_}
 use Rattle.sheet.specs.Sheet.{penAt}
 use Rattle.book.specs.Near.{bookWith}
-use Rattle.replay.specs.Going.{Going, Gone, going, going-on, gone-bad, gone}
+use Rattle.replay.specs.Going.{Going, going, going-on, gone-bad, gone}
 use Rattle.replay.proofs.records.Statement.{statement}
 use Rattle.replay.proofs.records.Tie as tie
-use Rattle.replay.proofs.records.Reads as reads
-use Rattle.replay.proofs.records.Lts as lts
-use Rattle.book.proofs.Book.fresh.Reads as fresh-reads
-use Rattle.book.proofs.Near.turn.Reads as turn-reads
-use Rattle.book.proofs.book_of.Reads as book-of-reads
-use Rattle.book.proofs.near_of.Reads as near-of-reads
-use Rattle.command.proofs.Command.offer.Reads as offer-reads
-use Rattle.lines.proofs.put_answer.Reads as put-answer-reads
-use Rattle.lines.proofs.put_mark.Reads as put-mark-reads
-use Rattle.offer.proofs.Deal.none.Reads as none-reads
-use Rattle.reader.proofs.read.Reads as read-reads
-use Rattle.replay.proofs.finish.Reads as finish-reads
-use Rattle.replay.proofs.seen.Reads as seen-reads
-use Rattle.shelves.proofs.Offers.let_in.Reads as let-in-reads
-use Rattle.table.proofs.find.Reads as find-reads
 
 abbrev Inv-loop : tie.InvT-loop
 Inv-loop s out₀ ink first none near₀ offers₀ pen₀ at₀ k₀ out near offers pen at k = Going ink s first out₀ (penAt 0 false) out at k (bookWith near offers) pen

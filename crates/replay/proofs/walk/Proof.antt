@@ -6,17 +6,10 @@ use Rattle.replay.specs.Text.{textOf, listingOf}
 use Rattle.replay.specs.Replay.{outcomeOf}
 use Rattle.replay.specs.Ahead.{opened}
 use Rattle.journal.specs.Answers.{opening}
-use mathlib.Core.Path.{_≡_, refl, sym, ap, _∙_}
+use mathlib.Core.Path.{sym, ap, _∙_}
 use borrow.Author.Needs.{needs}
 use Rattle.replay.proofs.walk.Statement.{statement}
 use Rattle.replay.proofs.walk.Tie as tie
-use Rattle.replay.proofs.walk.Reads as reads
-use Rattle.replay.proofs.walk.Lts as lts
-use Rattle.book.proofs.Book.fresh.Reads as fresh-reads
-use Rattle.journal.proofs.header.Reads as header-reads
-use Rattle.lines.proofs.put_mark.Reads as put-mark-reads
-use Rattle.replay.proofs.finish.Reads as finish-reads
-use Rattle.replay.proofs.records.Reads as records-reads
 
 -- src/lib.rt:167:9
 header-requires : tie.Need-header-requires

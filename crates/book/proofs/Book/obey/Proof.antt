@@ -1,24 +1,12 @@
-use mathlib.Core.Path.{_≡_, refl, sym, ap, _∙_}
-use mathlib.Core.Bool.{Bool, true, false, not, _&&_}
-use Rattle.table.specs.Tables.{find, adjust, insert, Room}
+use mathlib.Core.Path.{_≡_, sym, ap, _∙_}
+use mathlib.Core.Bool.{Bool, not, _&&_}
+use Rattle.table.specs.Tables.{find, adjust, insert}
 use Rattle.shelves.specs.Offers.{dealsOf, storedDeals, seenDeal}
 use Rattle.command.specs.Caller.{offerNamed}
 use Rattle.book.specs.Turning.{sited-near, Turned, turned, put-back, has-room, let-in, stepping}
-use Rattle.book.specs.Stored.{modelOf}
-use Rattle.book.specs.Near.{bookWith}
 use borrow.Author.Needs.{needs}
 use Rattle.book.proofs.Book.obey.Statement.{statement}
 use Rattle.book.proofs.Book.obey.Tie as tie
-use Rattle.book.proofs.Book.obey.Reads as reads
-use Rattle.book.proofs.Book.obey.Lts as lts
-use Rattle.book.proofs.Near.turn.Reads as turn-reads
-use Rattle.book.proofs.book_of.Reads as book-of-reads
-use Rattle.book.proofs.near_of.Reads as near-of-reads
-use Rattle.command.proofs.Command.offer.Reads as offer-reads
-use Rattle.shelves.proofs.Offers.full.Reads as full-reads
-use Rattle.shelves.proofs.Offers.get.Reads as get-reads
-use Rattle.shelves.proofs.Offers.let_in.Reads as let-in-reads
-use Rattle.shelves.proofs.Offers.put.Reads as put-reads
 
 module _ (c : tie.After-turn) where
   abbrev start : tie.Start

@@ -1,4 +1,4 @@
-use mathlib.Core.Path.{_≡_, refl, sym, ap, _∙_}
+use mathlib.Core.Path.{_≡_, refl, sym, _∙_}
 use borrow.Author.Tests.{eqb-true, eqb-false, not-true, not-false}
 use Prim.Native.Nat.{ℕ}
 use Rattle.refusal.specs.Chain.{next-stops}
@@ -15,11 +15,6 @@ use Rattle.book.specs.Chains.{then-answers}
 use borrow.Author.Needs.{needs}
 use Rattle.book.proofs.Near.accepted.Statement.{statement}
 use Rattle.book.proofs.Near.accepted.Tie as tie
-use Rattle.book.proofs.Near.accepted.Reads as reads
-use Rattle.book.proofs.Near.accepted.Lts as lts
-use Rattle.book.proofs.Near.settle.Reads as settle-reads
-use Rattle.offer.proofs.SeenDeal.accept_refusal.Reads as accept-refusal-reads
-use Rattle.shelves.proofs.Invoices.get.Reads as get-reads
 
 number : (c : tie.After-accept-refusal) (o : ℕ) (t : Table Deal) → Shows (c .before .before .before .before .before .before .args .self) o t
     → c .accept-refusal .result ≡ first (acceptChecks (offerIn (modelNear (c .before .before .before .before .before .before .args .self) t) o) (c .before .before .before .before .before .before .args .now) (c .before .before .before .before .before .before .args .caller) (paperOf (modelNear (c .before .before .before .before .before .before .args .self) t) o))

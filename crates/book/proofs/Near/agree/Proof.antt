@@ -1,4 +1,4 @@
-use mathlib.Core.Path.{_≡_, refl, sym, ap, _∙_}
+use mathlib.Core.Path.{_≡_, refl, sym, _∙_}
 use borrow.Author.Tests.{eqb-true, eqb-false, not-true, not-false}
 use Prim.Native.Nat.{ℕ}
 use Rattle.refusal.specs.Refusal.{first}
@@ -9,12 +9,8 @@ use Rattle.book.specs.Steps.{same}
 use Rattle.book.specs.Near.{modelNear, turnOf, Shows}
 use Rattle.book.specs.Rules.{concluding}
 use Rattle.book.specs.Chains.{number-of}
-use borrow.Author.Needs.{needs}
 use Rattle.book.proofs.Near.agree.Statement.{statement}
 use Rattle.book.proofs.Near.agree.Tie as tie
-use Rattle.book.proofs.Near.agree.Reads as reads
-use Rattle.book.proofs.Near.agree.Lts as lts
-use Rattle.book.proofs.Near.conclude.Reads as conclude-reads
 
 number : (c : tie.After-conclude) (o : ℕ) (u : Table Deal) → Shows (c .before .args .mid) o u → c .conclude .result .answer ≡ first (concluding (c .before .args .now) o (modelNear (c .before .args .mid) u) .checks)
 number c o u f = number-of (turnOf o) _ _ (λ s. s .answer) (λ n x. refl) (c .conclude .ensures o u f)

@@ -4,7 +4,6 @@ use Prim.Native.Nat.{ℕ}
 use Rattle.refusal.specs.Refusal.{Check, first, none-left}
 use Rattle.refusal.specs.Rule.{Rule, answered, refused}
 use mathlib.Core.List.{List, _++_}
-use mathlib.Core.Bool.{true, false}
 use Rattle.table.specs.Keeping.{fine-adjust}
 use Rattle.table.specs.Tables.{Table}
 use Rattle.account.specs.declared.Account.{Account}
@@ -21,14 +20,6 @@ use Rattle.book.specs.Chains.{stops, goes, number-of, done-of, then-acce
 use borrow.Author.Needs.{needs}
 use Rattle.book.proofs.Near.amended.Statement.{statement}
 use Rattle.book.proofs.Near.amended.Tie as tie
-use Rattle.book.proofs.Near.amended.Reads as reads
-use Rattle.book.proofs.Near.amended.Lts as lts
-use Rattle.account.proofs.Account.reoffer.Reads as reoffer-reads
-use Rattle.book.proofs.Near.agree.Reads as agree-reads
-use Rattle.book.proofs.Near.with_amendment.Reads as with-amendment-reads
-use Rattle.negotiation.proofs.Negotiation.agrees.Reads as agrees-reads
-use Rattle.offer.proofs.SeenDeal.amend_refusal.Reads as amend-refusal-reads
-use Rattle.shelves.proofs.Accounts.get.Reads as get-reads
 
 module _ (s : tie.Start) (o : ℕ) (ts : Table Deal) where
   abbrev model : Model

@@ -1,14 +1,8 @@
 use mir.Facts.{toZ-ofZ}
 use Rattle.book.specs.Steps.{account-step}
-use mathlib.Core.Path.{_≡_, refl, sym, ap, _∙_}
 use borrow.Author.Needs.{needs}
 use Rattle.book.proofs.Near.approved.Statement.{statement}
 use Rattle.book.proofs.Near.approved.Tie as tie
-use Rattle.book.proofs.Near.approved.Reads as reads
-use Rattle.book.proofs.Near.approved.Lts as lts
-use Rattle.account.proofs.Account.approve.Reads as approve-reads
-use Rattle.shelves.proofs.Accounts.get.Reads as get-reads
-use Rattle.shelves.proofs.Accounts.put.Reads as put-reads
 
 -- src/lib.rt:146:13
 get-requires : tie.Need-get-requires

@@ -1,14 +1,7 @@
 use Rattle.book.specs.Steps.{account-step}
-use mathlib.Core.Path.{_≡_, refl, sym, ap, _∙_}
 use borrow.Author.Needs.{needs}
 use Rattle.book.proofs.Near.blacklisted.Statement.{statement}
 use Rattle.book.proofs.Near.blacklisted.Tie as tie
-use Rattle.book.proofs.Near.blacklisted.Reads as reads
-use Rattle.book.proofs.Near.blacklisted.Lts as lts
-use Rattle.account.proofs.SeenAccount.blacklist.Reads as blacklist-reads
-use Rattle.settings.proofs.Settings.admin_passes.Reads as admin-passes-reads
-use Rattle.shelves.proofs.Accounts.get.Reads as get-reads
-use Rattle.shelves.proofs.Accounts.put.Reads as put-reads
 
 -- src/lib.rt:352:13
 get-requires : tie.Need-get-requires

@@ -1,13 +1,7 @@
 use Rattle.book.specs.Steps.{invoice-step}
-use mathlib.Core.Path.{_≡_, refl, sym, ap, _∙_}
 use borrow.Author.Needs.{needs}
 use Rattle.book.proofs.Near.cancelled.Statement.{statement}
 use Rattle.book.proofs.Near.cancelled.Tie as tie
-use Rattle.book.proofs.Near.cancelled.Reads as reads
-use Rattle.book.proofs.Near.cancelled.Lts as lts
-use Rattle.invoice.proofs.SeenInvoice.cancel.Reads as cancel-reads
-use Rattle.shelves.proofs.Invoices.get.Reads as get-reads
-use Rattle.shelves.proofs.Invoices.put.Reads as put-reads
 
 -- src/lib.rt:187:13
 get-requires : tie.Need-get-requires

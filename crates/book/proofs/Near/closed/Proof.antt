@@ -2,11 +2,6 @@ use Rattle.book.specs.Steps.{offer-step}
 use borrow.Author.Needs.{needs}
 use Rattle.book.proofs.Near.closed.Statement.{statement}
 use Rattle.book.proofs.Near.closed.Tie as tie
-use Rattle.book.proofs.Near.closed.Reads as reads
-use Rattle.book.proofs.Near.closed.Lts as lts
-use Rattle.book.proofs.put.Reads as put-reads
-use Rattle.offer.proofs.SeenDeal.close.Reads as close-reads
-use Rattle.shelves.proofs.Invoices.get.Reads as get-reads
 
 -- src/lib.rt:313:13
 get-requires : tie.Need-get-requires

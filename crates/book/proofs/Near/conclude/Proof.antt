@@ -1,4 +1,4 @@
-use mathlib.Core.Path.{_≡_, refl, sym, ap, _∙_}
+use mathlib.Core.Path.{_≡_, refl, sym, _∙_}
 use borrow.Author.Tests.{eqb-true, eqb-false, not-true, not-false}
 use Prim.Native.Nat.{ℕ}
 use Rattle.refusal.specs.Chain.{next-stops}
@@ -7,7 +7,7 @@ use Rattle.refusal.specs.Refusal.{first}
 use Rattle.table.specs.Tables.{Table}
 use Rattle.offer.specs.declared.Deal.{Deal}
 use Rattle.offer.specs.Rules.{agreementChecks}
-use Rattle.book.specs.Model.{Model, accountIn, offerIn, paperOf}
+use Rattle.book.specs.Model.{accountIn, offerIn, paperOf}
 use Rattle.book.specs.Rules.{lenderOf, originatorOf, settling, concluding}
 use Rattle.book.specs.Near.{modelNear, turnOf, Shows}
 use Rattle.book.specs.Steps.{same}
@@ -15,12 +15,6 @@ use Rattle.book.specs.Chains.{then-answers}
 use borrow.Author.Needs.{needs}
 use Rattle.book.proofs.Near.conclude.Statement.{statement}
 use Rattle.book.proofs.Near.conclude.Tie as tie
-use Rattle.book.proofs.Near.conclude.Reads as reads
-use Rattle.book.proofs.Near.conclude.Lts as lts
-use Rattle.book.proofs.Near.settle.Reads as settle-reads
-use Rattle.offer.proofs.Deal.agreement_refusal.Reads as agreement-refusal-reads
-use Rattle.shelves.proofs.Accounts.get.Reads as Accounts-get-reads
-use Rattle.shelves.proofs.Invoices.get.Reads as Invoices-get-reads
 
 number : (c : tie.After-agreement-refusal) (o : ℕ) (t : Table Deal) → Shows (c .before .before .before .before .before .before .before .before .before .before .args .self) o t → let m = modelNear (c .before .before .before .before .before .before .before .before .before .before .args .self) t in
     c .agreement-refusal .result ≡ first (agreementChecks (offerIn m o .row) (c .before .before .before .before .before .before .before .before .before .before .args .now) (paperOf m o) (accountIn m (lenderOf m o)) (accountIn m (originatorOf m o)))

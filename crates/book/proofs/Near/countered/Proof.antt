@@ -5,7 +5,6 @@ use Rattle.refusal.specs.Refusal.{Check, first, none-left}
 use Rattle.refusal.specs.Chain.{next-stops}
 use Rattle.refusal.specs.Rule.{Rule, answered, refused}
 use mathlib.Core.List.{List}
-use mathlib.Core.Bool.{true, false}
 use Rattle.table.specs.Tables.{Table}
 use Rattle.terms.specs.Terms.{sameTerms}
 use Rattle.offer.specs.declared.Deal.{Deal}
@@ -19,14 +18,6 @@ use Rattle.book.specs.Chains.{then-accepted, then-answers, agrees-on, ag
 use borrow.Author.Needs.{needs}
 use Rattle.book.proofs.Near.countered.Statement.{statement}
 use Rattle.book.proofs.Near.countered.Tie as tie
-use Rattle.book.proofs.Near.countered.Reads as reads
-use Rattle.book.proofs.Near.countered.Lts as lts
-use Rattle.book.proofs.Near.agree.Reads as agree-reads
-use Rattle.book.proofs.Near.with_counter.Reads as with-counter-reads
-use Rattle.offer.proofs.SeenDeal.counter_refusal.Reads as counter-refusal-reads
-use Rattle.shelves.proofs.Accounts.get.Reads as Accounts-get-reads
-use Rattle.shelves.proofs.Invoices.get.Reads as Invoices-get-reads
-use Rattle.terms.proofs.same_terms.Reads as same-terms-reads
 
 module _ (s : tie.Start) (o : ℕ) (ts : Table Deal) where
   abbrev model : Model

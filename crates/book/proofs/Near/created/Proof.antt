@@ -3,7 +3,7 @@ use borrow.Author.Tests.{eqb-true, eqb-false, not-true, not-false}
 use Prim.Native.Nat.{ℕ}
 use Rattle.refusal.specs.Refusal.{Check, first}
 use Rattle.refusal.specs.Rule.{Rule, answered, refused, accepted, passed}
-use mathlib.Core.List.{List, [], _++_}
+use mathlib.Core.List.{List, []}
 use Rattle.table.specs.Tables.{Table, find, absent, full}
 use Rattle.account.specs.declared.Account.{Account}
 use Rattle.account.specs.Rules.{posted, offerOf}
@@ -19,15 +19,6 @@ use Rattle.book.specs.Fitting.{unseen-deal}
 use borrow.Author.Needs.{needs}
 use Rattle.book.proofs.Near.created.Statement.{statement}
 use Rattle.book.proofs.Near.created.Tie as tie
-use Rattle.book.proofs.Near.created.Reads as reads
-use Rattle.book.proofs.Near.created.Lts as lts
-use Rattle.account.proofs.Account.offer.Reads as offer-reads
-use Rattle.offer.proofs.Deal.new.Reads as new-reads
-use Rattle.offer.proofs.create_refusal.Reads as create-refusal-reads
-use Rattle.settings.proofs.Totals.count.Reads as count-reads
-use Rattle.shelves.proofs.Accounts.get.Reads as Accounts-get-reads
-use Rattle.shelves.proofs.Accounts.put.Reads as put-reads
-use Rattle.shelves.proofs.Invoices.get.Reads as Invoices-get-reads
 
 module _ (s : tie.Start) (o : ℕ) (ts : Table Deal) where
   abbrev model : Model

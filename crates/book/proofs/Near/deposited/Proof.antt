@@ -1,14 +1,8 @@
 use mir.Facts.{toZ-ofZ}
 use Rattle.book.specs.Steps.{account-step}
-use mathlib.Core.Path.{_≡_, refl, sym, ap, _∙_}
 use borrow.Author.Needs.{needs}
 use Rattle.book.proofs.Near.deposited.Statement.{statement}
 use Rattle.book.proofs.Near.deposited.Tie as tie
-use Rattle.book.proofs.Near.deposited.Reads as reads
-use Rattle.book.proofs.Near.deposited.Lts as lts
-use Rattle.account.proofs.Account.deposit.Reads as deposit-reads
-use Rattle.shelves.proofs.Accounts.get.Reads as get-reads
-use Rattle.shelves.proofs.Accounts.put.Reads as put-reads
 
 -- src/lib.rt:110:13
 get-requires : tie.Need-get-requires

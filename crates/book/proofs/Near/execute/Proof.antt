@@ -8,35 +8,10 @@ use Rattle.money.specs.Facts.{back}
 use Rattle.offer.specs.declared.Deal.{Deal}
 use Rattle.table.specs.Tables.{Table}
 use Rattle.refusal.specs.Rule.{answered}
-use mathlib.Core.Path.{_≡_, refl, sym, ap, _∙_}
+use mathlib.Core.Path.{_≡_, sym, ap, _∙_}
 use borrow.Author.Needs.{needs}
 use Rattle.book.proofs.Near.execute.Statement.{statement}
 use Rattle.book.proofs.Near.execute.Tie as tie
-use Rattle.book.proofs.Near.execute.Reads as reads
-use Rattle.book.proofs.Near.execute.Lts as lts
-use Rattle.book.proofs.Near.accepted.Reads as accepted-reads
-use Rattle.book.proofs.Near.amended.Reads as amended-reads
-use Rattle.book.proofs.Near.approved.Reads as approved-reads
-use Rattle.book.proofs.Near.blacklisted.Reads as blacklisted-reads
-use Rattle.book.proofs.Near.cancelled.Reads as cancelled-reads
-use Rattle.book.proofs.Near.closed.Reads as closed-reads
-use Rattle.book.proofs.Near.countered.Reads as countered-reads
-use Rattle.book.proofs.Near.created.Reads as created-reads
-use Rattle.book.proofs.Near.deposited.Reads as deposited-reads
-use Rattle.book.proofs.Near.lender_repaid.Reads as lender-repaid-reads
-use Rattle.book.proofs.Near.opened.Reads as opened-reads
-use Rattle.book.proofs.Near.paid_out.Reads as paid-out-reads
-use Rattle.book.proofs.Near.pause_set.Reads as pause-set-reads
-use Rattle.book.proofs.Near.registered.Reads as registered-reads
-use Rattle.book.proofs.Near.rejected.Reads as rejected-reads
-use Rattle.book.proofs.Near.repaid_updated.Reads as repaid-updated-reads
-use Rattle.book.proofs.Near.repayer_set.Reads as repayer-set-reads
-use Rattle.book.proofs.Near.scheduled.Reads as scheduled-reads
-use Rattle.book.proofs.Near.seats_set.Reads as seats-set-reads
-use Rattle.book.proofs.Near.status_updated.Reads as status-updated-reads
-use Rattle.book.proofs.Near.totals_repaid.Reads as totals-repaid-reads
-use Rattle.book.proofs.Near.window_set.Reads as window-set-reads
-use Rattle.book.proofs.Near.withdrawn.Reads as withdrawn-reads
 
 does : Near → Table Deal → Command → Turn
 does n ts k = answered (turnOf (offerNamed k)) (modelNear n ts) (rule (modelNear n ts) k)

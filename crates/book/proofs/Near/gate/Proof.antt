@@ -1,15 +1,10 @@
-use mathlib.Core.Path.{_≡_, refl, sym, ap, _∙_}
+use mathlib.Core.Path.{sym, ap, _∙_}
 use mathlib.Core.Bool.{not, _&&_}
 use Rattle.book.specs.Rules.{unknown}
 use Rattle.refusal.specs.Refusal.{fails, passes, none-left, paused, notFound}
 use borrow.Author.Needs.{needs}
 use Rattle.book.proofs.Near.gate.Statement.{statement}
 use Rattle.book.proofs.Near.gate.Tie as tie
-use Rattle.book.proofs.Near.gate.Reads as reads
-use Rattle.book.proofs.Near.gate.Lts as lts
-use Rattle.command.proofs.Command.caller.Reads as caller-reads
-use Rattle.command.proofs.Command.stopped_by_pause.Reads as stopped-by-pause-reads
-use Rattle.shelves.proofs.Accounts.has.Reads as has-reads
 
 -- src/lib.rt:702:13
 stopped-by-pause-requires : tie.Need-stopped-by-pause-requires

@@ -1,14 +1,7 @@
 use Rattle.book.specs.Steps.{account-step}
-use mathlib.Core.Path.{_≡_, refl, sym, ap, _∙_}
 use borrow.Author.Needs.{needs}
 use Rattle.book.proofs.Near.lender_repaid.Statement.{statement}
 use Rattle.book.proofs.Near.lender_repaid.Tie as tie
-use Rattle.book.proofs.Near.lender_repaid.Reads as reads
-use Rattle.book.proofs.Near.lender_repaid.Lts as lts
-use Rattle.account.proofs.SeenAccount.lender_repaid.Reads as lender-repaid-reads
-use Rattle.settings.proofs.Settings.is_repayer.Reads as is-repayer-reads
-use Rattle.shelves.proofs.Accounts.get.Reads as get-reads
-use Rattle.shelves.proofs.Accounts.put.Reads as put-reads
 
 -- src/lib.rt:333:13
 get-requires : tie.Need-get-requires

@@ -2,19 +2,12 @@ use Rattle.book.specs.Fitting.{unseen-account, has-room}
 use Rattle.book.specs.Steps.{same}
 use Rattle.book.specs.Sites.{new-accounts}
 use Rattle.book.specs.Near.{turnOf}
-use Rattle.shelves.specs.Accounts.{accountsOf}
 use Rattle.refusal.specs.Refusal.{alreadyExists, noRoom}
 use Rattle.refusal.specs.Rule.{refuses, goes-on, does}
-use mathlib.Core.Path.{_≡_, refl, sym, ap, _∙_}
+use mathlib.Core.Path.{refl, sym, ap, _∙_}
 use borrow.Author.Needs.{needs}
 use Rattle.book.proofs.Near.opened.Statement.{statement}
 use Rattle.book.proofs.Near.opened.Tie as tie
-use Rattle.book.proofs.Near.opened.Reads as reads
-use Rattle.book.proofs.Near.opened.Lts as lts
-use Rattle.account.proofs.Account.none.Reads as none-reads
-use Rattle.shelves.proofs.Accounts.full.Reads as full-reads
-use Rattle.shelves.proofs.Accounts.get.Reads as get-reads
-use Rattle.shelves.proofs.Accounts.let_in.Reads as let-in-reads
 
 -- src/lib.rt:83:13
 get-requires : tie.Need-get-requires

@@ -1,11 +1,7 @@
 use Rattle.book.specs.Steps.{settings-step}
-use mathlib.Core.Path.{_≡_, refl, sym, ap, _∙_}
 use borrow.Author.Needs.{needs}
 use Rattle.book.proofs.Near.pause_set.Statement.{statement}
 use Rattle.book.proofs.Near.pause_set.Tie as tie
-use Rattle.book.proofs.Near.pause_set.Reads as reads
-use Rattle.book.proofs.Near.pause_set.Lts as lts
-use Rattle.settings.proofs.Settings.pause.Reads as pause-reads
 
 -- src/lib.rt:388:13
 pause-requires : tie.Need-pause-requires

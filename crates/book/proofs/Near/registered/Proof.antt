@@ -5,22 +5,13 @@ use Rattle.book.specs.Fitting.{unseen-invoice, has-room}
 use Rattle.book.specs.Steps.{same}
 use Rattle.book.specs.Sites.{new-invoices}
 use Rattle.book.specs.Rules.{registering}
-use Rattle.book.specs.Model.{invoiceIn}
 use Rattle.book.specs.Near.{modelNear, turnOf}
-use Rattle.invoice.specs.Invoice.{registerChecks}
 use Rattle.refusal.specs.Rule.{refused, accepted, passed}
 use Rattle.refusal.specs.Refusal.{first}
 use mathlib.Core.Path.{_≡_, refl, sym, ap, _∙_}
 use borrow.Author.Needs.{needs}
 use Rattle.book.proofs.Near.registered.Statement.{statement}
 use Rattle.book.proofs.Near.registered.Tie as tie
-use Rattle.book.proofs.Near.registered.Reads as reads
-use Rattle.book.proofs.Near.registered.Lts as lts
-use Rattle.invoice.proofs.Invoice.new.Reads as new-reads
-use Rattle.invoice.proofs.register_refusal.Reads as register-refusal-reads
-use Rattle.shelves.proofs.Invoices.full.Reads as full-reads
-use Rattle.shelves.proofs.Invoices.get.Reads as get-reads
-use Rattle.shelves.proofs.Invoices.let_in.Reads as let-in-reads
 
 number : (c : tie.After-register-refusal) → c .register-refusal .result ≡ first (registering (modelNear (c .before .before .before .before .args .self) []) (c .before .before .before .before .args .caller) (c .before .before .before .before .args .id) (c .before .before .before .before .args .amount) .checks)
 number c = simp (toZ-ofZ (c .before .before .before .before .fits .amount), c .before .before .get .ensures, c .before .full .ensures) at (c .register-refusal .ensures)

@@ -2,11 +2,6 @@ use Rattle.book.specs.Steps.{offer-step}
 use borrow.Author.Needs.{needs}
 use Rattle.book.proofs.Near.rejected.Statement.{statement}
 use Rattle.book.proofs.Near.rejected.Tie as tie
-use Rattle.book.proofs.Near.rejected.Reads as reads
-use Rattle.book.proofs.Near.rejected.Lts as lts
-use Rattle.book.proofs.put.Reads as put-reads
-use Rattle.offer.proofs.SeenDeal.reject.Reads as reject-reads
-use Rattle.shelves.proofs.Invoices.get.Reads as get-reads
 
 -- src/lib.rt:292:13
 get-requires : tie.Need-get-requires

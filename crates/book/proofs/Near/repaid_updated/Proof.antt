@@ -3,11 +3,6 @@ use mir.Facts.{toZ-ofZ}
 use borrow.Author.Needs.{needs}
 use Rattle.book.proofs.Near.repaid_updated.Statement.{statement}
 use Rattle.book.proofs.Near.repaid_updated.Tie as tie
-use Rattle.book.proofs.Near.repaid_updated.Reads as reads
-use Rattle.book.proofs.Near.repaid_updated.Lts as lts
-use Rattle.book.proofs.put.Reads as put-reads
-use Rattle.offer.proofs.SeenDeal.update_repaid.Reads as update-repaid-reads
-use Rattle.settings.proofs.Settings.is_repayer.Reads as is-repayer-reads
 
 -- src/lib.rt:377:13
 is-repayer-requires : tie.Need-is-repayer-requires

@@ -1,12 +1,7 @@
 use Rattle.book.specs.Steps.{settings-step}
-use mathlib.Core.Path.{_≡_, refl, sym, ap, _∙_}
 use borrow.Author.Needs.{needs}
 use Rattle.book.proofs.Near.repayer_set.Statement.{statement}
 use Rattle.book.proofs.Near.repayer_set.Tie as tie
-use Rattle.book.proofs.Near.repayer_set.Reads as reads
-use Rattle.book.proofs.Near.repayer_set.Lts as lts
-use Rattle.settings.proofs.Settings.set_repayer.Reads as set-repayer-reads
-use Rattle.shelves.proofs.Accounts.get.Reads as get-reads
 
 -- src/lib.rt:418:13
 get-requires : tie.Need-get-requires

@@ -2,11 +2,6 @@ use Rattle.book.specs.Steps.{offer-step}
 use borrow.Author.Needs.{needs}
 use Rattle.book.proofs.Near.scheduled.Statement.{statement}
 use Rattle.book.proofs.Near.scheduled.Tie as tie
-use Rattle.book.proofs.Near.scheduled.Reads as reads
-use Rattle.book.proofs.Near.scheduled.Lts as lts
-use Rattle.book.proofs.put.Reads as put-reads
-use Rattle.offer.proofs.SeenDeal.schedule.Reads as schedule-reads
-use Rattle.shelves.proofs.Invoices.get.Reads as get-reads
 
 -- src/lib.rt:341:13
 get-requires : tie.Need-get-requires

@@ -1,11 +1,7 @@
 use Rattle.book.specs.Steps.{settings-step}
-use mathlib.Core.Path.{_≡_, refl, sym, ap, _∙_}
 use borrow.Author.Needs.{needs}
 use Rattle.book.proofs.Near.seats_set.Statement.{statement}
 use Rattle.book.proofs.Near.seats_set.Tie as tie
-use Rattle.book.proofs.Near.seats_set.Reads as reads
-use Rattle.book.proofs.Near.seats_set.Lts as lts
-use Rattle.settings.proofs.Settings.set_seats.Reads as set-seats-reads
 
 -- src/lib.rt:435:13
 set-seats-requires : tie.Need-set-seats-requires

@@ -19,15 +19,6 @@ use Rattle.book.specs.Sites.{nearBy, same-near, seen-put}
 use borrow.Author.Needs.{needs}
 use Rattle.book.proofs.Near.settle.Statement.{statement}
 use Rattle.book.proofs.Near.settle.Tie as tie
-use Rattle.book.proofs.Near.settle.Reads as reads
-use Rattle.book.proofs.Near.settle.Lts as lts
-use Rattle.book.proofs.put.Reads as put-reads
-use Rattle.invoice.proofs.Invoice.financed.Reads as financed-reads
-use Rattle.offer.proofs.Deal.settled.Reads as settled-reads
-use Rattle.settings.proofs.Totals.finance.Reads as finance-reads
-use Rattle.shelves.proofs.Accounts.settle.Reads as settle-reads
-use Rattle.shelves.proofs.Invoices.get.Reads as get-reads
-use Rattle.shelves.proofs.Invoices.put.Reads as Invoices-put-reads
 
 module _ (s : tie.Start) (o : ℕ) (ts : Table Deal) where
   abbrev model : Model

@@ -2,11 +2,6 @@ use Rattle.book.specs.Steps.{offer-step}
 use borrow.Author.Needs.{needs}
 use Rattle.book.proofs.Near.status_updated.Statement.{statement}
 use Rattle.book.proofs.Near.status_updated.Tie as tie
-use Rattle.book.proofs.Near.status_updated.Reads as reads
-use Rattle.book.proofs.Near.status_updated.Lts as lts
-use Rattle.book.proofs.put.Reads as put-reads
-use Rattle.offer.proofs.SeenDeal.update_status.Reads as update-status-reads
-use Rattle.settings.proofs.Settings.is_repayer.Reads as is-repayer-reads
 
 -- src/lib.rt:359:13
 is-repayer-requires : tie.Need-is-repayer-requires

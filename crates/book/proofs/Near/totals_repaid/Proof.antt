@@ -1,13 +1,8 @@
 use mir.Facts.{toZ-ofZ}
 use Rattle.book.specs.Steps.{totals-step}
-use mathlib.Core.Path.{_≡_, refl, sym, ap, _∙_}
 use borrow.Author.Needs.{needs}
 use Rattle.book.proofs.Near.totals_repaid.Statement.{statement}
 use Rattle.book.proofs.Near.totals_repaid.Tie as tie
-use Rattle.book.proofs.Near.totals_repaid.Reads as reads
-use Rattle.book.proofs.Near.totals_repaid.Lts as lts
-use Rattle.settings.proofs.Settings.is_repayer.Reads as is-repayer-reads
-use Rattle.settings.proofs.Totals.repay.Reads as repay-reads
 
 -- src/lib.rt:371:13
 is-repayer-requires : tie.Need-is-repayer-requires

@@ -1,4 +1,4 @@
-use mathlib.Core.Path.{_≡_, refl, sym, ap, _∙_}
+use mathlib.Core.Path.{refl, sym, _∙_}
 use borrow.Author.Tests.{eqb-true, eqb-false, not-true, not-false}
 use Rattle.refusal.specs.Chain.{next-stops}
 use Rattle.refusal.specs.Rule.{refused}
@@ -9,10 +9,6 @@ use Rattle.book.specs.Chains.{then-answers}
 use borrow.Author.Needs.{needs}
 use Rattle.book.proofs.Near.turn.Statement.{statement}
 use Rattle.book.proofs.Near.turn.Tie as tie
-use Rattle.book.proofs.Near.turn.Reads as reads
-use Rattle.book.proofs.Near.turn.Lts as lts
-use Rattle.book.proofs.Near.execute.Reads as execute-reads
-use Rattle.book.proofs.Near.gate.Reads as gate-reads
 
 -- src/lib.rt:922:13
 gate-requires : tie.Need-gate-requires

@@ -1,11 +1,7 @@
 use Rattle.book.specs.Steps.{settings-step}
-use mathlib.Core.Path.{_≡_, refl, sym, ap, _∙_}
 use borrow.Author.Needs.{needs}
 use Rattle.book.proofs.Near.window_set.Statement.{statement}
 use Rattle.book.proofs.Near.window_set.Tie as tie
-use Rattle.book.proofs.Near.window_set.Reads as reads
-use Rattle.book.proofs.Near.window_set.Lts as lts
-use Rattle.settings.proofs.Settings.set_window.Reads as set-window-reads
 
 -- src/lib.rt:403:13
 set-window-requires : tie.Need-set-window-requires

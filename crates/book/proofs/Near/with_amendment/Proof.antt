@@ -4,11 +4,6 @@ use Rattle.book.specs.Sites.{new-moneys, seen-put}
 use borrow.Author.Needs.{needs}
 use Rattle.book.proofs.Near.with_amendment.Statement.{statement}
 use Rattle.book.proofs.Near.with_amendment.Tie as tie
-use Rattle.book.proofs.Near.with_amendment.Reads as reads
-use Rattle.book.proofs.Near.with_amendment.Lts as lts
-use Rattle.book.proofs.put.Reads as put-reads
-use Rattle.offer.proofs.Deal.amended.Reads as amended-reads
-use Rattle.shelves.proofs.Accounts.put.Reads as Accounts-put-reads
 
 -- src/lib.rt:674:13
 put-requires : tie.Need-put-requires

@@ -2,10 +2,6 @@ use Rattle.book.specs.Sites.{new-deal}
 use borrow.Author.Needs.{needs}
 use Rattle.book.proofs.Near.with_counter.Statement.{statement}
 use Rattle.book.proofs.Near.with_counter.Tie as tie
-use Rattle.book.proofs.Near.with_counter.Reads as reads
-use Rattle.book.proofs.Near.with_counter.Lts as lts
-use Rattle.book.proofs.put.Reads as put-reads
-use Rattle.offer.proofs.Deal.countered.Reads as countered-reads
 
 -- src/lib.rt:695:13
 countered-requires : tie.Need-countered-requires

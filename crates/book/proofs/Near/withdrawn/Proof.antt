@@ -2,10 +2,6 @@ use Rattle.book.specs.Steps.{offer-step}
 use borrow.Author.Needs.{needs}
 use Rattle.book.proofs.Near.withdrawn.Statement.{statement}
 use Rattle.book.proofs.Near.withdrawn.Tie as tie
-use Rattle.book.proofs.Near.withdrawn.Reads as reads
-use Rattle.book.proofs.Near.withdrawn.Lts as lts
-use Rattle.book.proofs.put.Reads as put-reads
-use Rattle.offer.proofs.SeenDeal.withdraw.Reads as withdraw-reads
 
 -- src/lib.rt:272:13
 withdraw-requires : tie.Need-withdraw-requires

@@ -1,10 +1,8 @@
-use mathlib.Core.Path.{_≡_, refl, sym, ap, _∙_}
+use mathlib.Core.Path.{sym, ap}
 use Rattle.command.specs.Caller.{offerNamed}
 use borrow.Author.Needs.{needs}
 use Rattle.command.proofs.Command.offer.Statement.{statement}
 use Rattle.command.proofs.Command.offer.Tie as tie
-use Rattle.command.proofs.Command.offer.Reads as reads
-use Rattle.command.proofs.Command.offer.Lts as lts
 
 -- src/lib.rt:420:59
 enum-told : tie.Need-enum-told

@@ -4,9 +4,6 @@ use mathlib.Core.Path.{sym, ap, _∙_}
 use borrow.Author.Needs.{needs}
 use Rattle.shelves.proofs.Accounts.has.Statement.{statement}
 use Rattle.shelves.proofs.Accounts.has.Tie as tie
-use Rattle.shelves.proofs.Accounts.has.Reads as reads
-use Rattle.shelves.proofs.Accounts.has.Lts as lts
-use Rattle.table.proofs.find.Reads as find-reads
 
 -- src/lib.rt:102:29
 slice-aggregate-find : tie.Need-slice-aggregate-find

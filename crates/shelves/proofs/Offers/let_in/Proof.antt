@@ -3,14 +3,11 @@ use Rattle.shelves.specs.Deals.{offersOf, deal-in}
 use Rattle.table.specs.ShelfLaws.{at-found}
 use Rattle.table.specs.Rows.{here-absent}
 use borrow.Author.Needs.{needs}
-use mathlib.Core.Path.{refl, sym, ap, _∙_}
+use mathlib.Core.Path.{sym, ap, _∙_}
 use native.Mathlib.Omega.{arith}
 use Prim.Native.Nat.{_+_, _-_}
 use Rattle.shelves.proofs.Offers.let_in.Statement.{statement}
 use Rattle.shelves.proofs.Offers.let_in.Tie as tie
-use Rattle.shelves.proofs.Offers.let_in.Reads as reads
-use Rattle.shelves.proofs.Offers.let_in.Lts as lts
-use Rattle.table.proofs.find.Reads as find-reads
 
 abbrev Inv-loop : tie.InvT-loop
 Inv-loop id self₀ n k x₀ o₀ g₀ p₀ i₀ self x o g p i = Moving (moved self₀ i₀ x₀ o₀ g₀ p₀) self i x o g p
