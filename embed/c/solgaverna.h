@@ -6,7 +6,7 @@
  *   13  the journal or the text is malformed
  *   14  the buffer is too short
  * Room past an answer is untouched. Nothing is kept between calls. Give a thread that calls it 1 MiB of stack or more: a
- * replay was measured to take between 640 and 768 KiB on Arm, and no proof bounds it.
+ * replay was measured to take between 448 and 480 KiB on Arm, and no proof bounds it.
  *
  * A slice is a pointer and a count of its elements. The pointer must not be null, even where the count is 0. */
 #ifndef SOLGAVERNA_H
