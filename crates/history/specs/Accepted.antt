@@ -18,7 +18,8 @@ use Rattle.book.specs.Model.{Model, accountIn, offerIn, paperOf}
 use Rattle.book.specs.Rules.{termsIn, unknown, rule, commanded, settling, concluding, agreeing, counteredIn}
 use Rattle.book.specs.Rules as Rules
 use Rattle.history.specs.History.{counters, entryOf, lenderOf, settles, Said, deedsOn}
-use Rattle.history.specs.Passed.{Passes, passes-right, account-new, offer-there}
+use Rattle.book.specs.Fitting.{unseen-account}
+use Rattle.history.specs.Passed.{Passes, passes-right, offer-there}
 use Rattle.history.specs.Ledger.{Ledger, Bargain, noted, acceptedOf}
 use Rattle.history.specs.Agrees.{Agrees}
 use Rattle.history.specs.Settled.{noted-counter}
@@ -53,7 +54,7 @@ module _ {l : Ledger} {r : Said} {m : Model} (A : Agrees l m) (R : Reads l r) (L
 
   pub fair : (c : Command) → Passes (commanded m c .checks) → Fair r (entryOf c)
   unfolding rule entryOf unknown callerOf settles settling lenderOf
-  fair (OpenAccount now a) p = sym (R .accepteds a) ∙ sym (A .purses .accepteds a) ∙ ap acceptedOf (account-new (find (m .accounts) a) (search))
+  fair (OpenAccount now a) p = sym (R .accepteds a) ∙ sym (A .purses .accepteds a) ∙ ap acceptedOf (unseen-account (find (m .accounts) a) (search))
   fair (Deposit now a x) p = tt
   fair (Payout now a x) p = tt
   fair (Approve now a x) p = tt

@@ -25,7 +25,8 @@ use Rattle.book.specs.Model.{Model, accountIn, offerIn, paperOf, withAccounts, 
 use Rattle.book.specs.Rules.{lenderOf, termsIn, unknown, rule, commanded, settling, agreeing, amendedIn, counteredIn}
 use Rattle.history.specs.History.{amends, counters, deals, entryOf, settles}
 use Rattle.history.specs.Figures.{put}
-use Rattle.history.specs.Passed.{Passes, passes-right, account-there, account-new, invoice-new, offer-there, offer-new}
+use Rattle.book.specs.Fitting.{unseen-account, unseen-invoice, unseen-deal}
+use Rattle.history.specs.Passed.{Passes, passes-right, account-there, offer-there}
 use Rattle.history.specs.Ledger.{Ledger, Bargain, raised, noted, sold, post, bargainOf}
 use Rattle.history.specs.Agrees.{Agrees}
 use Rattle.history.specs.Purses.{Like}
@@ -69,19 +70,19 @@ module _ {l : Ledger} {m : Model} (A : Agrees l m) where
 
   pub keeps : (c : Command) → Passes (commanded m c .checks) → Agrees (post (entryOf c) l) (commanded m c .done)
   unfolding rule entryOf post unknown callerOf settles pick raised
-  keeps (OpenAccount now a) p = record { bargains = A .bargains; papers = A .papers; purses = Purses.opened (A .purses) a (account-new (find (m .accounts) a) (search)); financed = A .financed }
+  keeps (OpenAccount now a) p = record { bargains = A .bargains; papers = A .papers; purses = Purses.opened (A .purses) a (unseen-account (find (m .accounts) a) (search)); financed = A .financed }
   keeps (Deposit now a x) p = record { bargains = A .bargains; papers = A .papers; purses = Purses.moved (A .purses) a x (account-there (find (m .accounts) a) (search)); financed = A .financed }
   keeps (Payout now a x) p = record { bargains = A .bargains; papers = A .papers; purses = Purses.moved (A .purses) a (negℤ x) (account-there (find (m .accounts) a) (search)); financed = A .financed }
   keeps (Approve now a x) p = on-account a _ (record { balance = refl; offered = refl; accepted = refl })
   keeps (RegisterInvoice now a i x) p = record {
     bargains = A .bargains;
-    papers = Papers.issued-by (A .papers) i a (invoiceOf a x) refl (invoice-new (find (m .invoices) i) (search));
+    papers = Papers.issued-by (A .papers) i a (invoiceOf a x) refl (unseen-invoice (find (m .invoices) i) (search));
     purses = A .purses;
     financed = A .financed;
   }
   keeps (CancelInvoice now a i) p = record { bargains = A .bargains; papers = Papers.cancelled (A .papers) i; purses = A .purses; financed = A .financed }
   keeps (CreateOffer now a o i t e) p = record {
-    bargains = Bargains.created (A .bargains) o a i t e (offer-new (find (m .offers) o) (search));
+    bargains = Bargains.created (A .bargains) o a i t e (unseen-deal (find (m .offers) o) (search));
     papers = A .papers;
     purses = Purses.offered-by (A .purses) a (t .amount) (account-there (find (m .accounts) a) (search)) (offers (t .amount) 1 (accountIn m a .row)) refl refl refl;
     financed = A .financed;

@@ -25,7 +25,8 @@ use Rattle.book.specs.Model.{Model, accountIn, offerIn, withAccounts, withOffer
 use Rattle.book.specs.Rules.{termsIn, rule, commanded, settling, concluding, agreeing, amendedIn, counteredIn}
 use Rattle.history.specs.History.{Said, grow, createdBy, entryOf, add}
 use Rattle.history.specs.Figures.{put}
-use Rattle.history.specs.Passed.{Passes, account-new, offer-new}
+use Rattle.book.specs.Fitting.{unseen-account, unseen-deal}
+use Rattle.history.specs.Passed.{Passes}
 
 abbrev pub accountHere : Found Account → Bool
 accountHere s = seenAccount s .here
@@ -103,7 +104,7 @@ module _ {r : Said} {m : Model} (L : Listed r m) where
   pub listed : (c : Command) → Passes (commanded m c .checks) → Listed (add (entryOf c) r) (commanded m c .done)
   unfolding rule entryOf add grow createdBy
   listed (OpenAccount now a) p = record {
-    accounts = here-insert accountHere (λ r. refl) refl (m .accounts) a noAccount (r .accounts) (account-new (find (m .accounts) a) (search)) (L .accounts);
+    accounts = here-insert accountHere (λ r. refl) refl (m .accounts) a noAccount (r .accounts) (unseen-account (find (m .accounts) a) (search)) (L .accounts);
     offers = L .offers;
     room = omega (arith, length-insert (m .accounts) a noAccount, leb-false 64 (length (m .accounts)) (search));
   }
@@ -116,7 +117,7 @@ module _ {r : Said} {m : Model} (L : Listed r m) where
       let f = by-account {m = m} a (offers (t .amount) 1 (accountIn m a .row)) in
       record {
         accounts = λ j. L .accounts j ∙ ap one (sym (f .accounts j));
-        offers = here-insert offerHere (λ r. refl) refl (m .offers) o (newDeal a i t e) (r .offers) (offer-new (find (m .offers) o) (search)) (L .offers);
+        offers = here-insert offerHere (λ r. refl) refl (m .offers) o (newDeal a i t e) (r .offers) (unseen-deal (find (m .offers) o) (search)) (L .offers);
         room = omega (arith, f .size, L .room);
       }
   listed (WithdrawOffer now a o) p = still refl refl (by-offer o _)

@@ -33,22 +33,10 @@ pub account-there : (s : Found Account) → not (seenAccount s .here) ≡ false 
 account-there absent e = cc
 account-there (here r) e = refl
 
-pub account-new : (s : Found Account) → seenAccount s .here ≡ false → s ≡ absent
-account-new absent e = refl
-account-new (here r) e = cc
-
 pub invoice-there : (s : Found Invoice) → not (seenInvoice s .here) ≡ false → s ≡ here (seenInvoice s .row)
 invoice-there absent e = cc
 invoice-there (here r) e = refl
 
-pub invoice-new : (s : Found Invoice) → seenInvoice s .here ≡ false → s ≡ absent
-invoice-new absent e = refl
-invoice-new (here r) e = cc
-
 pub offer-there : (s : Found Deal) → not (seenDeal s .here) ≡ false → s ≡ here (seenDeal s .row)
 offer-there absent e = cc
 offer-there (here d) e = refl
-
-pub offer-new : (s : Found Deal) → seenDeal s .here ≡ false → s ≡ absent
-offer-new absent e = refl
-offer-new (here d) e = cc
