@@ -1,24 +1,19 @@
 -- Every accepted command leaves tables that fit: at most 64 rows each, ids that ascend
-use Prim.Native.Nat.{ℕ, _≤_, _<_}
-use native.Mathlib.Omega.{arith}
-use mathlib.Core.Path.{_≡_, refl, sym, ap, _∙_}
+use Prim.Native.Nat.{ℕ}
+use mathlib.Core.Path.{_≡_, refl}
 use mathlib.Core.Bool.{Bool, true, false}
-use mathlib.Core.List.{List, [], _∷_, _++_}
 use lib.IntN.{ℤ}
 use lib.ListN.{length}
-use lib.Dec.{leb}
 use borrow.Author.Tests.{leb-false}
 use Rattle.refusal.specs.Choice.{pick}
-use Rattle.refusal.specs.Refusal.{Check, _gives_, first}
-use Rattle.refusal.specs.Rule.{Rule, sure, next, passed, both-pass}
-use Rattle.table.specs.Tables.{Found, absent, here, Table, find, adjust, insert, full, Room}
+use Rattle.refusal.specs.Refusal.{first}
+use Rattle.refusal.specs.Rule.{passed, both-pass}
+use Rattle.table.specs.Tables.{Found, absent, here, Table, find, full, Room}
 use Rattle.terms.specs.declared.Terms.{Terms}
 use Rattle.account.specs.declared.Account.{Account}
-use Rattle.account.specs.declared.SeenAccount.{SeenAccount}
-use Rattle.account.specs.Rules.{debitOf, creditOf, acceptOf}
 use Rattle.invoice.specs.declared.Invoice.{Invoice}
 use Rattle.offer.specs.declared.Deal.{Deal}
-use Rattle.shelves.specs.Accounts.{seenAccount, settleAccounts}
+use Rattle.shelves.specs.Accounts.{seenAccount}
 use Rattle.shelves.specs.Invoices.{seenInvoice}
 use Rattle.shelves.specs.Offers.{seenDeal}
 use Rattle.command.specs.declared.Command.{Command}
@@ -43,6 +38,14 @@ unseen-deal (here r) e = cc
 
 pub has-room : {A : Type 0} (t : Table A) (i : ℕ) → full 64 t ≡ false → find t i ≡ absent → Room 64 t i
 has-room t i f e = record { small = leb-false 64 (length t) f; new = e }
+
+-- an offer that is created has room
+pub offer-room : (m : Model) (a o i : ℕ) (t : Terms) (e : ℕ) → first (creating m a o i t e .checks) ≡ 0 → Room 64 (m .offers) o
+offer-room m a o i t e h =
+    let p = passed _ _ _ (passed _ _ _ (passed _ _ _ (passed _ _ _ (passed _ _ _ (passed _ _ _ h .1) .1) .1) .1) .1) in
+    let q = passed _ _ _ (p .1) in
+    let r = passed _ _ _ (q .1) in
+    has-room (m .offers) o (r .0) (unseen-deal (find (m .offers) o) (q .0))
 
 module _ {m : Model} (f : Fits m) where
   fits-accounts : {t : Table Account} → Fine 64 t → Fits (withAccounts t m)
@@ -84,15 +87,7 @@ module _ {m : Model} (f : Fits m) where
       fits-invoices (fine-insert (f .invoices) (has-room (m .invoices) i (q .0) (unseen-invoice (find (m .invoices) i) (p .0))) _)
 
   pub fits-created : (a o i : ℕ) (t : Terms) (e : ℕ) → first (creating m a o i t e .checks) ≡ 0 → Fits (creating m a o i t e .done)
-  fits-created a o i t e h =
-      let p = passed _ _ _ (passed _ _ _ (passed _ _ _ (passed _ _ _ (passed _ _ _ (passed _ _ _ h .1) .1) .1) .1) .1) in
-      let q = passed _ _ _ (p .1) in
-      let r = passed _ _ _ (q .1) in
-      record {
-        accounts = fine-adjust (f .accounts) _ _;
-        invoices = f .invoices;
-        offers = fine-insert (f .offers) (has-room (m .offers) o (r .0) (unseen-deal (find (m .offers) o) (q .0))) _;
-      }
+  fits-created a o i t e h = record { accounts = fine-adjust (f .accounts) _ _; invoices = f .invoices; offers = fine-insert (f .offers) (offer-room m a o i t e h) _ }
 
 module _ {m : Model} (f : Fits m) where
   fits-ruled : (c : Command) → first (rule m c .checks) ≡ 0 → Fits (rule m c .done)

@@ -3,6 +3,7 @@ pub mod Rules
 pub mod Stored
 pub mod Near
 pub mod Shelving
+pub mod SameId
 pub mod Sites
 pub mod Steps
 pub mod Fitting

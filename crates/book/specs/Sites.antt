@@ -1,11 +1,9 @@
 -- What is seen of a model is its parts, stored; and a part put anew is seen anew
 use Prim.Native.Nat.{ℕ}
 use mathlib.Core.Path.{_≡_, refl, sym, ap, _∙_}
-use mathlib.Core.Bool.{true, cond}
-use borrow.Author.Tests.{eq-eqb}
+use mathlib.Core.Bool.{true}
 use Rattle.refusal.specs.Choice.{pick}
 use Rattle.table.specs.Tables.{Found, absent, here, Table, find, adjust, insert, fmap}
-use Rattle.table.specs.TableLaws.{find-adjust, find-insert}
 use Rattle.table.specs.Keeping.{Fine}
 use Rattle.account.specs.declared.Account.{Account}
 use Rattle.invoice.specs.declared.Invoice.{Invoice}
@@ -21,6 +19,7 @@ use Rattle.shelves.specs.Offers.{seenDeal}
 use Rattle.shelves.specs.Laws.{accounts-keeping, invoices-keeping}
 use Rattle.book.specs.declared.Near.{Near}
 use Rattle.book.specs.Model.{Model, withAccounts, withInvoices, withOffers, withTotals, withSettings}
+use Rattle.book.specs.SameId.{find-put, find-in}
 use Rattle.book.specs.Near.{putDeal, Sited, modelNear, viewOf, Shows}
 
 abbrev pub nearBy : Accounts → Invoices → SeenDeal → Totals → Settings → Near
@@ -30,9 +29,6 @@ pub same-near : {a a′ : Accounts} {i i′ : Invoices} {d d′ : SeenDeal} (t :
 same-near {a} {a′} {i} {i′} {d} {d′} t s p q r = ap (λ z. nearBy z i d t s) p ∙ ap (λ z. nearBy a′ z d t s) q ∙ ap (λ z. nearBy a′ i′ z t s) r
 
 -- the row at o, put anew
-find-put : (t : Table Deal) (o : ℕ) (d : Deal) → find (adjust t o (λ old. d)) o ≡ fmap (λ old. d) (find t o)
-find-put t o d = find-adjust t o o (λ old. d) ∙ ap (λ b. cond b (fmap (λ old. d) (find t o)) (find t o)) (eq-eqb o o refl)
-
 put-seen : (f : Found Deal) (d : Deal) → putDeal (seenDeal f) d ≡ seenDeal (fmap (λ old. d) f)
 unfolding putDeal pick fmap
 put-seen absent d = refl
@@ -43,7 +39,7 @@ seen-put t o d e = ap (λ z. putDeal z d) e ∙ put-seen (find t o) d ∙ ap see
 
 -- a row let in
 pub seen-in : (t : Table Deal) (o : ℕ) (d : Deal) → find t o ≡ absent → record { here = true; row = d } ≡ seenDeal (find (insert t o d) o)
-seen-in t o d h = ap seenDeal (sym (find-insert t o o d h ∙ ap (λ b. cond b (here d) (find t o)) (eq-eqb o o refl)))
+seen-in t o d h = ap seenDeal (sym (find-in t o d h))
 
 module _ {n : Near} (k : Sited n) where
   accounts-back : n .accounts ≡ storedAccounts (accountsOf (n .accounts))

@@ -1,17 +1,15 @@
 -- A command changes no offer but the one that it names: what a turn saw and left of that one says what the table is after it
 use Prim.Native.Nat.{ℕ}
 use mathlib.Core.Path.{_≡_, refl, sym, ap, _∙_}
-use mathlib.Core.List.{[], _∷_}
-use mathlib.Core.Bool.{Bool, true, false, cond, not, _&&_}
+use mathlib.Core.Bool.{Bool, true, false, not, _&&_}
 use native.Mathlib.Omega.{arith}
 use lib.Dec.{eqb}
-use borrow.Author.Tests.{eqb-true, eq-eqb}
+use borrow.Author.Tests.{eqb-true}
 use Rattle.refusal.specs.Choice.{pick}
 use Rattle.refusal.specs.Refusal.{first}
-use Rattle.refusal.specs.Rule.{after, passed, both-pass}
-use Rattle.table.specs.Tables.{Found, absent, here, Table, find, adjust, insert, Room, fmap, Is, is-true, is-false, decide}
-use Rattle.table.specs.TableLaws.{find-adjust, find-insert, adjust-absent}
-use Rattle.terms.specs.declared.Terms.{Terms}
+use Rattle.refusal.specs.Rule.{after, both-pass}
+use Rattle.table.specs.Tables.{Found, absent, here, Table, find, adjust, insert, Room, fmap}
+use Rattle.table.specs.TableLaws.{adjust-absent}
 use Rattle.offer.specs.Offer.{settledDeal}
 use Rattle.offer.specs.declared.Deal.{Deal}
 use Rattle.shelves.specs.Offers.{seenDeal}
@@ -19,8 +17,9 @@ use Rattle.command.specs.Caller.{offerNamed}
 use Rattle.command.specs.declared.Command.{Command}
 use Rattle.command.specs.declared.Command.the-variants.{OpenAccount, Deposit, Payout, Approve, RegisterInvoice, CancelInvoice, CreateOffer, WithdrawOffer, AcceptOffer, RejectOffer, AmendOffer, CounterOffer, CloseNegotiation, ScheduleRepayment, UpdateStatus, UpdateRepaid, UpdateLenderRepaid, UpdateTotalsRepaid, Pause, Unpause, SetWindow, SetRepaymentAccount, SetBlacklisted, SetSeats}
 use Rattle.book.specs.Model.{Model, offerIn}
-use Rattle.book.specs.Rules.{gateChecks, creating, settling, concluding, agreeing, rule, commanded}
-use Rattle.book.specs.Fitting.{unseen-deal, has-room}
+use Rattle.book.specs.Rules.{gateChecks, settling, concluding, agreeing, rule, commanded}
+use Rattle.book.specs.Fitting.{offer-room}
+use Rattle.book.specs.SameId.{find-put, find-in, put-twice}
 use Rattle.book.specs.Steps.{adjust-back}
 
 -- u is t, or t with the row at o put anew or let in
@@ -30,29 +29,12 @@ pub data Touched (t u : Table Deal) (o : ℕ) : Type 0 where
   let-in : (d : Deal) → Room 64 t o → u ≡ insert t o d → Touched t u o
 
 -- ── Every command touches one offer at most ───────────────────────
-adjust-same : (t : Table Deal) (o : ℕ) (x y : Deal) → adjust (adjust t o (λ old. x)) o (λ old. y) ≡ adjust t o (λ old. y)
-unfolding adjust
-adjust-same [] o x y = refl
-adjust-same (e ∷ t) o x y = go (decide (eqb (e .0) o)) (adjust-same t o x y)
-  where
-    go : Is (eqb (e .0) o) → adjust (adjust t o (λ old. x)) o (λ old. y) ≡ adjust t o (λ old. y)
-        → adjust (adjust (e ∷ t) o (λ old. x)) o (λ old. y) ≡ adjust (e ∷ t) o (λ old. y)
-    go (is-true q) h = rw (q, q)
-    go (is-false q) h = rw (q, q) (ap (λ z. e ∷ z) h)
-
 agreed : (b : Bool) (m : Model) (t : Table Deal) (now o : ℕ) (x : Deal) → m .offers ≡ adjust t o (λ old. x) → Touched t (agreeing b now o m .done .offers) o
 unfolding agreeing concluding settling pick
 agreed true m t now o x e =
     let d = settledDeal now (offerIn m o .row) in
-    anew d (ap (λ z. adjust z o (λ old. d)) e ∙ adjust-same t o x d)
+    anew d (ap (λ z. adjust z o (λ old. d)) e ∙ put-twice t o x d)
 agreed false m t now o x e = anew x e
-
-created : (m : Model) (a o i : ℕ) (t : Terms) (e : ℕ) → first (creating m a o i t e .checks) ≡ 0 → Touched (m .offers) (creating m a o i t e .done .offers) o
-created m a o i t e h =
-    let p = passed _ _ _ (passed _ _ _ (passed _ _ _ (passed _ _ _ (passed _ _ _ (passed _ _ _ h .1) .1) .1) .1) .1) in
-    let q = passed _ _ _ (p .1) in
-    let r = passed _ _ _ (q .1) in
-    let-in _ (has-room (m .offers) o (r .0) (unseen-deal (find (m .offers) o) (q .0))) refl
 
 ruled : (m : Model) (c : Command) → first (rule m c .checks) ≡ 0 → Touched (m .offers) (rule m c .done .offers) (offerNamed c)
 unfolding rule offerNamed settling
@@ -62,7 +44,7 @@ ruled m (Payout now a x) h = kept refl
 ruled m (Approve now a x) h = kept refl
 ruled m (RegisterInvoice now a i x) h = kept refl
 ruled m (CancelInvoice now a i) h = kept refl
-ruled m (CreateOffer now a o i t e) h = created m a o i t e h
+ruled m (CreateOffer now a o i t e) h = let-in _ (offer-room m a o i t e h) refl
 ruled m (WithdrawOffer now a o) h = anew _ refl
 ruled m (AcceptOffer now a o) h = anew _ refl
 ruled m (RejectOffer now a o) h = anew _ refl
@@ -108,16 +90,13 @@ module _ (t : Table Deal) (o : ℕ) where
   abbrev came : Table Deal → Bool
   came u = not (seenDeal (find t o) .here) && seenDeal (find u o) .here
 
-  put-row : (d : Deal) → find (adjust t o (λ old. d)) o ≡ fmap (λ old. d) (find t o)
-  put-row d = find-adjust t o o (λ old. d) ∙ ap (λ b. cond b (fmap (λ old. d) (find t o)) (find t o)) (eq-eqb o o refl)
-
   in-row : {u : Table Deal} (d : Deal) → u ≡ insert t o d → find t o ≡ absent → find u o ≡ here d
-  in-row d q e = ap (λ w. find w o) q ∙ find-insert t o o d e ∙ ap (λ b. cond b (here d) (find t o)) (eq-eqb o o refl)
+  in-row d q e = ap (λ w. find w o) q ∙ find-in t o d e
 
   put-back : (d : Deal) (f : Found Deal) → find t o ≡ f → adjust t o (λ old. seenDeal (find (adjust t o (λ old. d)) o) .row) ≡ adjust t o (λ old. d)
   unfolding fmap
   put-back d absent e = adjust-absent t o _ e ∙ sym (adjust-absent t o _ e)
-  put-back d (here r) e = ap (λ x. adjust t o (λ old. x)) (ap (λ f. seenDeal f .row) (put-row d ∙ ap (fmap (λ old. d)) e))
+  put-back d (here r) e = ap (λ x. adjust t o (λ old. x)) (ap (λ f. seenDeal f .row) (find-put t o d ∙ ap (fmap (λ old. d)) e))
 
   -- the row that was there is put back
   pub laid : {u : Table Deal} → Touched t u o → came u ≡ false → u ≡ adjust t o (λ old. seenDeal (find u o) .row)
@@ -128,5 +107,5 @@ module _ (t : Table Deal) (o : ℕ) where
   -- or it is let in
   pub grown : {u : Table Deal} → Touched t u o → came u ≡ true → (Room 64 t o) × (u ≡ insert t o (seenDeal (find u o) .row))
   grown (kept e) h = never (sym h ∙ ap came e ∙ unmoved (find t o))
-  grown (anew d e) h = never (sym h ∙ ap came e ∙ ap (λ f. not (seenDeal (find t o) .here) && seenDeal f .here) (put-row d) ∙ unmade (find t o) d)
+  grown (anew d e) h = never (sym h ∙ ap came e ∙ ap (λ f. not (seenDeal (find t o) .here) && seenDeal f .here) (find-put t o d) ∙ unmade (find t o) d)
   grown (let-in d r e) h = (r, e ∙ ap (insert t o) (sym (ap (λ f. seenDeal f .row) (in-row d e (r .new)))))
