@@ -2,11 +2,6 @@
 // request is a frame of 128 bytes: numbers of eight bytes, of which the first says what is asked, and the record of a command from
 // byte 32 on. A book or a journal follows its frame in 65,536 bytes. An answer is its length in bytes, its own eight included, and
 // then its numbers.
-mod ask;
-mod load;
-mod show;
-mod words;
-
 use book::Book;
 use book::Step;
 use journal::Decoded;
@@ -80,15 +75,15 @@ fn send_part(out: &[u8], at: usize) {
 
 fn send_number(n: u64) {
     let mut out: [u8; 65536] = io::large_buffer();
-    let at = words::put(&mut out, 8, n);
-    words::put(&mut out, 0, at as u64);
+    let at = bridge_words::put(&mut out, 8, n);
+    bridge_words::put(&mut out, 0, at as u64);
     send(&out, at);
 }
 
 fn loaded() -> Book {
     let mut data: [u8; 65536] = io::large_buffer();
     io::read_full(0, &mut data);
-    load::book(&data)
+    bridge_load::book(&data)
 }
 
 fn applied(book: Book, frame: [u8; 128]) -> Book {
@@ -106,39 +101,39 @@ fn applied(book: Book, frame: [u8; 128]) -> Book {
 
 fn shown(book: Book) {
     let mut out: [u8; 65536] = io::large_buffer();
-    let at = show::book(&mut out, 8, book);
-    words::put(&mut out, 0, at as u64);
+    let at = bridge_show::book(&mut out, 8, book);
+    bridge_words::put(&mut out, 0, at as u64);
     send(&out, at);
 }
 
 fn list(book: Book, frame: [u8; 128]) {
     let mut out: [u8; 65536] = io::large_buffer();
-    let w = ask::wanted(
+    let w = bridge_ask::wanted(
         wire::number(&frame, 8),
         wire::number(&frame, 16),
         wire::number(&frame, 24),
     );
-    let at = ask::list(
+    let at = bridge_ask::list(
         &mut out,
         book,
         w,
         wire::number(&frame, 32),
         wire::number(&frame, 40),
     );
-    words::put(&mut out, 0, at as u64);
+    bridge_words::put(&mut out, 0, at as u64);
     send(&out, at);
 }
 
 fn asked(book: Book, frame: [u8; 128]) {
     let mut out: [u8; 65536] = io::large_buffer();
-    let at = ask::ask(
+    let at = bridge_ask::ask(
         &mut out,
         book,
         wire::number(&frame, 8),
         wire::number(&frame, 16),
         wire::number(&frame, 24),
     );
-    words::put(&mut out, 0, at as u64);
+    bridge_words::put(&mut out, 0, at as u64);
     send(&out, at);
 }
 

@@ -1,5 +1,5 @@
 use borrow.Author.Needs.{needs}
-use Rattle.bridge.proofs.Parts.{taken}
+use Rattle.bridge_words.specs.Parts.{taken}
 use Rattle.bridge.proofs.send_part.Statement.{statement}
 use Rattle.bridge.proofs.send_part.Tie as tie
 
