@@ -11,13 +11,13 @@ use Rattle.command.specs.declared.Paper.{Paper}
 use Rattle.command.specs.declared.Paper.the-variants as Paper
 use Rattle.command.specs.Shape.{OnAccount, deposits, pays, approves, lenderRepaid, blacklists, OnOffer, withdraws, rejects, closes, schedules, marks, repaid, OnSettings, pauses, waits, appoints, seats, Shape, opens, account, registers, cancels, creates, offer, accepts, amends, counters, totals, settings, shapeOf}
 
--- a caller, who must have an account, and a paused book stops him: the account first, the other one, the invoice and the offer that he sees
+-- by a caller, whose account must be there, and not while the book is paused; the other account, the invoice and the offer that he sees
 abbrev pub called : ℕ → Other → Paper → Named → Declared.Names
-called a other paper o = record { caller = Id a; pausable = true; first = Id a; second = other; paper = paper; offer = o }
+called a other paper o = record { called = true; pausable = true; first = Id a; second = other; paper = paper; offer = o }
 
--- nobody's account is needed
+-- by nobody whose account must be there; the account that is named, if one is
 abbrev pub uncalled : Bool → Named → Declared.Names
-uncalled stops first = record { caller = Nothing; pausable = stops; first = first; second = Other.Nobody; paper = Paper.Nothing; offer = Nothing }
+uncalled stops first = record { called = false; pausable = stops; first = first; second = Other.Nobody; paper = Paper.Nothing; offer = Nothing }
 
 unfoldable pub accountNames : ℕ → OnAccount → Declared.Names
 accountNames a (deposits x) = called a Other.Nobody Paper.Nothing Nothing

@@ -156,9 +156,10 @@ pub enum Other {
     Originator,
 }
 
-// What a command names: the caller who must have an account, whether a paused book stops it, and the rows that it sees.
+// What a command names. `called`: the first account is its caller's, and must be there. `pausable`: a paused book stops it. The
+// others are the rows that it sees.
 pub struct Names {
-    pub caller: Named,
+    pub called: bool,
     pub pausable: bool,
     pub first: Named,
     pub second: Other,
@@ -170,7 +171,7 @@ fn called(caller: u64, second: Other, paper: Paper, offer: Named) -> Names
     ensures { λ r. ⌜ r ≡ called caller second paper offer ⌝ }
 {
     Names {
-        caller: Named::Id(caller),
+        called: true,
         pausable: true,
         first: Named::Id(caller),
         second: second,
@@ -183,7 +184,7 @@ fn uncalled(pausable: bool, first: Named) -> Names
     ensures { λ r. ⌜ r ≡ uncalled pausable first ⌝ }
 {
     Names {
-        caller: Named::Nothing,
+        called: false,
         pausable: pausable,
         first: first,
         second: Other::Nobody,

@@ -13,8 +13,8 @@ use Rattle.terms.specs.declared.Terms.{Terms}
 use Rattle.negotiation.specs.Latest.{matches-is}
 use Rattle.command.specs.declared.Command.{Command}
 use Rattle.command.specs.declared.Command.the-variants.{AmendOffer, CounterOffer}
-use Rattle.book.specs.Model.{Model, freshModel, offerIn, paperOf}
-use Rattle.book.specs.Rules.{rule, commanded}
+use Rattle.rules.specs.Model.{Model, freshModel, offerIn, paperOf}
+use Rattle.rules.specs.Rules.{rule, commanded}
 use Rattle.history.specs.History.{Deed, creates, amends, counters, accepts, Entry, opens, deposits, pays, registers, deals, nothing, entryOf, termsOf, counterOf, lenderOf, invoiceOf, settles, Settlement, Said, grow, deedsOn, settlementOf, settledBy, add, read}
 use Rattle.history.specs.Passed.{Passes, all-pass}
 use Rattle.history.specs.Ledger.{Bargain, Ledger, noted, post, ledger, bargainOf, shut}

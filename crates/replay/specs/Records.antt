@@ -20,8 +20,8 @@ use Rattle.journal.specs.ReadLaws.{all-tops}
 use Rattle.account.specs.declared.Account.{Account}
 use Rattle.account.specs.Account.{noAccount}
 use Rattle.sheet.specs.Size.{Small}
-use Rattle.book.specs.Model.{Model}
-use Rattle.book.specs.Rules.{settling, concluding, agreeing, rule}
+use Rattle.rules.specs.Model.{Model}
+use Rattle.rules.specs.Rules.{settling, concluding, agreeing, rule}
 
 -- ── Ids below 2^64 ────────────────────────────────────────────────
 pub record Low (t : Table Account) : Type 0 where

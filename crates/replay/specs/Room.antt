@@ -19,8 +19,8 @@ use Rattle.sheet.specs.declared.Pen.{Pen}
 use Rattle.sheet.specs.Sheet.{Wrote, penAt}
 use Rattle.lines.specs.Lines.{answerLine, markLine, accountLines}
 use Rattle.lines.specs.LineSize.{answer-most, mark-most, accounts-most, totals-most}
-use Rattle.book.specs.Model.{Model, freshModel}
-use Rattle.book.specs.Rules.{rule}
+use Rattle.rules.specs.Model.{Model, freshModel}
+use Rattle.rules.specs.Rules.{rule}
 use Rattle.soundness.specs.Sound.{ModelSound, fresh-model}
 use Rattle.soundness.specs.Keeps.{stays-sound}
 use Rattle.replay.specs.Replay.{answerTo, obeyed, atHeader, halted, follow, replayBy, replayFrom, replayOf}

@@ -83,3 +83,18 @@ take-le (suc n) (x ∷ xs) = omega (arith, take-le n xs)
 -- an id that is not there would be let in at the count at most
 pub slot-inside : (xs : List ℕ) (n i k : ℕ) → findIn (take n xs) i ≡ Absent k → k ≤ n
 slot-inside xs n i k e = omega (arith, absent-place (take n xs) i k e .within, take-le n xs)
+
+pub off-spot : {A : Type 0} {b : Bool} (r : A) → b ≡ false → atSpot b r ≡ absent
+unfolding atSpot
+off-spot r e = rw e
+
+pub on-spot : {A : Type 0} {b : Bool} (r : A) → b ≡ true → atSpot b r ≡ here r
+unfolding atSpot
+on-spot r e = rw e
+
+-- what is written at a spot
+pub written-new : {A : Type 0} (b : Bool) (x old : A) → b ≡ true → x ≡ cond b x old
+written-new b x old e = rw e
+
+pub written-old : {A : Type 0} (b : Bool) (x old : A) → b ≡ false → old ≡ cond b x old
+written-old b x old e = rw e
