@@ -1,17 +1,26 @@
 -- A row put anew in a table is seen anew at both keys
+use Prim.Native.Nat.{ℕ}
 use mathlib.Core.Path.{_≡_, refl, sym, ap, _∙_}
 use mathlib.Core.Bool.{Bool, true, false, not, cond}
 use borrow.Author.Tests.{not-true, not-false}
 use Rattle.refusal.specs.Choice.{pick, pick-on, pick-off}
-use Rattle.table.specs.Tables.{Found, absent, here, Table, fmap}
+use lib.Dec.{eqb}
+use Rattle.refusal.specs.Rule.{answered}
+use Rattle.terms.specs.declared.Terms.{Terms}
+use Rattle.table.specs.Tables.{Found, absent, here, Table, find, insert, fmap}
+use Rattle.table.specs.TableLaws.{find-insert}
+use Rattle.table.specs.SameId.{find-in}
 use Rattle.table.specs.Named.{same, findBy, putBy}
 use Rattle.table.specs.NamedLaws.{same-swap, same-found, found-by, found-other}
 use Rattle.table.specs.declared.Named.{Named}
+use Rattle.table.specs.declared.Named.the-variants.{Nothing, Id}
 use Rattle.account.specs.Seen.{putAccount, seenAccount}
 use Rattle.account.specs.declared.Account.{Account}
 use Rattle.account.specs.declared.SeenAccount.{SeenAccount}
 use Rattle.parties.specs.declared.Parties.{Parties}
-use Rattle.parties.specs.Parties.{putFirst, putSecond, turned, seenBy, partiesBy}
+use Rattle.parties.specs.declared.PartiesPosted.{PartiesPosted}
+use Rattle.parties.specs.Settlement.{settleAccounts}
+use Rattle.parties.specs.Parties.{putFirst, putSecond, turned, letIn, seenBy, partiesBy, partiesOf, partied, postedParties, Settles}
 
 put-seen : (f : Found Account) (x : Account) → putAccount (seenAccount f) x ≡ seenAccount (fmap (λ old. x) f)
 unfolding putAccount pick fmap
@@ -61,3 +70,36 @@ module _ (p : Parties) (x : Account) {n : SeenAccount} where
 -- the parties, turned
 pub turned-by : (a b : Named) (t : Table Account) → turned (partiesBy a b t) ≡ partiesBy b a t
 turned-by a b t = ap (both (seenBy t b) (seenBy t a)) (same-swap a b)
+
+-- the code of a row let in, and of a side
+module _ (p : Parties) (x : Account) where
+  pub let-alone : not (p .one) ≡ true → both (record { here = true; row = x }) (p .second) (p .one) ≡ letIn p x
+  let-alone h = ap (λ z. both (record { here = true; row = x }) z (p .one)) (sym (pick-off (record { here = true; row = x }) (p .second) (not-true _ h)))
+
+  pub let-both : not (p .one) ≡ false → both (record { here = true; row = x }) (record { here = true; row = x }) (p .one) ≡ letIn p x
+  let-both h = ap (λ z. both (record { here = true; row = x }) z (p .one)) (sym (pick-on (record { here = true; row = x }) (p .second) (not-false _ h)))
+
+-- a row let in at the first key is seen at both
+pub let-seen : (a : ℕ) (b : Named) (t : Table Account) (x : Account) → find t a ≡ absent → letIn (partiesBy (Id a) b t) x ≡ partiesBy (Id a) b (insert t a x)
+unfolding pick
+let-seen a b t x n = ap (λ z. both z (pick (same (Id a) b) (record { here = true; row = x }) (seenBy t b)) (same (Id a) b)) (ap seenAccount (sym (find-in t a x n))) ∙ ap (λ z. both (seenBy (insert t a x) (Id a)) z (same (Id a) b)) (go b)
+  where
+    go : (k : Named) → pick (same (Id a) k) (record { here = true; row = x }) (seenBy t k) ≡ seenBy (insert t a x) k
+    go Nothing = refl
+    go (Id k) = at (eqb a k) refl
+      where
+        at : (e : Bool) → eqb a k ≡ e → pick e (record { here = true; row = x }) (seenBy t (Id k)) ≡ seenAccount (find (insert t a x) k)
+        at true e = ap seenAccount (sym (find-insert t a k x n ∙ ap (λ z. cond z (here x) (find t k)) e))
+        at false e = ap seenAccount (sym (find-insert t a k x n ∙ ap (λ z. cond z (here x) (find t k)) e))
+
+-- settlement by either side
+module _ {p : Parties} (t : Terms) where
+  pub first-lends : {r : PartiesPosted} (lends : Bool) → lends ≡ true → ((a b : ℕ) (u : Table Account) → p ≡ partiesOf a b u → r ≡ answered (partied a b) u (settleAccounts u a b t)) → Settles lends p t r
+  unfolding pick
+  first-lends lends e h = rw e h
+
+  pub second-lends : {o : Parties} {q r : PartiesPosted} (lends : Bool) → lends ≡ false → o ≡ turned p → ((a b : ℕ) (u : Table Account) → o ≡ partiesOf a b u → q ≡ answered (partied a b) u (settleAccounts u a b t))
+      → r ≡ postedParties (q .answer) (turned (q .parties)) → Settles lends p t r
+  unfolding pick answered
+  second-lends {o} {q} {r} lends e h k w = rw e (λ a b u z.
+      w ∙ ap (λ y. postedParties (y .answer) (turned (y .parties))) (k a b u (h ∙ ap turned z ∙ turned-by (Id b) (Id a) u)) ∙ ap (postedParties _) (turned-by (Id a) (Id b) _))

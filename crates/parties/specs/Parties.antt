@@ -12,6 +12,7 @@ use Rattle.table.specs.declared.Named.the-variants.{Id}
 use Rattle.account.specs.Seen.{putAccount, seenAccount}
 use Rattle.account.specs.declared.Account.{Account}
 use Rattle.account.specs.declared.SeenAccount.{SeenAccount}
+use Rattle.parties.specs.Settlement.{settleAccounts}
 use Rattle.parties.specs.declared.Parties.{Parties}
 use Rattle.parties.specs.declared.PartiesPosted.{PartiesPosted}
 

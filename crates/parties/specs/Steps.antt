@@ -1,21 +1,22 @@
 -- Code that changes one of two rows follows the rule `onRow` at its id
 use Prim.Native.Nat.{ℕ}
 use mathlib.Core.Path.{_≡_, refl, sym, ap, _∙_}
-use mathlib.Core.Bool.{true, false, not}
+use mathlib.Core.Bool.{Bool, true, false, not, cond}
 use lib.Dec.{eqb}
 use borrow.Author.Tests.{not-true, not-false, eqb-true, eqb-false}
 use Rattle.refusal.specs.Refusal.{number, notFound, first, fails, passes}
 use Rattle.refusal.specs.Rule.{Rule, next, answered, refused, accepted}
 use Rattle.refusal.specs.Chain.{after-done, next-stops, next-goes}
 use Rattle.terms.specs.declared.Terms.{Terms}
-use Rattle.table.specs.Tables.{Table, adjust}
+use Rattle.table.specs.Tables.{Found, absent, here, Table, find, adjust, fmap}
+use Rattle.table.specs.TableLaws.{find-adjust}
+use Rattle.account.specs.Seen.{seenAccount}
 use Rattle.account.specs.declared.Account.{Account}
 use Rattle.account.specs.declared.SeenAccount.{SeenAccount}
 use Rattle.account.specs.declared.AccountPosted.{AccountPosted}
 use Rattle.account.specs.Rules.{posted, debitOf, creditOf, acceptOf}
 use Rattle.table.specs.declared.Named.the-variants.{Id}
 use Rattle.parties.specs.Settlement.{seenAt, onRow, settleAccounts}
-use Rattle.parties.specs.Laws.{first-put, second-put}
 use Rattle.parties.specs.declared.Parties.{Parties}
 use Rattle.parties.specs.Parties.{putFirst, putSecond, partiesOf, partied, postedParties}
 use Rattle.parties.specs.Laws.{first-put, second-put}
@@ -86,3 +87,13 @@ module _ (a b : ℕ) (t : Table Account) (x : Terms) where
 
 pub zero-of : {n : ℕ} → not (eqb n 0) ≡ false → n ≡ 0
 zero-of r = eqb-true _ _ (not-false _ r)
+
+-- a row that is there stays there
+pub still-here : (t : Table Account) (i j : ℕ) (g : Account → Account) → not (seenAt t i .here) ≡ false → not (seenAt (adjust t j g) i .here) ≡ false
+unfolding fmap
+still-here t i j g = rw find-adjust (go (eqb j i) (find t i))
+  where
+    go : (b : Bool) (o : Found Account) → not (seenAccount o .here) ≡ false → not (seenAccount (cond b (fmap g o) o) .here) ≡ false
+    go true absent e = e
+    go true (here r) e = refl
+    go false o e = e

@@ -7,15 +7,18 @@ ghost use Prim.Native.Nat.{ℕ};
 ghost use Rattle.refusal.specs.Rule.{answered};
 ghost use Rattle.table.specs.Tables.{Table};
 ghost use Rattle.account.specs.declared.Account as Row;
 ghost use Rattle.parties.specs.Settlement.{settleAccounts};
-ghost use Rattle.parties.specs.Parties.{putAccount, putFirst, putSecond, partiesOf, partied, postedParties};
+ghost use mathlib.Core.Bool.{true, false};
+ghost use Rattle.parties.specs.Parties.{putFirst, putSecond, turned, letIn, sideOf, partiesOf, partied, postedParties, Settles};
 
+// The first and the second row; `one`: both are the same.
 pub struct Parties {
     pub first: SeenAccount,
     pub second: SeenAccount,
     pub one: bool,
 }
 
+// An answer's number, 0 where rows were changed, and the rows.
 pub struct PartiesPosted {
     pub answer: u64,
     pub parties: Parties,

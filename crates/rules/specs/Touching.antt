@@ -10,6 +10,7 @@ use Rattle.refusal.specs.Rule.{after, both-pass}
 use Rattle.table.specs.Tables.{Table}
 use Rattle.table.specs.Touching.{Puts, Touched, put, let-in, untouched, at-first, at-second, puts-none, puts-first, puts-second, puts-swap}
 use Rattle.table.specs.declared.Named.the-variants.{Id}
+use Rattle.account.specs.Rules.{reofferOf}
 use Rattle.account.specs.declared.Account as Row
 use Rattle.invoice.specs.declared.Invoice.{Invoice}
 use Rattle.offer.specs.declared.Deal.{Deal}
@@ -18,8 +19,8 @@ use Rattle.terms.specs.declared.Terms.{Terms}
 use Rattle.command.specs.Shape.{OnAccount, deposits, pays, approves, lenderRepaid, blacklists, OnOffer, withdraws, rejects, closes, schedules, marks, repaid, OnSettings, pauses, waits, appoints, seats, Shape, opens, account, registers, cancels, creates, offer, accepts, amends, counters, totals, settings, shapeOf}
 use Rattle.command.specs.Names.{accountNames, offerNames, settingsNames, namesFor}
 use Rattle.command.specs.declared.Command.{Command}
-use Rattle.rules.specs.Model.{Model, offerIn, paperOf}
-use Rattle.rules.specs.Rules.{gateChecks, settling, concluding, agreeing, accepting, amending, countering, amendedIn, counteredIn, lenderOf, originatorOf, accountRule, offerRule, settingsRule, ruled, commanded}
+use Rattle.rules.specs.Model.{Model, accountIn, offerIn, paperOf}
+use Rattle.rules.specs.Rules.{gateChecks, settling, concluding, agreeing, accepting, amending, countering, amendedIn, counteredIn, lenderOf, originatorOf, termsIn, accountRule, offerRule, settingsRule, ruled, commanded}
 use Rattle.rules.specs.Keys.{keysIn, keysOf}
 use Rattle.rules.specs.Rooms.{open-room, register-room, offer-room}
 use Rattle.rules.specs.Agreeing.{accept-caller, amend-there, amend-first, counter-there, counter-first, amend-lender, amend-invoice, amend-originator, counter-lender, counter-invoice, counter-originator}
@@ -52,10 +53,14 @@ agree-deal true m now o p = puts-first p _
 agree-deal false m now o p = p
 
 module _ (m : Model) (now a o : ℕ) (t : Terms) (n : ℕ) where
+  -- the lender's row, its offered total moved
+  abbrev row : Row.Account
+  row = reofferOf (accountIn m a .row) (termsIn m o) t .done
+
   amend-accounts : first (amending m now a o t n .checks) ≡ 0 → Touched 64 (m .accounts) (amending m now a o t n .done .accounts) (Id a) (Id (originatorOf m o))
   amend-accounts h =
       let e = amend-there m now a o t n (amend-first m now a o t n h) in
-      put (agree-at (amendedIn m now a o t) now o _ (amend-lender m now o t (e .0) a _ ∙ e .1) (amend-originator m now o t (e .0) a _) (puts-first (puts-none (Id a) (Id (originatorOf m o))) _))
+      put (agree-at (amendedIn m now a o t) now o _ (amend-lender m now o t (e .0) a row ∙ e .1) (amend-originator m now o t (e .0) a row) (puts-first (puts-none (Id a) (Id (originatorOf m o))) _))
 
   counter-accounts : first (countering m now a o t n .checks) ≡ 0 → Touched 64 (m .accounts) (countering m now a o t n .done .accounts) (Id a) (Id (lenderOf m o))
   counter-accounts h =
@@ -63,7 +68,7 @@ module _ (m : Model) (now a o : ℕ) (t : Terms) (n : ℕ) where
       put (puts-swap (agree-at (counteredIn m now o t) now o _ (counter-lender m now o t (e .0)) (counter-originator m now o t (e .0) ∙ e .1) (puts-none (Id (lenderOf m o)) (Id a))))
 
   amend-paper : first (amending m now a o t n .checks) ≡ 0 → Touched 64 (m .invoices) (amending m now a o t n .done .invoices) (Id (offerIn m o .row .offer .invoice)) (Id (offerIn m o .row .offer .invoice))
-  amend-paper h = put (agree-paper _ (amendedIn m now a o t) now o (amend-invoice m now o t (amend-there m now a o t n (amend-first m now a o t n h) .0) a _) refl)
+  amend-paper h = put (agree-paper _ (amendedIn m now a o t) now o (amend-invoice m now o t (amend-there m now a o t n (amend-first m now a o t n h) .0) a row) refl)
 
   counter-paper : first (countering m now a o t n .checks) ≡ 0 → Touched 64 (m .invoices) (countering m now a o t n .done .invoices) (Id (offerIn m o .row .offer .invoice)) (Id (offerIn m o .row .offer .invoice))
   counter-paper h = put (agree-paper _ (counteredIn m now o t) now o (counter-invoice m now o t (counter-there m now a o t n (counter-first m now a o t n h) .0)) refl)

@@ -6,8 +6,8 @@ use borrow.Author.Needs.{needs}
 use Rattle.refusal.specs.Refusal.{first}
 use Rattle.table.specs.Tables.{Table}
 use Rattle.account.specs.declared.Account.{Account}
 use Rattle.parties.specs.Settlement.{seenAt}
-use Rattle.shelves.specs.Steps.{still-here}
+use Rattle.parties.specs.Steps.{still-here}
 use Rattle.parties.specs.declared.Parties.{Parties}
 use Rattle.parties.specs.Parties.{partiesOf}
 use Rattle.parties.specs.Steps.{row-missing, row-answer, row-done, debit, credit, accept, first-step, second-step, step1, step2, step3, debit-refuses, credit-refuses, accept-refuses, all-pass, zero-of}

@@ -1,46 +1,42 @@
+use mathlib.Core.Path.{sym, ap, _∙_}
+use Prim.Native.Nat.{_<_}
+use native.Mathlib.Omega.{arith}
+use Rattle.table.specs.SpotLaws.{spot-below}
+use Rattle.offer.specs.Seen.{seenDeal}
+use Rattle.shelves.specs.Placing.{deal-read}
 use borrow.Author.Needs.{needs}
 use Rattle.shelves.proofs.Offers.see.Statement.{statement}
 use Rattle.shelves.proofs.Offers.see.Tie as tie
-use Rattle.shelves.proofs.Offers.see.Reads as reads
-use Rattle.shelves.proofs.Offers.see.Lts as lts
-use Rattle.offer.proofs.SeenDeal.at.Reads as at-reads
-use Rattle.table.proofs.spot_by.Reads as spot-by-reads
 
--- src/lib.rt:316:13
+below : (c : tie.After-spot-by) → c .spot-by .result .at < 64
+below c = spot-below (c .before .before .before .before .pre .shelf) (omega arith) (c .before .before .before .before .args .key) (c .spot-by .ensures)
+
 spot-by-requires : tie.Need-spot-by-requires
 spot-by-requires c κs = search needs
 
--- src/lib.rt:318:17
 mul-o : tie.Need-mul-o
-mul-o c = ?
+mul-o c = omega (arith, below c)
 
--- src/lib.rt:318:17
 element-copy-out-o : tie.Need-element-copy-out-o
-element-copy-out-o c = ?
+element-copy-out-o c = omega (arith, below c)
 
--- src/lib.rt:319:17
 mul-g : tie.Need-mul-g
-mul-g c = ?
+mul-g c = omega (arith, below (c .before))
 
--- src/lib.rt:319:17
 element-copy-out-g : tie.Need-element-copy-out-g
-element-copy-out-g c = ?
+element-copy-out-g c = omega (arith, below (c .before))
 
--- src/lib.rt:320:17
 mul-q : tie.Need-mul-q
-mul-q c = ?
+mul-q c = omega (arith, below (c .before .before))
 
--- src/lib.rt:320:17
 element-copy-out-q : tie.Need-element-copy-out-q
-element-copy-out-q c = ?
+element-copy-out-q c = omega (arith, below (c .before .before))
 
--- src/lib.rt:326:9
 at-requires : tie.Need-at-requires
 at-requires c κs = search needs
 
--- src/lib.rt:311:5
 returns : tie.Need-returns
-returns c = ?
+returns c = c .at .ensures ∙ ap seenDeal (sym (deal-read (c .before .before .before .before .before .before .before .before .pre) _ _ _ (c .before .before .before .before .before .before .before .before .args .key) (c .before .before .before .before .spot-by .ensures)))
 
 pub see-spec : {M : Type 1} → statement M
 see-spec =

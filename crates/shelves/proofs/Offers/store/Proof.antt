@@ -1,83 +1,88 @@
+use Rattle.offer.specs.Offer.{noDeal}
+use mathlib.Core.Path.{_≡_, refl, sym, ap, subst, _∙_}
+use mathlib.Core.Bool.{Bool, not, _&&_}
+use Prim.Native.Nat.{_<_}
+use native.Mathlib.Omega.{arith}
+use lib.ListN.{set}
+use borrow.Author.Needs.{needs}
+use Rattle.table.specs.Tables.{has}
+use Rattle.table.specs.Named.{findBy, putBy}
+use Rattle.table.specs.NamedLaws.{fine-by}
+use Rattle.table.specs.SpotLaws.{spot-below}
+use Rattle.table.specs.Storing.{stays, room, grows, once}
+use Rattle.shelves.specs.Offers.{dealsOf, storedDeals, DealShelf}
+use Rattle.shelves.specs.Deals.{offersOf}
+use Rattle.shelves.specs.OfferLaws.{deals-keeping}
+use Rattle.shelves.specs.Seeing.{dealRow}
+use Rattle.shelves.specs.Placing.{deal-read, deal-wrote, was-by}
 use Rattle.shelves.proofs.Offers.store.Statement.{statement}
 use Rattle.shelves.proofs.Offers.store.Tie as tie
-use Rattle.shelves.proofs.Offers.store.Reads as reads
-use Rattle.shelves.proofs.Offers.store.Lts as lts
-use Rattle.offer.proofs.Deal.over.Reads as over-reads
-use Rattle.shelves.proofs.Offers.let_in.Reads as let-in-reads
-use Rattle.table.proofs.Named.id.Reads as id-reads
-use Rattle.table.proofs.spot_by.Reads as spot-by-reads
 
--- src/lib.rt:335:13
+below : (c : tie.After-spot-by) → c .spot-by .result .at < 64
+below c = spot-below (c .before .before .before .before .pre .shelf) (omega arith) (c .before .before .before .before .args .key) (c .spot-by .ensures)
+
+wrote : (c : tie.After-over) → offersOf (c .before .before .before .before .before .before .before .before .before .args .t1 .ids) (c .before .before .before .before .before .before .before .before .before .args .t1 .count) (set (c .before .before .before .before .before .before .before .before .before .args .t1 .rows) (c .before .before .before .before .before .spot-by .result .at) (c .over .result .offer)) (set (c .before .before .before .before .before .before .before .before .before .args .t1 .negotiations) (c .before .before .before .before .before .spot-by .result .at) (c .over .result .negotiation)) (set (c .before .before .before .before .before .before .before .before .before .args .t1 .schedules) (c .before .before .before .before .before .spot-by .result .at) (c .over .result .schedule)) ≡ storedDeals (putBy (putBy (dealsOf (c .before .before .before .before .before .before .before .before .before .args .t1)) (c .before .before .before .before .before .before .before .before .before .args .key) (c .before .before .before .before .before .before .before .before .before .args .x .row)) (c .before .before .before .before .before .before .before .before .before .args .key) (c .before .before .before .before .before .before .before .before .before .args .x .row))
+wrote c = once storedDeals (dealsOf (c .before .before .before .before .before .before .before .before .before .args .t1)) (c .before .before .before .before .before .before .before .before .before .args .key) (c .before .before .before .before .before .before .before .before .before .args .x .row) (deal-wrote (c .before .before .before .before .before .before .before .before .before .pre) _ _ _ (c .before .before .before .before .before .before .before .before .before .args .key) (c .before .before .before .before .before .spot-by .ensures) (c .before .before .before .before .before .before .before .before .before .args .x .row) (c .over .ensures))
+
+was : (c : tie.After-over) → c .before .before .before .before .before .spot-by .result .here ≡ has (findBy (dealsOf (c .before .before .before .before .before .before .before .before .before .args .t1)) (c .before .before .before .before .before .before .before .before .before .args .key))
+was c = was-by _ _ (deal-read (c .before .before .before .before .before .before .before .before .before .pre) (noDeal .offer) (noDeal .negotiation) (noDeal .schedule) (c .before .before .before .before .before .before .before .before .before .args .key) (c .before .before .before .before .before .spot-by .ensures))
+
+came : (c : tie.After-over) → {b : Bool} → not (c .before .before .before .before .before .spot-by .result .here) && (c .before .before .before .before .before .before .before .before .before .args .x .here) ≡ b → not (has (findBy (dealsOf (c .before .before .before .before .before .before .before .before .before .args .t1)) (c .before .before .before .before .before .before .before .before .before .args .key))) && (c .before .before .before .before .before .before .before .before .before .args .x .here) ≡ b
+came c = λ q. ap (λ z. not z && (c .before .before .before .before .before .before .before .before .before .args .x .here)) (sym (was c)) ∙ q
+
 spot-by-requires : tie.Need-spot-by-requires
-spot-by-requires c κs = ?
+spot-by-requires c κs = search needs
 
--- src/lib.rt:337:17
 mul-o : tie.Need-mul-o
-mul-o c = ?
+mul-o c = omega (arith, below c)
 
--- src/lib.rt:337:17
 element-copy-out-o : tie.Need-element-copy-out-o
-element-copy-out-o c = ?
+element-copy-out-o c = omega (arith, below c)
 
--- src/lib.rt:338:17
 mul-g : tie.Need-mul-g
-mul-g c = ?
+mul-g c = omega (arith, below (c .before))
 
--- src/lib.rt:338:17
 element-copy-out-g : tie.Need-element-copy-out-g
-element-copy-out-g c = ?
+element-copy-out-g c = omega (arith, below (c .before))
 
--- src/lib.rt:339:17
 mul-q : tie.Need-mul-q
-mul-q c = ?
+mul-q c = omega (arith, below (c .before .before))
 
--- src/lib.rt:339:17
 element-copy-out-q : tie.Need-element-copy-out-q
-element-copy-out-q c = ?
+element-copy-out-q c = omega (arith, below (c .before .before))
 
--- src/lib.rt:346:13
 over-requires : tie.Need-over-requires
-over-requires c κs = ?
+over-requires c κs = search needs
 
--- src/lib.rt:350:9
 mul-e : tie.Need-mul-e
-mul-e c = ?
+mul-e c = omega (arith, below (c .before .before .before .before .before .before .before .before))
 
--- src/lib.rt:350:9
 element-set-from-e : tie.Need-element-set-from-e
-element-set-from-e c = ?
+element-set-from-e c = omega (arith, below (c .before .before .before .before .before .before .before .before))
 
--- src/lib.rt:351:9
 mul-h : tie.Need-mul-h
-mul-h c = ?
+mul-h c = omega (arith, below (c .before .before .before .before .before .before .before .before))
 
--- src/lib.rt:351:9
 element-set-from-h : tie.Need-element-set-from-h
-element-set-from-h c = ?
+element-set-from-h c = omega (arith, below (c .before .before .before .before .before .before .before .before))
 
--- src/lib.rt:352:9
 mul-l : tie.Need-mul-l
-mul-l c = ?
+mul-l c = omega (arith, below (c .before .before .before .before .before .before .before .before))
 
--- src/lib.rt:352:9
 element-set-from-l : tie.Need-element-set-from-l
-element-set-from-l c = ?
+element-set-from-l c = omega (arith, below (c .before .before .before .before .before .before .before .before))
 
--- src/lib.rt:354:32
 id-requires : tie.Need-id-requires
-id-requires c κs = ?
+id-requires c κs = search needs
 
--- src/lib.rt:354:13
 let-in-requires : tie.Need-let-in-requires
-let-in-requires c κs = ?
+let-in-requires c κs = subst DealShelf (sym (wrote (c .before .before .before .before .before .before .before))) (deals-keeping .good (fine-by (fine-by (deals-keeping .fine _ (c .before .before .before .before .before .before .before .before .before .before .before .before .before .before .before .before .pre)) (c .before .before .before .before .before .before .before .before .before .before .before .before .before .before .before .before .args .key) (c .before .before .before .before .before .before .before .before .before .before .before .before .before .before .before .before .args .x .row)) (c .before .before .before .before .before .before .before .before .before .before .before .before .before .before .before .before .args .key) (c .before .before .before .before .before .before .before .before .before .before .before .before .before .before .before .before .args .x .row)))
 
--- src/lib.rt:354:13
 returns : tie.Need-returns
-returns c = ?
+returns c = λ u l. grows deals-keeping dealRow (λ r. refl) l (wrote (c .before .before .before .before .before .before .before .before)) (came (c .before .before .before .before .before .before .before .before) (c .before .before .if1 .taken)) ((simp (c .before .id .ensures) at (c .let-in .ensures)) (room deals-keeping dealRow (λ r. refl) l (wrote (c .before .before .before .before .before .before .before .before)) (came (c .before .before .before .before .before .before .before .before) (c .before .before .if1 .taken))))
 
--- src/lib.rt:330:5
 returns-2 : tie.Need-returns-2
-returns-2 c = ?
+returns-2 c = λ u l. stays deals-keeping dealRow (λ r. refl) l (wrote (c .before .before .before .before .before .before)) (came (c .before .before .before .before .before .before) (c .if1 .left))
 
 pub store-spec : {M : Type 1} → statement M
 store-spec =
