@@ -1,26 +1,27 @@
+use mathlib.Core.Path.{refl, sym, _∙_}
+use borrow.Author.Tests.{eqb-true, eqb-false, not-true, not-false}
+use Rattle.refusal.specs.Rule.{refused}
+use Rattle.refusal.specs.Chain.{next-stops, then-answers}
+use Rattle.command.specs.Shape.{shapeOf}
+use Rattle.rules.specs.Rules.{ruled}
+use Rattle.rules.specs.Keys.{keysOf}
+use Rattle.near.specs.Near.{turnOf}
+use Rattle.near.specs.Steps.{same}
 use borrow.Author.Needs.{needs}
 use Rattle.near.proofs.Near.turn.Statement.{statement}
 use Rattle.near.proofs.Near.turn.Tie as tie
-use Rattle.near.proofs.Near.turn.Reads as reads
-use Rattle.near.proofs.Near.turn.Lts as lts
-use Rattle.near.proofs.Near.execute.Reads as execute-reads
-use Rattle.near.proofs.Near.gate.Reads as gate-reads
 
--- src/lib.rt:714:13
 gate-requires : tie.Need-gate-requires
 gate-requires c κs = search needs
 
--- src/lib.rt:716:13
 returns : tie.Need-returns
-returns c = ?
+returns c = λ m f e. same (keysOf m (c .before .before .args .c)) m e _ ∙ refused (turnOf (keysOf m (c .before .before .args .c))) _ _ (next-stops _ (λ n. ruled n (shapeOf (c .before .before .args .c))) (c .before .gate .ensures m e) (eqb-false _ _ (not-true _ (c .if1 .taken)))) (eqb-false _ _ (not-true _ (c .if1 .taken)))
 
--- src/lib.rt:721:9
 execute-requires : tie.Need-execute-requires
 execute-requires c κs = search needs
 
--- src/lib.rt:711:5
 returns-2 : tie.Need-returns-2
-returns-2 c = ?
+returns-2 c = λ m f e. c .execute .ensures m f e ∙ then-answers (turnOf (keysOf m (c .before .before .before .args .c))) _ _ (λ n. ruled n (shapeOf (c .before .before .before .args .c))) _ refl (sym (c .before .before .gate .ensures m e) ∙ eqb-true _ _ (not-false _ (c .before .if1 .left)))
 
 pub turn-spec : {M : Type 1} → statement M
 turn-spec = tie.close (tie.spec gate-requires returns execute-requires returns-2)
