@@ -61,7 +61,7 @@ module _ {b : Book} {c : Command} {n : Names} {key other : Named} {x : SeenDeal}
       let we : w ≡ invoiceBy m (paperKey (n .paper) (offerBy m (n .offer) .row .offer .invoice)) = ew ∙ ap (invoiceBy m) ke in
       let oe = eo ∙ ap (λ z. otherKey (n .second) (z .row .offer .lender) (w .row .originator)) ex ∙ ap (λ z. otherKey (n .second) (offerBy m (n .offer) .row .offer .lender) (z .row .originator)) we in
       record {
-        keys = ap (λ z. keysBy (n .first) z key (n .offer)) oe ∙ ap (λ z. keysBy (n .first) _ z (n .offer)) ke ∙ ap (λ z. keysIn m z) en;
+        keys = ap (λ z. keysBy (n .first) z key (n .offer)) oe ∙ ap (λ z. keysBy (n .first) (keysIn m n .second) z (n .offer)) ke ∙ ap (λ z. keysIn m z) en;
         view = ap (λ z. nearBy z q e w x (b .totals) (b .settings)) ep ∙ ap (λ z. nearBy (accountBy m (n .first)) z e w x (b .totals) (b .settings)) eq
             ∙ ap (λ z. nearBy (accountBy m (n .first)) (accountBy m other) z w x (b .totals) (b .settings)) ee
             ∙ ap (λ z. nearBy (accountBy m (n .first)) (accountBy m other) (same (n .first) other) z x (b .totals) (b .settings)) ew
@@ -72,8 +72,8 @@ module _ {b : Book} {c : Command} {n : Names} {key other : Named} {x : SeenDeal}
 abbrev pub fullBy : Bool → Bool → Bool → Full
 fullBy a i o = record { accounts = a; invoices = i; offers = o }
 
-pub full-by : {b : Book} {x y z : Bool} → x ≡ full 64 (accountsOf (b .accounts)) → y ≡ full 64 (invoicesOf (b .invoices)) → z ≡ full 64 (dealsOf (b .offers)) → fullBy x y z ≡ fullOf (modelOf b)
-full-by {b} {x} {y} {z} p q r = ap (λ w. fullBy w y z) p ∙ ap (λ w. fullBy (full 64 (accountsOf (b .accounts))) w z) q ∙ ap (λ w. fullBy (full 64 (accountsOf (b .accounts))) (full 64 (invoicesOf (b .invoices))) w) r
+pub full-by : (b : Book) {x y z : Bool} → x ≡ full 64 (accountsOf (b .accounts)) → y ≡ full 64 (invoicesOf (b .invoices)) → z ≡ full 64 (dealsOf (b .offers)) → fullBy x y z ≡ fullOf (modelOf b)
+full-by b {x} {y} {z} p q r = ap (λ w. fullBy w y z) p ∙ ap (λ w. fullBy (full 64 (accountsOf (b .accounts))) w z) q ∙ ap (λ w. fullBy (full 64 (accountsOf (b .accounts))) (full 64 (invoicesOf (b .invoices))) w) r
 
 pub record Turned (b : Book) (c : Command) (k : Keys) (r : Turn) : Type 0 where
   pub shelved : Shelved b

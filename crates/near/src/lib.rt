@@ -617,7 +617,11 @@ impl Near {
                 id: _,
                 amount,
             } => self.registered(caller, amount, filled.invoices),
-            Command::CancelInvoice { now: _, caller, id: _ } => self.cancelled(caller),
+            Command::CancelInvoice {
+                now: _,
+                caller,
+                id: _,
+            } => self.cancelled(caller),
             Command::CreateOffer {
                 now: _,
                 caller,
