@@ -43,6 +43,12 @@ use Rattle.book.specs.declared.Step.{Step}
 use Rattle.book.specs.Stored.{modelOf, stepOf, Shelved}
 use Rattle.book.specs.Shelving.{fits-of}
 
+abbrev pub bookBy : Accounts → Invoices → Offers → Totals → Settings → Book
+bookBy a i o t s = record { accounts = a; invoices = i; offers = o; totals = t; settings = s }
+
+abbrev stepBy : ℕ → Book → Step
+stepBy n z = record { answer = n; book = z }
+
 -- ── What is seen ──────────────────────────────────────────────────
 abbrev pub nearBy : SeenAccount → SeenAccount → Bool → SeenInvoice → SeenDeal → Totals → Settings → Near
 nearBy p q e w x t s = record { parties = record { first = p; second = q; one = e }; paper = w; deal = x; totals = t; settings = s }
@@ -141,12 +147,6 @@ module _ {b : Book} {c : Command} {k : Keys} {r : Turn} (e : Turned b c k r) whe
   }
 
   -- all three stored: the book's own step
-  abbrev bookBy : Accounts → Invoices → Offers → Totals → Settings → Book
-  bookBy a i o t s = record { accounts = a; invoices = i; offers = o; totals = t; settings = s }
-
-  abbrev stepBy : ℕ → Book → Step
-  stepBy n z = record { answer = n; book = z }
-
   pub steps : {a : Accounts} {i : Invoices} {o : Offers} → a ≡ storedAccounts (next .accounts) → i ≡ storedInvoices (next .invoices) → o ≡ storedDeals (next .offers)
       → stepBy (r .answer) (bookBy a i o (r .near .totals) (r .near .settings)) ≡ answered stepOf (modelOf b) (commanded (modelOf b) c)
   unfolding answered
