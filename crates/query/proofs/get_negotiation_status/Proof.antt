@@ -24,8 +24,8 @@ see-requires c κs = (c .before .before .sound .ensures .1 (not-false (c .before
 status-requires : tie.Need-status-requires
 status-requires c κs = search needs
 
-cast-t13 : tie.Need-cast-t13
-cast-t13 c = search needs
+cast-t14 : tie.Need-cast-t14
+cast-t14 c = search needs
 
 returns-2 : tie.Need-returns-2
 returns-2 c = goes-on reply bookUnsound _ _ _ (ap not (sym (c .before .before .before .before .before .before .before .sound .ensures .0)) ∙ c .before .before .before .before .before .before .if1 .left)
@@ -33,4 +33,4 @@ returns-2 c = goes-on reply bookUnsound _ _ _ (ap not (sym (c .before .before .b
 
 pub get-negotiation-status-spec : {M : Type 1} → statement M
 get-negotiation-status-spec =
-    tie.close (tie.spec sound-requires returns see-requires status-requires cast-t13 returns-2)
+    tie.close (tie.spec sound-requires returns see-requires status-requires cast-t14 returns-2)
