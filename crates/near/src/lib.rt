@@ -32,7 +32,8 @@ ghost use Rattle.settings.specs.Settings as Set;
 ghost use Rattle.settings.specs.Totals.{repayOf};
 ghost use Rattle.settings.specs.declared.Settings as Sets;
 ghost use Rattle.rules.specs.Model.{Model, accountIn, invoiceIn, offerIn, paperOf, onAccount, onInvoice, onOffer, onTotals, onSettings};
-ghost use Rattle.rules.specs.Rules.{gateChecks, opening, registering, creating, settling, accepting, concluding, amending, countering, lenderOf, originatorOf, ruled, commanded};
+ghost use Rattle.command.specs.Names.{namesOf};
+ghost use Rattle.rules.specs.Rules.{gateBy, opening, registering, creating, settling, accepting, concluding, amending, countering, lenderOf, originatorOf, ruled, commanded};
 ghost use Rattle.command.specs.Shape.{shapeOf};
 ghost use Rattle.rules.specs.Keys.{keysBy, keysOf};
 ghost use Rattle.near.specs.Near.{viewOf, Turns, Anywhere, AtFirst, AtSecond, AtPaper, AtDeal, dealKeys, sidesOf, BySides, Concludes, SeesAmendment, SeesCounter, TurnsBy};
@@ -572,25 +573,22 @@ impl Near {
     }
 }
 
+// What stands before every command: 1 for a paused book, 4 for a caller without an account.
+fn gate(c: Command, paused: bool, here: bool) -> u64
+    ensures { λ r. ⌜ r ≡ first (gateBy paused here (namesOf c)) ⌝ }
+{
+    let n = c.names();
+    if paused & n.pausable {
+        return refusal::PAUSED;
+    }
+    if n.called & !here {
+        return refusal::NOT_FOUND;
+    }
+    0
+}
+
 // ── The turn of a command ──
 impl Near {
-    // What stands before every command: 1 for a paused book, 4 for a caller without an account.
-    fn gate(self, c: Command) -> u64
-        ensures { λ r. ⌜ ((m : Model) → self ≡ viewOf (keysOf m c) m → r ≡ first (gateChecks m (shapeOf c))) ⌝ }
-    {
-        let n = c.names();
-        let settings = self.settings;
-        if settings.paused & n.pausable {
-            return refusal::PAUSED;
-        }
-        let parties = self.parties;
-        let s = parties.first;
-        if n.called & !s.here {
-            return refusal::NOT_FOUND;
-        }
-        0
-    }
-
     fn execute(self, c: Command, filled: Full) -> Turn
         ensures { λ r. ⌜ TurnsBy self r c filled (λ m. ruled m (shapeOf c)) ⌝ }
     {
@@ -715,7 +713,7 @@ impl Near {
     pub fn turn(self, c: Command, filled: Full) -> Turn
         ensures { λ r. ⌜ TurnsBy self r c filled (λ m. commanded m c) ⌝ }
     {
-        let n = self.gate(c);
+        let n = gate(c, self.settings.paused, self.parties.first.here);
         if !(n == 0) {
             return Turn {
                 answer: n,

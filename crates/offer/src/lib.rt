@@ -8,6 +8,7 @@ use terms::Schedule;
 use terms::Terms;
 ghost use mathlib.Core.Bool.{cond};
 ghost use Rattle.table.specs.Spots.{atSpot};
+ghost use Rattle.table.specs.Tables.{absent};
 ghost use Rattle.offer.specs.Seen.{seenDeal, putDeal};
 ghost use mathlib.Core.Path.{_≡_};
 ghost use Rattle.refusal.specs.Refusal.{first};
@@ -627,6 +628,17 @@ impl SeenDeal {
 }
 
 impl SeenDeal {
+    // No row.
+    pub fn none() -> SeenDeal
+        ensures { λ r. ⌜ r ≡ seenDeal absent ⌝ }
+    {
+        let row = Deal::none();
+        SeenDeal {
+            here: false,
+            row: row,
+        }
+    }
+
     // What is read at a spot: the row where it is there, else none.
     pub fn at(here: bool, row: Deal) -> SeenDeal
         ensures { λ r. ⌜ r ≡ seenDeal (atSpot here row) ⌝ }

@@ -104,27 +104,29 @@ fn records(s: &[u8], out: &mut [u8], ink: bool, first: usize) -> Told
                 let id = names.offer;
                 let po = table::spot_by(&offers.ids, offers.count, id);
                 let io = po.at;
-                let o = offers.rows[io];
-                let g = offers.negotiations[io];
-                let p = offers.schedules[io];
-                let od = Deal {
-                    offer: o,
-                    negotiation: g,
-                    schedule: p,
-                };
-                let x = SeenDeal::at(po.here, od);
-                let y = x.row;
-                let z = y.offer;
+                let mut x = SeenDeal::none();
+                if po.here {
+                    let o = offers.rows[io];
+                    let g = offers.negotiations[io];
+                    let p = offers.schedules[io];
+                    x = SeenDeal {
+                        here: true,
+                        row: Deal {
+                            offer: o,
+                            negotiation: g,
+                            schedule: p,
+                        },
+                    };
+                }
                 let np = names.paper;
-                let key = np.key(z.invoice);
+                let key = np.key(x.row.offer.invoice);
                 let pi = table::spot_by(&invoices.ids, invoices.count, key);
                 let ii = pi.at;
                 let v = invoices.rows[ii];
                 let w = SeenInvoice::at(pi.here, v);
-                let q = w.row;
                 let ka = names.first;
                 let nb = names.second;
-                let kb = nb.key(z.lender, q.originator);
+                let kb = nb.key(x.row.offer.lender, w.row.originator);
                 let pa = table::spot_by(&accounts.ids, accounts.count, ka);
                 let ia = pa.at;
                 let va = accounts.rows[ia];
@@ -152,46 +154,40 @@ fn records(s: &[u8], out: &mut [u8], ink: bool, first: usize) -> Told
                 };
                 let t = near.turn(c, filled);
                 pen = lines::put_answer(out, pen, ink, (k + 1) as u64, t.answer);
-                let e = t.near;
-                totals = e.totals;
-                settings = e.settings;
-                let es = e.parties;
-                let ea = es.first;
-                let eb = es.second;
-                let ei = e.paper;
-                let eo = e.deal;
-                let rb = eb.row;
+                totals = t.near.totals;
+                settings = t.near.settings;
+                let rb = t.near.parties.second.row;
                 let mb = rb.over(pb.here, vb);
                 accounts.rows[ib] = mb;
                 let old = accounts.rows[ia];
-                let ra = ea.row;
+                let ra = t.near.parties.first.row;
                 let ma = ra.over(pa.here, old);
                 accounts.rows[ia] = ma;
-                let ri = ei.row;
+                let ri = t.near.paper.row;
                 let mi = ri.over(pi.here, v);
                 invoices.rows[ii] = mi;
-                let ro = eo.row;
-                let mo = ro.over(po.here, od);
-                let u1 = mo.offer;
-                let u2 = mo.negotiation;
-                let u3 = mo.schedule;
-                offers.rows[io] = u1;
-                offers.negotiations[io] = u2;
-                offers.schedules[io] = u3;
-                if !pa.here & ea.here {
+                if po.here {
+                    let u1 = t.near.deal.row.offer;
+                    let u2 = t.near.deal.row.negotiation;
+                    let u3 = t.near.deal.row.schedule;
+                    offers.rows[io] = u1;
+                    offers.negotiations[io] = u2;
+                    offers.schedules[io] = u3;
+                }
+                if !pa.here & t.near.parties.first.here {
                     let more = accounts.let_in(ka.id(), ra);
                     accounts = more;
                 }
-                if !pi.here & ei.here {
+                if !pi.here & t.near.paper.here {
                     let more = invoices.let_in(key.id(), ri);
                     invoices = more;
                 }
-                if !po.here & eo.here {
+                if !po.here & t.near.deal.here {
                     let n = offers.count;
                     let mut ci = id.id();
-                    let mut co = ro.offer;
-                    let mut cg = ro.negotiation;
-                    let mut cp = ro.schedule;
+                    let mut co = t.near.deal.row.offer;
+                    let mut cg = t.near.deal.row.negotiation;
+                    let mut cp = t.near.deal.row.schedule;
                     let mut j = po.slot;
                     while j <= n {
                         let a1 = offers.ids[j];

@@ -22,13 +22,17 @@ use Rattle.settings.specs.Settings.{adminPasses, isRepayer, pauseOf, windowOf, 
 use Rattle.settings.specs.Totals.{countOf, financeOf, repayOf}
 use Rattle.parties.specs.Settlement.{settleAccounts}
 use Rattle.command.specs.Names.{namesFor}
+use Rattle.command.specs.declared.Names.{Names}
 use Rattle.command.specs.Shape.{OnAccount, deposits, pays, approves, lenderRepaid, blacklists, OnOffer, withdraws, rejects, closes, schedules, marks, repaid, OnSettings, pauses, waits, appoints, seats, Shape, opens, account, registers, cancels, creates, offer, accepts, amends, counters, totals, settings, shapeOf}
 use Rattle.command.specs.declared.Command.{Command}
 use Rattle.rules.specs.Model.{Model, accountIn, accountBy, invoiceIn, offerIn, paperOf, withAccounts, withInvoices, withOffers, onAccount, onInvoice, onOffer, onTotals, onSettings}
 
 -- ── Test order: 1 (except pause and unpause), then 4 if the caller has no account (not for admin commands or opening) ──
+abbrev pub gateBy : Bool → Bool → Names → List Check
+gateBy stopped here n = (stopped && n .pausable gives paused) ∷ (n .called && not here gives notFound) ∷ []
+
 abbrev pub gateChecks : Model → Shape → List Check
-gateChecks m c = (m .settings .paused && namesFor c .pausable gives paused) ∷ (namesFor c .called && not (accountBy m (namesFor c .first) .here) gives notFound) ∷ []
+gateChecks m c = gateBy (m .settings .paused) (accountBy m (namesFor c .first) .here) (namesFor c)
 
 -- ── Port: open account 5, 12; register invoice amount 3, 5, 12 ────
 abbrev pub opening : Model → ℕ → Rule Model

@@ -9,8 +9,8 @@ use Rattle.table.specs.Tables.{Found, absent, here, find, has, Room}
 use Rattle.table.specs.Find.{findIn}
 use Rattle.table.specs.Named.{idOf, findBy, putBy}
 use Rattle.table.specs.Spots.{spotOf, spotBy, atSpot}
-use Rattle.table.specs.SpotLaws.{spot-put, has-spot}
-use Rattle.table.specs.NamedLaws.{fine-by}
+use Rattle.table.specs.SpotLaws.{spot-put, has-spot, written-new}
+use Rattle.table.specs.NamedLaws.{never, fine-by}
 use Rattle.table.specs.declared.Named.{Named}
 use Rattle.table.specs.declared.Named.the-variants.{Nothing, Id}
 use Rattle.table.specs.declared.Found as Places
@@ -101,6 +101,21 @@ module _ {u : Offers} (s : DealShelf u) (o : Offer) (n : Negotiation) (l : Sched
 
     pub deal-wrote : (d : Deal) {w : Deal} → w ≡ cond (p .here) d (dealAt (p .at)) → wrote (p .at) w ≡ storedDeals (putBy (dealsOf u) i d)
     deal-wrote d h = rw h (rw e (put-by d i))
+
+    -- written only where it is there
+    pub deal-there : (d : Deal) → p .here ≡ true → wrote (p .at) d ≡ storedDeals (putBy (dealsOf u) i d)
+    deal-there d h = deal-wrote d (written-new (p .here) d (dealAt (p .at)) h)
+
+    absent-at : (k : ℕ) (f : Places.Found) → findIn (take (u .count) (u .ids)) k ≡ f → spotOf f .here ≡ false → (d : Deal) → u ≡ storedDeals (putBy (dealsOf u) (Id k) d)
+    absent-at k (At j) q h d = never h
+    absent-at k (Absent j) q h d = deal-absent s k j d q
+
+    absent-by : (k : Named) → spotBy (take (u .count) (u .ids)) k .here ≡ false → (d : Deal) → u ≡ storedDeals (putBy (dealsOf u) k d)
+    absent-by Nothing h d = deals-kept s
+    absent-by (Id k) h d = absent-at k (findIn (take (u .count) (u .ids)) k) refl h d
+
+    pub deal-gone : (d : Deal) → p .here ≡ false → u ≡ storedDeals (putBy (dealsOf u) i d)
+    deal-gone d h = absent-by i (ap (λ z. z .here) (sym e) ∙ h) d
 
 -- ── A row that was not there, and is ──────────────────────────────
 pub came-new : (was is : Bool) → not was && is ≡ true → was ≡ false
