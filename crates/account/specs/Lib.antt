@@ -2,3 +2,4 @@ pub mod Account
 pub mod Post
 pub mod Rules
 pub mod Laws
+pub mod Seen

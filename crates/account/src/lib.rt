@@ -1,4 +1,7 @@
 use terms::Terms;
+ghost use mathlib.Core.Bool.{cond};
+ghost use Rattle.table.specs.Spots.{atSpot};
+ghost use Rattle.account.specs.Seen.{seenAccount, putAccount};
 ghost use mathlib.Core.Path.{_≡_};
 ghost use lib.IntN.{_-ℤ_};
 ghost use Rattle.money.specs.Range.{movedOf};
@@ -337,5 +340,49 @@ impl SeenAccount {
             answer: 0,
             row: row,
         }
+    }
+}
+
+impl SeenAccount {
+    // What is read at a spot: the row where it is there, else none.
+    pub fn at(here: bool, row: Account) -> SeenAccount
+        ensures { λ r. ⌜ r ≡ seenAccount (atSpot here row) ⌝ }
+    {
+        if !here {
+            let none = Account::none();
+            return SeenAccount {
+                here: false,
+                row: none,
+            };
+        }
+        SeenAccount {
+            here: true,
+            row: row,
+        }
+    }
+
+    // The row made `row`, where there is one.
+    pub fn put(self, row: Account) -> SeenAccount
+        ensures { λ r. ⌜ r ≡ putAccount self row ⌝ }
+    {
+        if !self.here {
+            return self;
+        }
+        SeenAccount {
+            here: true,
+            row: row,
+        }
+    }
+}
+
+impl Account {
+    // What is written at a spot: the row where it is there, else what was read.
+    pub fn over(self, here: bool, old: Account) -> Account
+        ensures { λ r. ⌜ r ≡ cond here self old ⌝ }
+    {
+        if !here {
+            return old;
+        }
+        self
     }
 }

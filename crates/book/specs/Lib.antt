@@ -1,13 +1,4 @@
-pub mod Model
-pub mod Rules
 pub mod Stored
-pub mod Near
 pub mod Shelving
-pub mod SameId
-pub mod Sites
-pub mod Steps
-pub mod Fitting
-pub mod Touching
-pub mod Turning
-pub mod Chains
 pub mod Tested
+pub mod Turning

@@ -1,6 +1,5 @@
 -- A book whose arrays are tables is its model, stored; and a model whose tables fit is the model of what it is stored as
 use mathlib.Core.Path.{_≡_, sym, ap, _∙_}
-use Rattle.table.specs.Keeping.{Fine}
 use Rattle.settings.specs.declared.Settings.{Settings}
 use Rattle.settings.specs.declared.Totals.{Totals}
 use Rattle.shelves.specs.declared.Accounts.{Accounts}
@@ -12,7 +11,8 @@ use Rattle.shelves.specs.OfferLaws.{deals-keeping}
 use Rattle.shelves.specs.Invoices.{invoicesOf, storedInvoices}
 use Rattle.shelves.specs.Offers.{dealsOf, storedDeals}
 use Rattle.book.specs.declared.Book.{Book}
-use Rattle.book.specs.Model.{Model}
+use Rattle.rules.specs.Model.{Model}
+use Rattle.rules.specs.Fitting.{Fits}
 use Rattle.book.specs.Stored.{modelOf, stored, Shelved}
 
 abbrev bookOf : Accounts → Invoices → Offers → Totals → Settings → Book
@@ -34,12 +34,7 @@ module _ {b : Book} (k : Shelved b) where
   pub back : b ≡ stored (modelOf b)
   back = same-book (b .totals) (b .settings) accounts-back invoices-back offers-back
 
--- ── Tables that fit: at most 64 rows, ids that ascend ─────────────
-pub record Fits (m : Model) : Type 0 where
-  pub accounts : Fine 64 (m .accounts)
-  pub invoices : Fine 64 (m .invoices)
-  pub offers : Fine 64 (m .offers)
-
+-- ── Tables that fit ───────────────────────────────────────────────
 pub fits-of : {b : Book} → Shelved b → Fits (modelOf b)
 fits-of {b} k = record {
   accounts = accounts-keeping .fine (b .accounts) (k .accounts);

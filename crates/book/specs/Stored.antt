@@ -13,8 +13,8 @@ use Rattle.shelves.specs.Offers.{dealsOf, storedDeals, DealShelf, dealsTest}
 use Rattle.command.specs.declared.Command.{Command}
 use Rattle.book.specs.declared.Book.{Book}
 use Rattle.book.specs.declared.Step.{Step}
-use Rattle.book.specs.Model.{Model}
-use Rattle.book.specs.Rules.{commanded}
+use Rattle.rules.specs.Model.{Model}
+use Rattle.rules.specs.Rules.{commanded}
 
 abbrev pub modelOf : Book → Model
 modelOf b = record { accounts = accountsOf (b .accounts); invoices = invoicesOf (b .invoices); offers = dealsOf (b .offers); totals = b .totals; settings = b .settings }

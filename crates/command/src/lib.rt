@@ -1,7 +1,8 @@
 // The 24 commands of document 01's journal, each with its fields in the order of their tags.
+use table::Named;
 use terms::Terms;
 ghost use mathlib.Core.Path.{_≡_};
-ghost use Rattle.command.specs.Caller.{callerOf, stoppedByPause, offerNamed};
+ghost use Rattle.command.specs.Names.{called, uncalled, namesOf, paperKey, otherKey};
 
 pub enum Command {
     OpenAccount {
@@ -140,408 +141,221 @@ pub enum Command {
     },
 }
 
-// Whose account a command needs: its caller's, or nobody's for opening and for admins.
-pub enum Caller {
-    Account(u64),
+// The invoice that a command sees: one that it names, or its offer's.
+pub enum Paper {
+    Nothing,
+    Id(u64),
+    OfOffer,
+}
+
+// The account that a command sees beside the first: one that it names, or a party of its offer.
+pub enum Other {
     Nobody,
+    Account(u64),
+    Lender,
+    Originator,
+}
+
+// What a command names. `called`: the first account is its caller's, and must be there. `pausable`: a paused book stops it. The
+// others are the rows that it sees.
+pub struct Names {
+    pub called: bool,
+    pub pausable: bool,
+    pub first: Named,
+    pub second: Other,
+    pub paper: Paper,
+    pub offer: Named,
+}
+
+fn called(caller: u64, second: Other, paper: Paper, offer: Named) -> Names
+    ensures { λ r. ⌜ r ≡ called caller second paper offer ⌝ }
+{
+    Names {
+        called: true,
+        pausable: true,
+        first: Named::Id(caller),
+        second: second,
+        paper: paper,
+        offer: offer,
+    }
+}
+
+fn uncalled(pausable: bool, first: Named) -> Names
+    ensures { λ r. ⌜ r ≡ uncalled pausable first ⌝ }
+{
+    Names {
+        called: false,
+        pausable: pausable,
+        first: first,
+        second: Other::Nobody,
+        paper: Paper::Nothing,
+        offer: Named::Nothing,
+    }
+}
+
+impl Paper {
+    // The key of the invoice, where the command's offer is on the invoice `invoice`.
+    pub fn key(self, invoice: u64) -> Named
+        ensures { λ r. ⌜ r ≡ paperKey self invoice ⌝ }
+    {
+        match self {
+            Paper::Nothing => Named::Nothing,
+            Paper::Id(i) => Named::Id(i),
+            Paper::OfOffer => Named::Id(invoice),
+        }
+    }
+}
+
+impl Other {
+    // The key of the account, where the command's offer has these parties.
+    pub fn key(self, lender: u64, originator: u64) -> Named
+        ensures { λ r. ⌜ r ≡ otherKey self lender originator ⌝ }
+    {
+        match self {
+            Other::Nobody => Named::Nothing,
+            Other::Account(a) => Named::Id(a),
+            Other::Lender => Named::Id(lender),
+            Other::Originator => Named::Id(originator),
+        }
+    }
 }
 
 impl Command {
-    pub fn caller(self) -> Caller
-        ensures { λ r. ⌜ r ≡ callerOf self ⌝ }
+    // What the command names, whatever the book holds.
+    pub fn names(self) -> Names
+        ensures { λ r. ⌜ r ≡ namesOf self ⌝ }
     {
         match self {
-            Command::OpenAccount { now: _, caller: _ } => Caller::Nobody,
+            Command::OpenAccount { now: _, caller } => uncalled(true, Named::Id(caller)),
             Command::Deposit {
                 now: _,
-                caller: caller,
+                caller,
                 amount: _,
-            } => Caller::Account(caller),
+            } => called(caller, Other::Nobody, Paper::Nothing, Named::Nothing),
             Command::Payout {
                 now: _,
-                caller: caller,
+                caller,
                 amount: _,
-            } => Caller::Account(caller),
+            } => called(caller, Other::Nobody, Paper::Nothing, Named::Nothing),
             Command::Approve {
                 now: _,
-                caller: caller,
+                caller,
                 amount: _,
-            } => Caller::Account(caller),
+            } => called(caller, Other::Nobody, Paper::Nothing, Named::Nothing),
             Command::RegisterInvoice {
                 now: _,
-                caller: caller,
-                id: _,
+                caller,
+                id,
                 amount: _,
-            } => Caller::Account(caller),
-            Command::CancelInvoice {
-                now: _,
-                caller: caller,
-                id: _,
-            } => Caller::Account(caller),
+            } => called(caller, Other::Nobody, Paper::Id(id), Named::Nothing),
+            Command::CancelInvoice { now: _, caller, id } => called(
+                caller,
+                Other::Nobody,
+                Paper::Id(id),
+                Named::Nothing,
+            ),
             Command::CreateOffer {
                 now: _,
-                caller: caller,
-                id: _,
-                invoice: _,
+                caller,
+                id,
+                invoice,
                 terms: _,
                 expires: _,
-            } => Caller::Account(caller),
-            Command::WithdrawOffer {
-                now: _,
-                caller: caller,
-                id: _,
-            } => Caller::Account(caller),
-            Command::AcceptOffer {
-                now: _,
-                caller: caller,
-                id: _,
-            } => Caller::Account(caller),
-            Command::RejectOffer {
-                now: _,
-                caller: caller,
-                id: _,
-            } => Caller::Account(caller),
+            } => called(caller, Other::Nobody, Paper::Id(invoice), Named::Id(id)),
+            Command::WithdrawOffer { now: _, caller, id } => called(
+                caller,
+                Other::Nobody,
+                Paper::OfOffer,
+                Named::Id(id),
+            ),
+            Command::AcceptOffer { now: _, caller, id } => called(
+                caller,
+                Other::Lender,
+                Paper::OfOffer,
+                Named::Id(id),
+            ),
+            Command::RejectOffer { now: _, caller, id } => called(
+                caller,
+                Other::Nobody,
+                Paper::OfOffer,
+                Named::Id(id),
+            ),
             Command::AmendOffer {
                 now: _,
-                caller: caller,
-                id: _,
+                caller,
+                id,
                 terms: _,
                 round: _,
-            } => Caller::Account(caller),
+            } => called(caller, Other::Originator, Paper::OfOffer, Named::Id(id)),
             Command::CounterOffer {
                 now: _,
-                caller: caller,
-                id: _,
+                caller,
+                id,
                 terms: _,
                 round: _,
-            } => Caller::Account(caller),
-            Command::CloseNegotiation {
-                now: _,
-                caller: caller,
-                id: _,
-            } => Caller::Account(caller),
+            } => called(caller, Other::Lender, Paper::OfOffer, Named::Id(id)),
+            Command::CloseNegotiation { now: _, caller, id } => called(
+                caller,
+                Other::Nobody,
+                Paper::OfOffer,
+                Named::Id(id),
+            ),
             Command::ScheduleRepayment {
                 now: _,
-                caller: caller,
-                id: _,
+                caller,
+                id,
                 count: _,
                 code: _,
                 first: _,
-            } => Caller::Account(caller),
+            } => called(caller, Other::Nobody, Paper::OfOffer, Named::Id(id)),
             Command::UpdateStatus {
                 now: _,
-                caller: caller,
-                id: _,
+                caller,
+                id,
                 code: _,
-            } => Caller::Account(caller),
+            } => called(caller, Other::Nobody, Paper::OfOffer, Named::Id(id)),
             Command::UpdateRepaid {
                 now: _,
-                caller: caller,
-                id: _,
+                caller,
+                id,
                 amount: _,
-            } => Caller::Account(caller),
+            } => called(caller, Other::Nobody, Paper::OfOffer, Named::Id(id)),
             Command::UpdateLenderRepaid {
                 now: _,
-                caller: caller,
-                id: _,
+                caller,
+                id,
                 code: _,
-            } => Caller::Account(caller),
+            } => called(caller, Other::Account(id), Paper::Nothing, Named::Nothing),
             Command::UpdateTotalsRepaid {
                 now: _,
-                caller: caller,
+                caller,
                 amount: _,
                 fee: _,
-            } => Caller::Account(caller),
-            Command::Pause { now: _, seats: _ } => Caller::Nobody,
-            Command::Unpause { now: _, seats: _ } => Caller::Nobody,
+            } => called(caller, Other::Nobody, Paper::Nothing, Named::Nothing),
+            Command::Pause { now: _, seats: _ } => uncalled(false, Named::Nothing),
+            Command::Unpause { now: _, seats: _ } => uncalled(false, Named::Nothing),
             Command::SetWindow {
                 now: _,
                 seats: _,
                 window: _,
-            } => Caller::Nobody,
+            } => uncalled(true, Named::Nothing),
             Command::SetRepaymentAccount {
                 now: _,
-                id: _,
+                id,
                 seats: _,
-            } => Caller::Nobody,
+            } => uncalled(true, Named::Id(id)),
             Command::SetBlacklisted {
                 now: _,
-                id: _,
+                id,
                 code: _,
                 seats: _,
-            } => Caller::Nobody,
+            } => uncalled(true, Named::Id(id)),
             Command::SetSeats {
                 now: _,
                 seats: _,
                 threshold: _,
                 next: _,
-            } => Caller::Nobody,
-        }
-    }
-
-    // A paused book takes no command but pause and unpause.
-    pub fn stopped_by_pause(self) -> bool
-        ensures { λ r. ⌜ r ≡ stoppedByPause self ⌝ }
-    {
-        match self {
-            Command::OpenAccount { now: _, caller: _ } => true,
-            Command::Deposit {
-                now: _,
-                caller: _,
-                amount: _,
-            } => true,
-            Command::Payout {
-                now: _,
-                caller: _,
-                amount: _,
-            } => true,
-            Command::Approve {
-                now: _,
-                caller: _,
-                amount: _,
-            } => true,
-            Command::RegisterInvoice {
-                now: _,
-                caller: _,
-                id: _,
-                amount: _,
-            } => true,
-            Command::CancelInvoice {
-                now: _,
-                caller: _,
-                id: _,
-            } => true,
-            Command::CreateOffer {
-                now: _,
-                caller: _,
-                id: _,
-                invoice: _,
-                terms: _,
-                expires: _,
-            } => true,
-            Command::WithdrawOffer {
-                now: _,
-                caller: _,
-                id: _,
-            } => true,
-            Command::AcceptOffer {
-                now: _,
-                caller: _,
-                id: _,
-            } => true,
-            Command::RejectOffer {
-                now: _,
-                caller: _,
-                id: _,
-            } => true,
-            Command::AmendOffer {
-                now: _,
-                caller: _,
-                id: _,
-                terms: _,
-                round: _,
-            } => true,
-            Command::CounterOffer {
-                now: _,
-                caller: _,
-                id: _,
-                terms: _,
-                round: _,
-            } => true,
-            Command::CloseNegotiation {
-                now: _,
-                caller: _,
-                id: _,
-            } => true,
-            Command::ScheduleRepayment {
-                now: _,
-                caller: _,
-                id: _,
-                count: _,
-                code: _,
-                first: _,
-            } => true,
-            Command::UpdateStatus {
-                now: _,
-                caller: _,
-                id: _,
-                code: _,
-            } => true,
-            Command::UpdateRepaid {
-                now: _,
-                caller: _,
-                id: _,
-                amount: _,
-            } => true,
-            Command::UpdateLenderRepaid {
-                now: _,
-                caller: _,
-                id: _,
-                code: _,
-            } => true,
-            Command::UpdateTotalsRepaid {
-                now: _,
-                caller: _,
-                amount: _,
-                fee: _,
-            } => true,
-            Command::Pause { now: _, seats: _ } => false,
-            Command::Unpause { now: _, seats: _ } => false,
-            Command::SetWindow {
-                now: _,
-                seats: _,
-                window: _,
-            } => true,
-            Command::SetRepaymentAccount {
-                now: _,
-                id: _,
-                seats: _,
-            } => true,
-            Command::SetBlacklisted {
-                now: _,
-                id: _,
-                code: _,
-                seats: _,
-            } => true,
-            Command::SetSeats {
-                now: _,
-                seats: _,
-                threshold: _,
-                next: _,
-            } => true,
-        }
-    }
-
-    // The offer that a command names, 0 where it names none: such a command changes no offer.
-    pub fn offer(self) -> u64
-        ensures { λ r. ⌜ r ≡ offerNamed self ⌝ }
-    {
-        match self {
-            Command::OpenAccount { now: _, caller: _ } => 0,
-            Command::Deposit {
-                now: _,
-                caller: _,
-                amount: _,
-            } => 0,
-            Command::Payout {
-                now: _,
-                caller: _,
-                amount: _,
-            } => 0,
-            Command::Approve {
-                now: _,
-                caller: _,
-                amount: _,
-            } => 0,
-            Command::RegisterInvoice {
-                now: _,
-                caller: _,
-                id: _,
-                amount: _,
-            } => 0,
-            Command::CancelInvoice {
-                now: _,
-                caller: _,
-                id: _,
-            } => 0,
-            Command::CreateOffer {
-                now: _,
-                caller: _,
-                id,
-                invoice: _,
-                terms: _,
-                expires: _,
-            } => id,
-            Command::WithdrawOffer {
-                now: _,
-                caller: _,
-                id,
-            } => id,
-            Command::AcceptOffer {
-                now: _,
-                caller: _,
-                id,
-            } => id,
-            Command::RejectOffer {
-                now: _,
-                caller: _,
-                id,
-            } => id,
-            Command::AmendOffer {
-                now: _,
-                caller: _,
-                id,
-                terms: _,
-                round: _,
-            } => id,
-            Command::CounterOffer {
-                now: _,
-                caller: _,
-                id,
-                terms: _,
-                round: _,
-            } => id,
-            Command::CloseNegotiation {
-                now: _,
-                caller: _,
-                id,
-            } => id,
-            Command::ScheduleRepayment {
-                now: _,
-                caller: _,
-                id,
-                count: _,
-                code: _,
-                first: _,
-            } => id,
-            Command::UpdateStatus {
-                now: _,
-                caller: _,
-                id,
-                code: _,
-            } => id,
-            Command::UpdateRepaid {
-                now: _,
-                caller: _,
-                id,
-                amount: _,
-            } => id,
-            Command::UpdateLenderRepaid {
-                now: _,
-                caller: _,
-                id: _,
-                code: _,
-            } => 0,
-            Command::UpdateTotalsRepaid {
-                now: _,
-                caller: _,
-                amount: _,
-                fee: _,
-            } => 0,
-            Command::Pause { now: _, seats: _ } => 0,
-            Command::Unpause { now: _, seats: _ } => 0,
-            Command::SetWindow {
-                now: _,
-                seats: _,
-                window: _,
-            } => 0,
-            Command::SetRepaymentAccount {
-                now: _,
-                id: _,
-                seats: _,
-            } => 0,
-            Command::SetBlacklisted {
-                now: _,
-                id: _,
-                code: _,
-                seats: _,
-            } => 0,
-            Command::SetSeats {
-                now: _,
-                seats: _,
-                threshold: _,
-                next: _,
-            } => 0,
+            } => uncalled(true, Named::Nothing),
         }
     }
 }

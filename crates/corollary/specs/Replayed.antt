@@ -12,7 +12,7 @@ use Rattle.command.specs.declared.Command.{Command}
 use Rattle.journal.specs.Answers.{Reading, found, refused, ended}
 use Rattle.journal.specs.Format.{headerOf, openingOf, readAt, bytesFor}
 use Rattle.journal.specs.RoundTrip.{header-back}
-use Rattle.book.specs.Model.{Model, freshModel}
+use Rattle.rules.specs.Model.{Model, freshModel}
 use Rattle.book.specs.Stored.{modelOf, stored, bookTest}
 use Rattle.soundness.specs.Sound.{fresh-model}
 use Rattle.soundness.specs.Played.{played}

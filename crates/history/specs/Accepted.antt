@@ -11,14 +11,13 @@ use Rattle.table.specs.Sums.{count}
 use Rattle.terms.specs.Terms.{sameTerms}
 use Rattle.terms.specs.declared.Terms.{Terms}
 use Rattle.offer.specs.Rules.{counterChecks}
-use Rattle.command.specs.Caller.{callerOf}
-use Rattle.command.specs.declared.Command.{Command}
-use Rattle.command.specs.declared.Command.the-variants.{OpenAccount, Deposit, Payout, Approve, RegisterInvoice, CancelInvoice, CreateOffer, WithdrawOffer, AcceptOffer, RejectOffer, AmendOffer, CounterOffer, CloseNegotiation, ScheduleRepayment, UpdateStatus, UpdateRepaid, UpdateLenderRepaid, UpdateTotalsRepaid, Pause, Unpause, SetWindow, SetRepaymentAccount, SetBlacklisted, SetSeats}
-use Rattle.book.specs.Model.{Model, accountIn, offerIn, paperOf}
-use Rattle.book.specs.Rules.{termsIn, unknown, rule, commanded, settling, concluding, agreeing, counteredIn}
-use Rattle.book.specs.Rules as Rules
-use Rattle.history.specs.History.{counters, entryOf, lenderOf, settles, Said, deedsOn}
-use Rattle.book.specs.Fitting.{unseen-account}
+use Rattle.command.specs.Names.{namesFor}
+use Rattle.command.specs.Shape as Shape
+use Rattle.rules.specs.Model.{Model, accountIn, offerIn, paperOf}
+use Rattle.rules.specs.Rules.{termsIn, settling, concluding, agreeing, counteredIn, ruled, shaped}
+use Rattle.rules.specs.Rules as Rules
+use Rattle.history.specs.History.{counters, accountEntry, entryFor, lenderOf, settles, Said, deedsOn}
+use Rattle.rules.specs.Rooms.{unseen-account}
 use Rattle.history.specs.Passed.{Passes, passes-right, offer-there}
 use Rattle.history.specs.Ledger.{Ledger, Bargain, noted, acceptedOf}
 use Rattle.history.specs.Agrees.{Agrees}
@@ -42,9 +41,9 @@ module _ {l : Ledger} {r : Said} {m : Model} (A : Agrees l m) (R : Reads l r) (L
   listed-once a e h = ap (λ z. count z (r .accounts)) (sym e) ∙ there (accountIn m a .here) (L .accounts a) h
 
   -- a counter that settles finds its lender's account
-  counter-lender : (now a o : ℕ) (t : Terms) (n : ℕ) → Passes (commanded m (CounterOffer now a o t n) .checks) → sameTerms (termsIn m o) t ≡ true
+  counter-lender : (now a o : ℕ) (t : Terms) (n : ℕ) → Passes (shaped m (Shape.counters now a o t n) .checks) → sameTerms (termsIn m o) t ≡ true
       → not (accountIn m (Rules.lenderOf (counteredIn m now o t) o) .here) ≡ false
-  unfolding rule agreeing concluding pick
+  unfolding ruled agreeing concluding pick
   counter-lender now a o t n p g =
       let k : Model = counteredIn m now o t in
       let q : Passes (agreeing (sameTerms (termsIn m o) t) now o k .checks) =
@@ -52,35 +51,30 @@ module _ {l : Ledger} {r : Said} {m : Model} (A : Agrees l m) (R : Reads l r) (L
       let s : Passes (concluding now o k .checks) = subst (λ (b : Bool). Passes (agreeing b now o k .checks)) g q in
       (search)
 
-  pub fair : (c : Command) → Passes (commanded m c .checks) → Fair r (entryOf c)
-  unfolding rule entryOf unknown callerOf settles settling lenderOf
-  fair (OpenAccount now a) p = sym (R .accepteds a) ∙ sym (A .purses .accepteds a) ∙ ap acceptedOf (unseen-account (find (m .accounts) a) (search))
-  fair (Deposit now a x) p = tt
-  fair (Payout now a x) p = tt
-  fair (Approve now a x) p = tt
-  fair (RegisterInvoice now a i x) p = tt
-  fair (CancelInvoice now a i) p = tt
-  fair (CreateOffer now a o i t e) p = record { known = new (offerIn m o .here) (L .offers o) (search); banked = λ z. absurd (never z) }
-  fair (WithdrawOffer now a o) p = tt
-  fair (AcceptOffer now a o) p = record { known = tt; banked = λ z. listed-once (Rules.lenderOf m o) (lender-is o) (search) }
-  fair (RejectOffer now a o) p = tt
-  fair (AmendOffer now a o t n) p = record { known = there (offerIn m o .here) (L .offers o) (search); banked = λ z. listed-once a (sym (eqb-true (Rules.lenderOf m o) a (not-false (eqb (Rules.lenderOf m o) a) (search))) ∙ lender-is o) (search) }
-  fair (CounterOffer now a o t n) p =
+  fair-account : (a : ℕ) (u : Shape.OnAccount) → Fair r (accountEntry a u)
+  unfolding accountEntry
+  fair-account a (Shape.deposits x) = tt
+  fair-account a (Shape.pays x) = tt
+  fair-account a (Shape.approves x) = tt
+  fair-account a (Shape.lenderRepaid b f) = tt
+  fair-account a (Shape.blacklists p c) = tt
+
+  pub fair : (c : Shape.Shape) → Passes (shaped m c .checks) → Fair r (entryFor c)
+  unfolding ruled entryFor namesFor settles settling lenderOf
+  fair (Shape.opens a) p = sym (R .accepteds a) ∙ sym (A .purses .accepteds a) ∙ ap acceptedOf (unseen-account (find (m .accounts) a) (search))
+  fair (Shape.account a u) p = fair-account a u
+  fair (Shape.registers a i x) p = tt
+  fair (Shape.cancels a i) p = tt
+  fair (Shape.creates a o i t e) p = record { known = new (offerIn m o .here) (L .offers o) (search); banked = λ z. absurd (never z) }
+  fair (Shape.offer o u) p = tt
+  fair (Shape.accepts now a o) p = record { known = tt; banked = λ z. listed-once (Rules.lenderOf m o) (lender-is o) (search) }
+  fair (Shape.amends now a o t n) p = record { known = there (offerIn m o .here) (L .offers o) (search); banked = λ z. listed-once a (sym (eqb-true (Rules.lenderOf m o) a (not-false (eqb (Rules.lenderOf m o) a) (search))) ∙ lender-is o) (search) }
+  fair (Shape.counters now a o t n) p =
       let B : Agrees (noted o (counters t) l) (counteredIn m now o t) = noted-counter A now o t (offer-there (find (m .offers) o) (search)) (search) in
       record {
         known = tt;
         banked = λ z. listed-once (Rules.lenderOf (counteredIn m now o t) o) (ap (λ (k : Bargain). k .lender) (B .bargains .shown o ∙ at-offer R o (counters t)))
             (counter-lender now a o t n p (ap (λ (k : Bargain). sameTerms (k .terms) t) (A .bargains .shown o ∙ R .bargains o) ∙ z));
       }
-  fair (CloseNegotiation now a o) p = tt
-  fair (ScheduleRepayment now a o k c d) p = tt
-  fair (UpdateStatus now a o c) p = tt
-  fair (UpdateRepaid now a o x) p = tt
-  fair (UpdateLenderRepaid now a k c) p = tt
-  fair (UpdateTotalsRepaid now a x f) p = tt
-  fair (Pause now q) p = tt
-  fair (Unpause now q) p = tt
-  fair (SetWindow now q w) p = tt
-  fair (SetRepaymentAccount now i q) p = tt
-  fair (SetBlacklisted now i c q) p = tt
-  fair (SetSeats now q h n) p = tt
+  fair (Shape.totals a x f) p = tt
+  fair (Shape.settings u) p = tt

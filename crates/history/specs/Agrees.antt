@@ -8,8 +8,8 @@ use Rattle.negotiation.specs.Whole.{Whole}
 use Rattle.account.specs.declared.Account.{Account}
 use Rattle.invoice.specs.declared.Invoice.{Invoice}
 use Rattle.offer.specs.declared.Deal.{Deal}
-use Rattle.shelves.specs.Offers.{seenDeal}
-use Rattle.book.specs.Model.{Model}
+use Rattle.offer.specs.Seen.{seenDeal}
+use Rattle.rules.specs.Model.{Model}
 use Rattle.history.specs.Figures.{tally}
 use Rattle.history.specs.Ledger.{Bargain, Papers, Purses, Ledger, balanceOf, offeredOf, acceptedOf, originatorOf, shut, bargainOf, start}
 

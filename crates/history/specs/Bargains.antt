@@ -14,7 +14,7 @@ use Rattle.negotiation.specs.Laws.{added-whole, accepted-whole}
 use Rattle.negotiation.specs.Latest.{none-asked, accepted-asked, amend-asked, counter-asked}
 use Rattle.offer.specs.declared.Deal.{Deal}
 use Rattle.offer.specs.Offer.{newDeal, settledDeal, amendedDeal, counteredDeal}
-use Rattle.shelves.specs.Offers.{seenDeal}
+use Rattle.offer.specs.Seen.{seenDeal}
 use Rattle.history.specs.History.{Deed, creates, amends, counters, accepts}
 use Rattle.history.specs.Figures.{put, at-put, at-insert, at-kept}
 use Rattle.history.specs.Ledger.{Bargain, said, saidOn, bargainOf}

@@ -13,8 +13,9 @@ use Rattle.terms.specs.declared.Terms.{Terms}
 use Rattle.negotiation.specs.Latest.{matches-is}
 use Rattle.command.specs.declared.Command.{Command}
 use Rattle.command.specs.declared.Command.the-variants.{AmendOffer, CounterOffer}
-use Rattle.book.specs.Model.{Model, freshModel, offerIn, paperOf}
-use Rattle.book.specs.Rules.{rule, commanded}
+use Rattle.rules.specs.Model.{Model, freshModel, offerIn, paperOf}
+use Rattle.command.specs.Shape.{shapeOf}
+use Rattle.rules.specs.Rules.{ruled, commanded}
 use Rattle.history.specs.History.{Deed, creates, amends, counters, accepts, Entry, opens, deposits, pays, registers, deals, nothing, entryOf, termsOf, counterOf, lenderOf, invoiceOf, settles, Settlement, Said, grow, deedsOn, settlementOf, settledBy, add, read}
 use Rattle.history.specs.Passed.{Passes, all-pass}
 use Rattle.history.specs.Ledger.{Bargain, Ledger, noted, post, ledger, bargainOf, shut}
@@ -67,13 +68,13 @@ module _ (cs : List Command) (now a o : ℕ) (t : Terms) (n : ℕ) where
   told-so-far = read (from freshModel cs .history)
 
   pub amended-by-lender : answerOf after (AmendOffer now a o t n) ≡ 0 → lenderOf (deedsOn o (told-so-far .deeds)) ≡ a
-  unfolding rule
+  unfolding shapeOf ruled
   amended-by-lender e =
       let p : Passes (commanded after (AmendOffer now a o t n) .checks) = all-pass (commanded after (AmendOffer now a o t n) .checks) e in
       sym (ap (λ (z : Bargain). z .lender) (book-knows cs o)) ∙ eqb-true (offerIn after o .row .offer .lender) a (not-false (eqb (offerIn after o .row .offer .lender) a) (search))
 
   pub countered-by-originator : answerOf after (CounterOffer now a o t n) ≡ 0 → row 0 (find (told-so-far .originators) (invoiceOf (deedsOn o (told-so-far .deeds)))) ≡ a
-  unfolding rule
+  unfolding shapeOf ruled
   countered-by-originator e =
       let H = holds cs in
       let p : Passes (commanded after (CounterOffer now a o t n) .checks) = all-pass (commanded after (CounterOffer now a o t n) .checks) e in

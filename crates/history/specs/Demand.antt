@@ -10,8 +10,9 @@ use Rattle.negotiation.specs.Rounds.{roundLimit}
 use Rattle.negotiation.specs.Laws.{none-whole}
 use Rattle.negotiation.specs.Latest.{none-asked}
 use Rattle.command.specs.declared.Command.{Command}
-use Rattle.book.specs.Model.{Model, freshModel, accountIn}
-use Rattle.book.specs.Rules.{commanded}
+use Rattle.rules.specs.Model.{Model, freshModel, accountIn}
+use Rattle.rules.specs.Rules.{commanded}
+use Rattle.command.specs.Shape.{shapeOf}
 use Rattle.history.specs.History.{entryOf, termsOf, counterOf, lenderOf, invoiceOf, deedsOn, read, sum, offered, accepted, received, amountsOf, amounts, balance, financed, together}
 use Rattle.history.specs.Passed.{Passes}
 use Rattle.history.specs.Ledger.{Ledger, start, ledger}
@@ -26,7 +27,7 @@ use Rattle.history.specs.Run.{from, kept-run}
 -- from any book whose negotiations are whole
 pub any-start : (m : Model) → Rounds (m .offers) → (cs : List Command) → Agrees (ledger (start m) (from m cs .history)) (from m cs .model)
 unfolding ledger
-any-start m w cs = kept-run (λ h n. Agrees (ledger (start m) h) n) (λ h n c A p. keeps A c p) (record { history = []; model = m }) (begins m w) cs
+any-start m w cs = kept-run (λ h n. Agrees (ledger (start m) h) n) (λ h n c A p. keeps A (shapeOf c) p) (record { history = []; model = m }) (begins m w) cs
 
 -- ── The book, the ledger and the history together ─────────────────
 abbrev pub fresh : Ledger
@@ -41,10 +42,10 @@ pub record Holds (h : List Command) (m : Model) : Type 0 where
 holds-next : (h : List Command) (m : Model) (c : Command) → Holds h m → Passes (commanded m c .checks) → Holds (c ∷ h) (commanded m c .done)
 unfolding ledger read
 holds-next h m c H p = record {
-  agrees = keeps (H .agrees) c p;
+  agrees = keeps (H .agrees) (shapeOf c) p;
   reads = reads-post (H .reads) (entryOf c);
-  sums = sums-post (H .reads) (H .sums) (entryOf c) (fair (H .agrees) (H .reads) (H .lists) c p);
-  lists = listed (H .lists) c p;
+  sums = sums-post (H .reads) (H .sums) (entryOf c) (fair (H .agrees) (H .reads) (H .lists) (shapeOf c) p);
+  lists = listed (H .lists) (shapeOf c) p;
 }
 
 pub reads-first : Reads (ledger fresh []) (read [])

@@ -10,7 +10,7 @@ use Rattle.terms.specs.Terms.{sameTerms}
 use Rattle.terms.specs.declared.Terms.{Terms}
 use Rattle.negotiation.specs.Rounds.{matches}
 use Rattle.command.specs.declared.Command.{Command}
-use Rattle.command.specs.declared.Command.the-variants.{OpenAccount, Deposit, Payout, Approve, RegisterInvoice, CancelInvoice, CreateOffer, WithdrawOffer, AcceptOffer, RejectOffer, AmendOffer, CounterOffer, CloseNegotiation, ScheduleRepayment, UpdateStatus, UpdateRepaid, UpdateLenderRepaid, UpdateTotalsRepaid, Pause, Unpause, SetWindow, SetRepaymentAccount, SetBlacklisted, SetSeats}
+use Rattle.command.specs.Shape as Shape
 
 -- ── What the sums read of a command ───────────────────────────────
 -- on one offer
@@ -26,31 +26,28 @@ pub data Entry : Type 0 where
   deals : (offer : ℕ) → Deed → Entry
   nothing : Entry
 
-unfoldable pub entryOf : Command → Entry
-entryOf (OpenAccount now a) = opens a
-entryOf (Deposit now a x) = deposits a x
-entryOf (Payout now a x) = pays a x
-entryOf (Approve now a x) = nothing
-entryOf (RegisterInvoice now a i x) = registers a i
-entryOf (CancelInvoice now a i) = nothing
-entryOf (CreateOffer now a o i t e) = deals o (creates a i t)
-entryOf (WithdrawOffer now a o) = nothing
-entryOf (AcceptOffer now a o) = deals o accepts
-entryOf (RejectOffer now a o) = nothing
-entryOf (AmendOffer now a o t n) = deals o (amends t)
-entryOf (CounterOffer now a o t n) = deals o (counters t)
-entryOf (CloseNegotiation now a o) = nothing
-entryOf (ScheduleRepayment now a o k c d) = nothing
-entryOf (UpdateStatus now a o c) = nothing
-entryOf (UpdateRepaid now a o x) = nothing
-entryOf (UpdateLenderRepaid now a l c) = nothing
-entryOf (UpdateTotalsRepaid now a x f) = nothing
-entryOf (Pause now p) = nothing
-entryOf (Unpause now p) = nothing
-entryOf (SetWindow now p w) = nothing
-entryOf (SetRepaymentAccount now i p) = nothing
-entryOf (SetBlacklisted now i c p) = nothing
-entryOf (SetSeats now p h q) = nothing
+unfoldable pub accountEntry : ℕ → Shape.OnAccount → Entry
+accountEntry a (Shape.deposits x) = deposits a x
+accountEntry a (Shape.pays x) = pays a x
+accountEntry a (Shape.approves x) = nothing
+accountEntry a (Shape.lenderRepaid b f) = nothing
+accountEntry a (Shape.blacklists p c) = nothing
+
+unfoldable pub entryFor : Shape.Shape → Entry
+entryFor (Shape.opens a) = opens a
+entryFor (Shape.account a u) = accountEntry a u
+entryFor (Shape.registers a i x) = registers a i
+entryFor (Shape.cancels a i) = nothing
+entryFor (Shape.creates a o i t e) = deals o (creates a i t)
+entryFor (Shape.offer o u) = nothing
+entryFor (Shape.accepts now a o) = deals o accepts
+entryFor (Shape.amends now a o t n) = deals o (amends t)
+entryFor (Shape.counters now a o t n) = deals o (counters t)
+entryFor (Shape.totals a x f) = nothing
+entryFor (Shape.settings u) = nothing
+
+abbrev pub entryOf : Command → Entry
+entryOf c = entryFor (Shape.shapeOf c)
 
 -- ── An offer's terms are those of its last create or amend ────────
 -- of what was done on the offer, the latest first

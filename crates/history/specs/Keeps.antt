@@ -18,14 +18,13 @@ use Rattle.account.specs.Rules.{reofferOf}
 use Rattle.offer.specs.declared.Deal.{Deal}
 use Rattle.offer.specs.Rules.{acceptChecks, amendChecks, counterChecks}
 use Rattle.invoice.specs.Invoice.{invoiceOf}
-use Rattle.command.specs.Caller.{callerOf}
-use Rattle.command.specs.declared.Command.{Command}
-use Rattle.command.specs.declared.Command.the-variants.{OpenAccount, Deposit, Payout, Approve, RegisterInvoice, CancelInvoice, CreateOffer, WithdrawOffer, AcceptOffer, RejectOffer, AmendOffer, CounterOffer, CloseNegotiation, ScheduleRepayment, UpdateStatus, UpdateRepaid, UpdateLenderRepaid, UpdateTotalsRepaid, Pause, Unpause, SetWindow, SetRepaymentAccount, SetBlacklisted, SetSeats}
-use Rattle.book.specs.Model.{Model, accountIn, offerIn, paperOf, withAccounts, withOffers}
-use Rattle.book.specs.Rules.{lenderOf, termsIn, unknown, rule, commanded, settling, agreeing, amendedIn, counteredIn}
-use Rattle.history.specs.History.{amends, counters, deals, entryOf, settles}
+use Rattle.command.specs.Names.{accountNames, namesFor}
+use Rattle.command.specs.Shape as Shape
+use Rattle.rules.specs.Model.{Model, accountIn, offerIn, paperOf, withAccounts, withOffers}
+use Rattle.rules.specs.Rules.{lenderOf, termsIn, settling, agreeing, amendedIn, counteredIn, accountRule, offerRule, ruled, shaped}
+use Rattle.history.specs.History.{amends, counters, deals, accountEntry, entryFor, settles}
 use Rattle.history.specs.Figures.{put}
-use Rattle.book.specs.Fitting.{unseen-account, unseen-invoice, unseen-deal}
+use Rattle.rules.specs.Rooms.{unseen-account, unseen-invoice, unseen-deal}
 use Rattle.history.specs.Passed.{Passes, passes-right, account-there, offer-there}
 use Rattle.history.specs.Ledger.{Ledger, Bargain, raised, noted, sold, post, bargainOf}
 use Rattle.history.specs.Agrees.{Agrees}
@@ -46,8 +45,8 @@ module _ {l : Ledger} {m : Model} (A : Agrees l m) where
   elsewhere : {n : Model} → n .offers ≡ m .offers → n .invoices ≡ m .invoices → n .accounts ≡ m .accounts → n .totals .financed ≡ m .totals .financed → Agrees l n
   elsewhere {n} p q r s = record { bargains = rw p (A .bargains); papers = rw q (A .papers); purses = rw r (A .purses); financed = rw s (A .financed) }
 
-  keeps-amend : (now a o : ℕ) (t : Terms) (n : ℕ) → Passes (commanded m (AmendOffer now a o t n) .checks) → Agrees (post (deals o (amends t)) l) (commanded m (AmendOffer now a o t n) .done)
-  unfolding rule post unknown callerOf settles agreesOf
+  keeps-amend : (now a o : ℕ) (t : Terms) (n : ℕ) → Passes (shaped m (Shape.amends now a o t n) .checks) → Agrees (post (deals o (amends t)) l) (shaped m (Shape.amends now a o t n) .done)
+  unfolding ruled post namesFor settles agreesOf
   keeps-amend now a o t n p =
       let g : Bool = agreesOf roundLimit (offerIn m o .row .negotiation) t in
       let e : lenderOf m o ≡ a = eqb-true (lenderOf m o) a (not-false (eqb (lenderOf m o) a) (search)) in
@@ -58,8 +57,8 @@ module _ {l : Ledger} {m : Model} (A : Agrees l m) where
       subst (λ (k : Bargain). Agrees (pick (matches t (k .counter)) (sold o (noted o (amends t) l)) (noted o (amends t) l)) (agreeing g now o (amendedIn m now a o t) .done)) (A .bargains .shown o)
       (agreed B now o g q)
 
-  keeps-counter : (now a o : ℕ) (t : Terms) (n : ℕ) → Passes (commanded m (CounterOffer now a o t n) .checks) → Agrees (post (deals o (counters t)) l) (commanded m (CounterOffer now a o t n) .done)
-  unfolding rule post unknown callerOf settles
+  keeps-counter : (now a o : ℕ) (t : Terms) (n : ℕ) → Passes (shaped m (Shape.counters now a o t n) .checks) → Agrees (post (deals o (counters t)) l) (shaped m (Shape.counters now a o t n) .done)
+  unfolding ruled post namesFor settles
   keeps-counter now a o t n p =
       let g : Bool = sameTerms (termsIn m o) t in
       let B : Agrees (noted o (counters t) l) (counteredIn m now o t) = noted-counter A now o t (offer-there (find (m .offers) o) (search)) (search) in
@@ -68,41 +67,45 @@ module _ {l : Ledger} {m : Model} (A : Agrees l m) where
       subst (λ (k : Bargain). Agrees (pick (sameTerms (k .terms) t) (sold o (noted o (counters t) l)) (noted o (counters t) l)) (agreeing g now o (counteredIn m now o t) .done)) (A .bargains .shown o)
       (agreed B now o g q)
 
-  pub keeps : (c : Command) → Passes (commanded m c .checks) → Agrees (post (entryOf c) l) (commanded m c .done)
-  unfolding rule entryOf post unknown callerOf settles pick raised
-  keeps (OpenAccount now a) p = record { bargains = A .bargains; papers = A .papers; purses = Purses.opened (A .purses) a (unseen-account (find (m .accounts) a) (search)); financed = A .financed }
-  keeps (Deposit now a x) p = record { bargains = A .bargains; papers = A .papers; purses = Purses.moved (A .purses) a x (account-there (find (m .accounts) a) (search)); financed = A .financed }
-  keeps (Payout now a x) p = record { bargains = A .bargains; papers = A .papers; purses = Purses.moved (A .purses) a (negℤ x) (account-there (find (m .accounts) a) (search)); financed = A .financed }
-  keeps (Approve now a x) p = on-account a _ (record { balance = refl; offered = refl; accepted = refl })
-  keeps (RegisterInvoice now a i x) p = record {
+  keeps-account : (a : ℕ) (u : Shape.OnAccount) → Passes (shaped m (Shape.account a u) .checks) → Agrees (post (accountEntry a u) l) (ruled m (Shape.account a u) .done)
+  unfolding ruled accountRule accountEntry post namesFor accountNames raised
+  keeps-account a (Shape.deposits x) p = record { bargains = A .bargains; papers = A .papers; purses = Purses.moved (A .purses) a x (account-there (find (m .accounts) a) (search)); financed = A .financed }
+  keeps-account a (Shape.pays x) p = record { bargains = A .bargains; papers = A .papers; purses = Purses.moved (A .purses) a (negℤ x) (account-there (find (m .accounts) a) (search)); financed = A .financed }
+  keeps-account a (Shape.approves x) p = on-account a _ (record { balance = refl; offered = refl; accepted = refl })
+  keeps-account a (Shape.lenderRepaid b f) p = on-account a _ (record { balance = refl; offered = refl; accepted = refl })
+  keeps-account a (Shape.blacklists q c) p = on-account a _ (record { balance = refl; offered = refl; accepted = refl })
+
+  keeps-offer : (o : ℕ) (u : Shape.OnOffer) → Agrees l (ruled m (Shape.offer o u) .done)
+  unfolding ruled offerRule
+  keeps-offer o (Shape.withdraws a) = on-offer o _ refl (A .bargains .rounds o)
+  keeps-offer o (Shape.rejects a) = on-offer o _ refl (A .bargains .rounds o)
+  keeps-offer o (Shape.closes now a) = on-offer o _ refl (record { long = A .bargains .rounds o .long })
+  keeps-offer o (Shape.schedules now a k c d) = on-offer o _ refl (A .bargains .rounds o)
+  keeps-offer o (Shape.marks a c) = on-offer o _ refl (A .bargains .rounds o)
+  keeps-offer o (Shape.repaid a x) = on-offer o _ refl (A .bargains .rounds o)
+
+  pub keeps : (c : Shape.Shape) → Passes (shaped m c .checks) → Agrees (post (entryFor c) l) (shaped m c .done)
+  unfolding ruled entryFor post namesFor settles pick raised
+  keeps (Shape.opens a) p = record { bargains = A .bargains; papers = A .papers; purses = Purses.opened (A .purses) a (unseen-account (find (m .accounts) a) (search)); financed = A .financed }
+  keeps (Shape.account a u) p = keeps-account a u p
+  keeps (Shape.registers a i x) p = record {
     bargains = A .bargains;
     papers = Papers.issued-by (A .papers) i a (invoiceOf a x) refl (unseen-invoice (find (m .invoices) i) (search));
     purses = A .purses;
     financed = A .financed;
   }
-  keeps (CancelInvoice now a i) p = record { bargains = A .bargains; papers = Papers.cancelled (A .papers) i; purses = A .purses; financed = A .financed }
-  keeps (CreateOffer now a o i t e) p = record {
+  keeps (Shape.cancels a i) p = record { bargains = A .bargains; papers = Papers.cancelled (A .papers) i; purses = A .purses; financed = A .financed }
+  keeps (Shape.creates a o i t e) p = record {
     bargains = Bargains.created (A .bargains) o a i t e (unseen-deal (find (m .offers) o) (search));
     papers = A .papers;
     purses = Purses.offered-by (A .purses) a (t .amount) (account-there (find (m .accounts) a) (search)) (offers (t .amount) 1 (accountIn m a .row)) refl refl refl;
     financed = A .financed;
   }
-  keeps (WithdrawOffer now a o) p = on-offer o _ refl (A .bargains .rounds o)
-  keeps (AcceptOffer now a o) p =
+  keeps (Shape.offer o u) p = keeps-offer o u
+  keeps (Shape.accepts now a o) p =
       settled (noted-accept A now o) now o (record { paper = search; pending = search })
       (passes-right (acceptChecks (offerIn m o) now a (paperOf m o)) (settling now o m .checks) (p .1 .1))
-  keeps (RejectOffer now a o) p = on-offer o _ refl (A .bargains .rounds o)
-  keeps (AmendOffer now a o t n) p = keeps-amend now a o t n p
-  keeps (CounterOffer now a o t n) p = keeps-counter now a o t n p
-  keeps (CloseNegotiation now a o) p = on-offer o _ refl (record { long = A .bargains .rounds o .long })
-  keeps (ScheduleRepayment now a o k c d) p = on-offer o _ refl (A .bargains .rounds o)
-  keeps (UpdateStatus now a o c) p = on-offer o _ refl (A .bargains .rounds o)
-  keeps (UpdateRepaid now a o x) p = on-offer o _ refl (A .bargains .rounds o)
-  keeps (UpdateLenderRepaid now a k c) p = on-account k _ (record { balance = refl; offered = refl; accepted = refl })
-  keeps (UpdateTotalsRepaid now a x f) p = elsewhere refl refl refl refl
-  keeps (Pause now q) p = elsewhere refl refl refl refl
-  keeps (Unpause now q) p = elsewhere refl refl refl refl
-  keeps (SetWindow now q w) p = elsewhere refl refl refl refl
-  keeps (SetRepaymentAccount now i q) p = elsewhere refl refl refl refl
-  keeps (SetBlacklisted now i c q) p = on-account i _ (record { balance = refl; offered = refl; accepted = refl })
-  keeps (SetSeats now q h n) p = elsewhere refl refl refl refl
+  keeps (Shape.amends now a o t n) p = keeps-amend now a o t n p
+  keeps (Shape.counters now a o t n) p = keeps-counter now a o t n p
+  keeps (Shape.totals a x f) p = elsewhere refl refl refl refl
+  keeps (Shape.settings u) p = elsewhere refl refl refl refl

@@ -10,11 +10,11 @@ use Rattle.negotiation.specs.Rounds.{roundLimit, asked}
 use Rattle.account.specs.declared.Account.{Account}
 use Rattle.invoice.specs.declared.Invoice.{Invoice}
 use Rattle.offer.specs.declared.Deal.{Deal}
-use Rattle.shelves.specs.Accounts.{seenAccount}
-use Rattle.shelves.specs.Invoices.{seenInvoice}
-use Rattle.shelves.specs.Offers.{seenDeal}
+use Rattle.account.specs.Seen.{seenAccount}
+use Rattle.invoice.specs.Seen.{seenInvoice}
+use Rattle.offer.specs.Seen.{seenDeal}
 use Rattle.command.specs.declared.Command.{Command}
-use Rattle.book.specs.Model.{Model}
+use Rattle.rules.specs.Model.{Model}
 use Rattle.history.specs.History.{Deed, creates, amends, counters, accepts, Entry, opens, deposits, pays, registers, deals, nothing, entryOf, settles, share}
 use Rattle.history.specs.Figures.{tally}
 

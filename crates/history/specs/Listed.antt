@@ -17,15 +17,14 @@ use Rattle.account.specs.declared.Account.{Account}
 use Rattle.account.specs.Account.{noAccount, offers}
 use Rattle.offer.specs.declared.Deal.{Deal}
 use Rattle.offer.specs.Offer.{newDeal, settledDeal}
-use Rattle.shelves.specs.Accounts.{seenAccount}
-use Rattle.shelves.specs.Offers.{seenDeal}
-use Rattle.command.specs.declared.Command.{Command}
-use Rattle.command.specs.declared.Command.the-variants.{OpenAccount, Deposit, Payout, Approve, RegisterInvoice, CancelInvoice, CreateOffer, WithdrawOffer, AcceptOffer, RejectOffer, AmendOffer, CounterOffer, CloseNegotiation, ScheduleRepayment, UpdateStatus, UpdateRepaid, UpdateLenderRepaid, UpdateTotalsRepaid, Pause, Unpause, SetWindow, SetRepaymentAccount, SetBlacklisted, SetSeats}
-use Rattle.book.specs.Model.{Model, accountIn, offerIn, withAccounts, withOffers}
-use Rattle.book.specs.Rules.{termsIn, rule, commanded, settling, concluding, agreeing, amendedIn, counteredIn}
-use Rattle.history.specs.History.{Said, grow, createdBy, entryOf, add}
+use Rattle.account.specs.Seen.{seenAccount}
+use Rattle.offer.specs.Seen.{seenDeal}
+use Rattle.command.specs.Shape as Shape
+use Rattle.rules.specs.Model.{Model, accountIn, offerIn, withAccounts, withOffers}
+use Rattle.rules.specs.Rules.{termsIn, settling, concluding, agreeing, amendedIn, counteredIn, ruled, shaped}
+use Rattle.history.specs.History.{Said, grow, createdBy, accountEntry, entryFor, add}
 use Rattle.history.specs.Figures.{put}
-use Rattle.book.specs.Fitting.{unseen-account, unseen-deal}
+use Rattle.rules.specs.Rooms.{unseen-account, unseen-deal}
 use Rattle.history.specs.Passed.{Passes}
 
 abbrev pub accountHere : Found Account → Bool
@@ -101,39 +100,34 @@ module _ {r : Said} {m : Model} (L : Listed r m) where
     room = omega (arith, f .size, L .room);
   }
 
-  pub listed : (c : Command) → Passes (commanded m c .checks) → Listed (add (entryOf c) r) (commanded m c .done)
-  unfolding rule entryOf add grow createdBy
-  listed (OpenAccount now a) p = record {
+  listed-account : (a : ℕ) (u : Shape.OnAccount) → Listed (add (accountEntry a u) r) (ruled m (Shape.account a u) .done)
+  unfolding ruled accountEntry add
+  listed-account a (Shape.deposits x) = still refl refl (by-account a _)
+  listed-account a (Shape.pays x) = still refl refl (by-account a _)
+  listed-account a (Shape.approves x) = still refl refl (by-account a _)
+  listed-account a (Shape.lenderRepaid b f) = still refl refl (by-account a _)
+  listed-account a (Shape.blacklists p c) = still refl refl (by-account a _)
+
+  pub listed : (c : Shape.Shape) → Passes (shaped m c .checks) → Listed (add (entryFor c) r) (shaped m c .done)
+  unfolding ruled entryFor add grow createdBy
+  listed (Shape.opens a) p = record {
     accounts = here-insert accountHere (λ r. refl) refl (m .accounts) a noAccount (r .accounts) (unseen-account (find (m .accounts) a) (search)) (L .accounts);
     offers = L .offers;
     room = omega (arith, length-insert (m .accounts) a noAccount, leb-false 64 (length (m .accounts)) (search));
   }
-  listed (Deposit now a x) p = still refl refl (by-account a _)
-  listed (Payout now a x) p = still refl refl (by-account a _)
-  listed (Approve now a x) p = still refl refl (by-account a _)
-  listed (RegisterInvoice now a i x) p = still refl refl (aside refl refl)
-  listed (CancelInvoice now a i) p = still refl refl (aside refl refl)
-  listed (CreateOffer now a o i t e) p =
+  listed (Shape.account a u) p = listed-account a u
+  listed (Shape.registers a i x) p = still refl refl (aside refl refl)
+  listed (Shape.cancels a i) p = still refl refl (aside refl refl)
+  listed (Shape.creates a o i t e) p =
       let f = by-account {m = m} a (offers (t .amount) 1 (accountIn m a .row)) in
       record {
         accounts = λ j. L .accounts j ∙ ap one (sym (f .accounts j));
         offers = here-insert offerHere (λ r. refl) refl (m .offers) o (newDeal a i t e) (r .offers) (unseen-deal (find (m .offers) o) (search)) (L .offers);
         room = omega (arith, f .size, L .room);
       }
-  listed (WithdrawOffer now a o) p = still refl refl (by-offer o _)
-  listed (AcceptOffer now a o) p = still refl refl (same-settling now o m)
-  listed (RejectOffer now a o) p = still refl refl (by-offer o _)
-  listed (AmendOffer now a o t n) p = still refl refl (then (by-offer o _) (then (by-account a _) (same-agreeing (agreesOf roundLimit (offerIn m o .row .negotiation) t) now o (amendedIn m now a o t))))
-  listed (CounterOffer now a o t n) p = still refl refl (then (by-offer o _) (same-agreeing (sameTerms (termsIn m o) t) now o (counteredIn m now o t)))
-  listed (CloseNegotiation now a o) p = still refl refl (by-offer o _)
-  listed (ScheduleRepayment now a o k c d) p = still refl refl (by-offer o _)
-  listed (UpdateStatus now a o c) p = still refl refl (by-offer o _)
-  listed (UpdateRepaid now a o x) p = still refl refl (by-offer o _)
-  listed (UpdateLenderRepaid now a k c) p = still refl refl (by-account k _)
-  listed (UpdateTotalsRepaid now a x f) p = still refl refl (aside refl refl)
-  listed (Pause now q) p = still refl refl (aside refl refl)
-  listed (Unpause now q) p = still refl refl (aside refl refl)
-  listed (SetWindow now q w) p = still refl refl (aside refl refl)
-  listed (SetRepaymentAccount now i q) p = still refl refl (aside refl refl)
-  listed (SetBlacklisted now i c q) p = still refl refl (by-account i _)
-  listed (SetSeats now q h n) p = still refl refl (aside refl refl)
+  listed (Shape.offer o u) p = still refl refl (by-offer o _)
+  listed (Shape.accepts now a o) p = still refl refl (same-settling now o m)
+  listed (Shape.amends now a o t n) p = still refl refl (then (by-offer o _) (then (by-account a _) (same-agreeing (agreesOf roundLimit (offerIn m o .row .negotiation) t) now o (amendedIn m now a o t))))
+  listed (Shape.counters now a o t n) p = still refl refl (then (by-offer o _) (same-agreeing (sameTerms (termsIn m o) t) now o (counteredIn m now o t)))
+  listed (Shape.totals a x f) p = still refl refl (aside refl refl)
+  listed (Shape.settings u) p = still refl refl (aside refl refl)

@@ -10,7 +10,7 @@ use Rattle.table.specs.Tables.{Found, absent, here, Table, find, insert, fmap, 
 use Rattle.table.specs.TableLaws.{find-adjust}
 use Rattle.invoice.specs.declared.Invoice.{Invoice}
 use Rattle.invoice.specs.Invoice.{inStatus}
-use Rattle.shelves.specs.Invoices.{seenInvoice}
+use Rattle.invoice.specs.Seen.{seenInvoice}
 use Rattle.history.specs.Figures.{put, at-put, at-insert, at-kept}
 use Rattle.history.specs.Ledger.{Papers, issued, sellingOff, originatorOf, shut}
 use Rattle.history.specs.Agrees.{Papered}

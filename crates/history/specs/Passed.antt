@@ -8,9 +8,9 @@ use Rattle.table.specs.Tables.{Found, absent, here}
 use Rattle.account.specs.declared.Account.{Account}
 use Rattle.invoice.specs.declared.Invoice.{Invoice}
 use Rattle.offer.specs.declared.Deal.{Deal}
-use Rattle.shelves.specs.Accounts.{seenAccount}
-use Rattle.shelves.specs.Invoices.{seenInvoice}
-use Rattle.shelves.specs.Offers.{seenDeal}
+use Rattle.account.specs.Seen.{seenAccount}
+use Rattle.invoice.specs.Seen.{seenInvoice}
+use Rattle.offer.specs.Seen.{seenDeal}
 
 abbrev pub Passes : List Check → Type 0
 Passes [] = Unit {0}

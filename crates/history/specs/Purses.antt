@@ -10,7 +10,7 @@ use Rattle.table.specs.Tables.{Found, absent, here, Table, find, insert}
 use Rattle.terms.specs.declared.Terms.{Terms}
 use Rattle.account.specs.declared.Account.{Account}
 use Rattle.account.specs.Account.{noAccount, gains, pays, accepts}
-use Rattle.shelves.specs.Accounts.{seenAt, settleAccounts}
+use Rattle.parties.specs.Settlement.{seenAt, settleAccounts}
 use Rattle.history.specs.History.{share}
 use Rattle.history.specs.Figures.{put, tally, at-insert, at-kept, figure-put, tally-put, tally-kept, tally-insert}
 use Rattle.history.specs.Passed.{Passes, account-there}

@@ -9,8 +9,8 @@ use Rattle.refusal.specs.Choice.{pick}
 use Rattle.refusal.specs.Refusal.{first}
 use Rattle.refusal.specs.Rule.{after}
 use Rattle.command.specs.declared.Command.{Command}
-use Rattle.book.specs.Model.{Model}
-use Rattle.book.specs.Rules.{commanded}
+use Rattle.rules.specs.Model.{Model}
+use Rattle.rules.specs.Rules.{commanded}
 use Rattle.soundness.specs.Played.{played}
 use Rattle.history.specs.Passed.{Passes, all-pass}
 

@@ -11,11 +11,11 @@ use Rattle.terms.specs.declared.Terms.{Terms}
 use Rattle.negotiation.specs.Rounds.{roundLimit}
 use Rattle.account.specs.Account.{reoffers}
 use Rattle.settings.specs.Totals.{financeOf}
-use Rattle.shelves.specs.Accounts.{settleAccounts}
+use Rattle.parties.specs.Settlement.{settleAccounts}
 use Rattle.offer.specs.Rules.{agreementChecks}
-use Rattle.book.specs.Model.{Model, accountIn, offerIn, paperOf}
-use Rattle.book.specs.Rules.{lenderOf, termsIn, settling, concluding, agreeing, amendedIn, counteredIn}
-use Rattle.book.specs.Rules as Rules
+use Rattle.rules.specs.Model.{Model, accountIn, offerIn, paperOf}
+use Rattle.rules.specs.Rules.{lenderOf, termsIn, settling, concluding, agreeing, amendedIn, counteredIn}
+use Rattle.rules.specs.Rules as Rules
 use Rattle.history.specs.History.{amends, counters, accepts}
 use Rattle.history.specs.Passed.{Passes, passes-left, passes-right, invoice-there}
 use Rattle.history.specs.Ledger.{Bargain, Ledger, offering, paying, raised, noted, struck, sold, bargainOf}

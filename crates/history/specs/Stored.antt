@@ -5,7 +5,7 @@ use Rattle.table.specs.Tables.{find}
 use Rattle.table.specs.ShelfBack.{table-stored}
 use Rattle.account.specs.Account.{noAccount}
 use Rattle.command.specs.declared.Command.{Command}
-use Rattle.book.specs.Model.{Model, freshModel}
+use Rattle.rules.specs.Model.{Model, freshModel}
 use Rattle.book.specs.Stored.{modelOf, stored}
 use Rattle.book.specs.declared.Book.{Book}
 use Rattle.soundness.specs.Played.{played}

@@ -1,2 +1,3 @@
 pub mod Invoice
 pub mod Laws
+pub mod Seen

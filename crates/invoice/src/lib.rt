@@ -1,4 +1,7 @@
 use terms::Terms;
+ghost use mathlib.Core.Bool.{cond};
+ghost use Rattle.table.specs.Spots.{atSpot};
+ghost use Rattle.invoice.specs.Seen.{seenInvoice, putInvoice};
 ghost use mathlib.Core.Path.{_≡_};
 ghost use Rattle.refusal.specs.Refusal.{first};
 ghost use Rattle.refusal.specs.Rule.{answered};
@@ -129,4 +132,48 @@ pub fn register_refusal(amount: i64, exists: bool, full: bool) -> u64
         return refusal::NO_ROOM;
     }
     0
+}
+
+impl SeenInvoice {
+    // What is read at a spot: the row where it is there, else none.
+    pub fn at(here: bool, row: Invoice) -> SeenInvoice
+        ensures { λ r. ⌜ r ≡ seenInvoice (atSpot here row) ⌝ }
+    {
+        if !here {
+            let none = Invoice::none();
+            return SeenInvoice {
+                here: false,
+                row: none,
+            };
+        }
+        SeenInvoice {
+            here: true,
+            row: row,
+        }
+    }
+
+    // The row made `row`, where there is one.
+    pub fn put(self, row: Invoice) -> SeenInvoice
+        ensures { λ r. ⌜ r ≡ putInvoice self row ⌝ }
+    {
+        if !self.here {
+            return self;
+        }
+        SeenInvoice {
+            here: true,
+            row: row,
+        }
+    }
+}
+
+impl Invoice {
+    // What is written at a spot: the row where it is there, else what was read.
+    pub fn over(self, here: bool, old: Invoice) -> Invoice
+        ensures { λ r. ⌜ r ≡ cond here self old ⌝ }
+    {
+        if !here {
+            return old;
+        }
+        self
+    }
 }

@@ -6,6 +6,10 @@ use negotiation::Round;
 use terms::InstallmentAnswer;
 use terms::Schedule;
 use terms::Terms;
+ghost use mathlib.Core.Bool.{cond};
+ghost use Rattle.table.specs.Spots.{atSpot};
+ghost use Rattle.table.specs.Tables.{absent};
+ghost use Rattle.offer.specs.Seen.{seenDeal, putDeal};
 ghost use mathlib.Core.Path.{_≡_};
 ghost use Rattle.refusal.specs.Refusal.{first};
 ghost use Rattle.refusal.specs.Refusal as Refusal;
@@ -620,5 +624,60 @@ impl SeenDeal {
             answer: 0,
             row: row,
         }
+    }
+}
+
+impl SeenDeal {
+    // No row.
+    pub fn none() -> SeenDeal
+        ensures { λ r. ⌜ r ≡ seenDeal absent ⌝ }
+    {
+        let row = Deal::none();
+        SeenDeal {
+            here: false,
+            row: row,
+        }
+    }
+
+    // What is read at a spot: the row where it is there, else none.
+    pub fn at(here: bool, row: Deal) -> SeenDeal
+        ensures { λ r. ⌜ r ≡ seenDeal (atSpot here row) ⌝ }
+    {
+        if !here {
+            let none = Deal::none();
+            return SeenDeal {
+                here: false,
+                row: none,
+            };
+        }
+        SeenDeal {
+            here: true,
+            row: row,
+        }
+    }
+
+    // The row made `row`, where there is one.
+    pub fn put(self, row: Deal) -> SeenDeal
+        ensures { λ r. ⌜ r ≡ putDeal self row ⌝ }
+    {
+        if !self.here {
+            return self;
+        }
+        SeenDeal {
+            here: true,
+            row: row,
+        }
+    }
+}
+
+impl Deal {
+    // What is written at a spot: the row where it is there, else what was read.
+    pub fn over(self, here: bool, old: Deal) -> Deal
+        ensures { λ r. ⌜ r ≡ cond here self old ⌝ }
+    {
+        if !here {
+            return old;
+        }
+        self
     }
 }

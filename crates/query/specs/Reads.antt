@@ -16,7 +16,7 @@ use Rattle.lists.specs.declared.Wanted.{Wanted}
 use Rattle.lists.specs.Listing.{Reply, tenOf, listRule, told}
 use Rattle.lists.specs.Active.{activeOf}
 use Rattle.book.specs.declared.Book.{Book}
-use Rattle.book.specs.Model.{Model, accountIn, offerIn}
+use Rattle.rules.specs.Model.{Model, accountIn, offerIn}
 use Rattle.book.specs.Stored.{modelOf, bookTest}
 use Rattle.query.specs.declared.ScheduleNumbers.{ScheduleNumbers}
 use Rattle.query.specs.declared.LenderNumbers.{LenderNumbers}

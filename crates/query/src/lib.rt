@@ -9,6 +9,7 @@ use negotiation::Negotiation;
 use offer::Deal;
 use settings::Totals;
 use shelves::Offers;
+use table::Named;
 use terms::DueAnswer;
 use terms::Schedule;
 ghost use mathlib.Core.Path.{_≡_};
@@ -193,7 +194,7 @@ pub fn get_offer(book: Book, id: u64) -> OfferAnswer
         return OfferAnswer::Unsound;
     }
     let offers = book.offers;
-    let s = offers.get(id);
+    let s = offers.see(Named::Id(id));
     if !s.here {
         return OfferAnswer::Absent;
     }
@@ -210,7 +211,7 @@ pub fn get_schedule(book: Book, id: u64) -> ScheduleAnswer
         return ScheduleAnswer::Unsound;
     }
     let offers = book.offers;
-    let s = offers.get(id);
+    let s = offers.see(Named::Id(id));
     let d = s.row;
     let p = d.schedule;
     if terms::schedule_zero(p) {
@@ -231,7 +232,7 @@ pub fn get_negotiation(book: Book, id: u64) -> NegotiationAnswer
         };
     }
     let offers = book.offers;
-    let s = offers.get(id);
+    let s = offers.see(Named::Id(id));
     let d = s.row;
     let g = d.negotiation;
     NegotiationAnswer {
@@ -247,7 +248,7 @@ pub fn get_negotiation_deadline(book: Book, id: u64) -> NumberAnswer
         return NumberAnswer::Unsound;
     }
     let offers = book.offers;
-    let s = offers.get(id);
+    let s = offers.see(Named::Id(id));
     let d = s.row;
     let g = d.negotiation;
     NumberAnswer::Number(g.deadline)
@@ -260,7 +261,7 @@ pub fn get_negotiation_status(book: Book, now: u64, id: u64) -> NumberAnswer
         return NumberAnswer::Unsound;
     }
     let offers = book.offers;
-    let s = offers.get(id);
+    let s = offers.see(Named::Id(id));
     let d = s.row;
     let o = d.offer;
     let status = o.status;
@@ -292,7 +293,7 @@ pub fn get_installment_due(book: Book, now: u64, id: u64) -> NumberAnswer
         return NumberAnswer::Unsound;
     }
     let offers = book.offers;
-    let s = offers.get(id);
+    let s = offers.see(Named::Id(id));
     let d = s.row;
     let n = due(d, now);
     NumberAnswer::Number(n)
@@ -307,7 +308,7 @@ pub fn get_lender_stats(book: Book, lender: u64) -> LenderAnswer
         return LenderAnswer::Unsound;
     }
     let accounts = book.accounts;
-    let s = accounts.get(lender);
+    let s = accounts.see(Named::Id(lender));
     let a = s.row;
     let numbers = LenderNumbers::of(a);
     LenderAnswer::Lender(numbers)

@@ -13,7 +13,7 @@ use Rattle.sheet.specs.Sheet.{Wrote}
 use Rattle.lines.specs.Lines.{answerLine, markLine}
 use Rattle.book.specs.declared.Book.{Book}
 use Rattle.book.specs.declared.Step.{Step}
-use Rattle.book.specs.Model.{freshModel}
+use Rattle.rules.specs.Model.{freshModel}
 use Rattle.book.specs.Stored.{modelOf}
 use Rattle.replay.specs.declared.Outcome.{Outcome}
 use Rattle.replay.specs.Replay.{replayFrom, outcomeOf, ending}

@@ -4,7 +4,6 @@ pub mod Ahead
 pub mod ReplayLaws
 pub mod TextLaws
 pub mod Standing
-pub mod Placing
 pub mod Playing
 pub mod Telling
 pub mod Going

@@ -12,7 +12,7 @@ use Rattle.journal.specs.Answers.{found, refused, ended}
 use Rattle.journal.specs.Format.{openingOf, readAt}
 use Rattle.book.specs.declared.Book.{Book}
 use Rattle.book.specs.declared.Step.{Step}
-use Rattle.book.specs.Model.{freshModel}
+use Rattle.rules.specs.Model.{freshModel}
 use Rattle.book.specs.Stored.{modelOf, stored}
 use Rattle.book.specs.Shelving.{back}
 use Rattle.replay.specs.declared.Outcome.{Outcome}

@@ -10,7 +10,7 @@ use borrow.Author.Tests.{leb-true}
 use Rattle.refusal.specs.Choice.{pick}
 use Rattle.table.specs.Tables.{Table, adjust, insert, keys, Is, is-true, is-false, decide}
 use Rattle.table.specs.TableLaws.{keys-adjust}
-use Rattle.command.specs.declared.Command.{Command}
+use Rattle.command.specs.Shape.{Shape, opens, account, registers, cancels, creates, offer, accepts, amends, counters, totals, settings, shapeOf}
 use Rattle.wire.specs.Field.{begins}
 use Rattle.wire.specs.FieldLaws.{and-left, and-right}
 use Rattle.journal.specs.Answers.{Reading, found, refused, ended, malformed}
@@ -20,8 +20,8 @@ use Rattle.journal.specs.ReadLaws.{all-tops}
 use Rattle.account.specs.declared.Account.{Account}
 use Rattle.account.specs.Account.{noAccount}
 use Rattle.sheet.specs.Size.{Small}
-use Rattle.book.specs.Model.{Model}
-use Rattle.book.specs.Rules.{settling, concluding, agreeing, rule}
+use Rattle.rules.specs.Model.{Model}
+use Rattle.rules.specs.Rules.{settling, concluding, agreeing, ruled}
 
 -- ── Ids below 2^64 ────────────────────────────────────────────────
 pub record Low (t : Table Account) : Type 0 where
@@ -48,14 +48,38 @@ unfolding agreeing concluding pick
 agreed true m now o k = settled m now o k
 agreed false m now o k = k
 
--- a command that keeps the accounts' ids so
-abbrev pub KeepsLow : Command → Type 0
-KeepsLow c = (m : Model) → Low (m .accounts) → Low (rule m c .done .accounts)
+-- an account that a command opens has such an id
+unfoldable pub OpensLow : Shape → Type 0
+OpensLow (opens a) = a < 18446744073709551616
+OpensLow (account a u) = Unit
+OpensLow (registers a i x) = Unit
+OpensLow (cancels a i) = Unit
+OpensLow (creates a o i t e) = Unit
+OpensLow (offer o u) = Unit
+OpensLow (accepts now a o) = Unit
+OpensLow (amends now a o t n) = Unit
+OpensLow (counters now a o t n) = Unit
+OpensLow (totals a x f) = Unit
+OpensLow (settings u) = Unit
+
+pub low-ruled : (m : Model) (c : Shape) → OpensLow c → Low (m .accounts) → Low (ruled m c .done .accounts)
+unfolding ruled OpensLow
+low-ruled m (opens a) h k = record { ids = small-insert (m .accounts) a noAccount h (k .ids) }
+low-ruled m (account a u) h k = same k _ _
+low-ruled m (registers a i x) h k = k
+low-ruled m (cancels a i) h k = k
+low-ruled m (creates a o i t e) h k = same k _ _
+low-ruled m (offer o u) h k = k
+low-ruled m (accepts now a o) h k = settled m now o k
+low-ruled m (amends now a o t n) h k = agreed _ _ now o (same k _ _)
+low-ruled m (counters now a o t n) h k = agreed _ _ now o k
+low-ruled m (totals a x f) h k = k
+low-ruled m (settings u) h k = k
 
 -- ── The table's rows ──────────────────────────────────────────────
 -- v holds the numbers of the fields at the places of their tags, 02 the caller's
 abbrev Fair : Row → Type 0
-Fair r = (v : List ℕ) → getD v 0x02 0 < 18446744073709551616 → KeepsLow (r .make (named v))
+Fair r = (v : List ℕ) → getD v 0x02 0 < 18446744073709551616 → OpensLow (shapeOf (r .make (named v)))
 
 infixr 5 _▸_
 data Each : List Row → Type 0 where
@@ -63,32 +87,32 @@ data Each : List Row → Type 0 where
   _▸_ : {r : Row} {rs : List Row} → Fair r → Each rs → Each (r ∷ rs)
 
 all-fair : Each rows
-unfolding rule named
+unfolding shapeOf OpensLow named
 all-fair =
-    (λ v h m k. record { ids = small-insert (m .accounts) (getD v 0x02 0) noAccount h (k .ids) })
-    ▸ (λ v h m k. same k _ _)
-    ▸ (λ v h m k. same k _ _)
-    ▸ (λ v h m k. same k _ _)
-    ▸ (λ v h m k. k)
-    ▸ (λ v h m k. k)
-    ▸ (λ v h m k. same k _ _)
-    ▸ (λ v h m k. k)
-    ▸ (λ v h m k. settled m (getD v 0x01 0) (getD v 0x03 0) k)
-    ▸ (λ v h m k. k)
-    ▸ (λ v h m k. agreed _ _ (getD v 0x01 0) (getD v 0x03 0) (same k _ _))
-    ▸ (λ v h m k. agreed _ _ (getD v 0x01 0) (getD v 0x03 0) k)
-    ▸ (λ v h m k. k)
-    ▸ (λ v h m k. k)
-    ▸ (λ v h m k. k)
-    ▸ (λ v h m k. k)
-    ▸ (λ v h m k. same k _ _)
-    ▸ (λ v h m k. k)
-    ▸ (λ v h m k. k)
-    ▸ (λ v h m k. k)
-    ▸ (λ v h m k. k)
-    ▸ (λ v h m k. k)
-    ▸ (λ v h m k. same k _ _)
-    ▸ (λ v h m k. k)
+    (λ v h. h)
+    ▸ (λ v h. tt)
+    ▸ (λ v h. tt)
+    ▸ (λ v h. tt)
+    ▸ (λ v h. tt)
+    ▸ (λ v h. tt)
+    ▸ (λ v h. tt)
+    ▸ (λ v h. tt)
+    ▸ (λ v h. tt)
+    ▸ (λ v h. tt)
+    ▸ (λ v h. tt)
+    ▸ (λ v h. tt)
+    ▸ (λ v h. tt)
+    ▸ (λ v h. tt)
+    ▸ (λ v h. tt)
+    ▸ (λ v h. tt)
+    ▸ (λ v h. tt)
+    ▸ (λ v h. tt)
+    ▸ (λ v h. tt)
+    ▸ (λ v h. tt)
+    ▸ (λ v h. tt)
+    ▸ (λ v h. tt)
+    ▸ (λ v h. tt)
+    ▸ (λ v h. tt)
     ▸ none
 
 -- each has two fields at least
@@ -98,7 +122,7 @@ allTwo (r ∷ rs) = leb 2 (length (r .fields)) && allTwo rs
 
 -- ── What is read ──────────────────────────────────────────────────
 unfoldable pub Weighs : ℕ → Reading → Type 0
-Weighs at (found c next) = (at + 25 ≤ next) × KeepsLow c
+Weighs at (found c next) = (at + 25 ≤ next) × OpensLow (shapeOf c)
 Weighs at (refused n p) = Unit
 Weighs at ended = Unit
 

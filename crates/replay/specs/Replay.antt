@@ -10,8 +10,8 @@ use Rattle.command.specs.declared.Command.{Command}
 use Rattle.journal.specs.Answers.{Reading, found, refused, ended}
 use Rattle.journal.specs.Format.{openingOf, readAt}
 use Rattle.book.specs.declared.Book.{Book}
-use Rattle.book.specs.Model.{Model, freshModel}
-use Rattle.book.specs.Rules.{commanded}
+use Rattle.rules.specs.Model.{Model, freshModel}
+use Rattle.rules.specs.Rules.{commanded}
 use Rattle.book.specs.Stored.{stored}
 use Rattle.replay.specs.declared.Outcome.{Outcome}
 

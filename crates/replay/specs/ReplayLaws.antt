@@ -8,7 +8,7 @@ use Rattle.command.specs.declared.Command.{Command}
 use Rattle.journal.specs.Answers.{Reading, found, refused, ended}
 use Rattle.journal.specs.Format.{readAt}
 use Rattle.journal.specs.Ahead.{Goes, goes}
-use Rattle.book.specs.Model.{Model}
+use Rattle.rules.specs.Model.{Model}
 use Rattle.replay.specs.Replay.{atEnd, atRecord, Replayed, answerTo, obeyed, halted, heard, follow, replayBy, replayFrom}
 
 -- the rest counts only past the place

@@ -19,8 +19,9 @@ use Rattle.sheet.specs.declared.Pen.{Pen}
 use Rattle.sheet.specs.Sheet.{Wrote, penAt}
 use Rattle.lines.specs.Lines.{answerLine, markLine, accountLines}
 use Rattle.lines.specs.LineSize.{answer-most, mark-most, accounts-most, totals-most}
-use Rattle.book.specs.Model.{Model, freshModel}
-use Rattle.book.specs.Rules.{rule}
+use Rattle.rules.specs.Model.{Model, freshModel}
+use Rattle.command.specs.Shape.{Shape, shapeOf}
+use Rattle.rules.specs.Rules.{ruled}
 use Rattle.soundness.specs.Sound.{ModelSound, fresh-model}
 use Rattle.soundness.specs.Keeps.{stays-sound}
 use Rattle.replay.specs.Replay.{answerTo, obeyed, atHeader, halted, follow, replayBy, replayFrom, replayOf}
@@ -30,7 +31,7 @@ use Rattle.replay.specs.Text.{bookText, textOf, listingOf, listed, liste
 use Rattle.replay.specs.TextLaws.{text-heard, text-bad, text-bare, text-end}
 use Rattle.replay.specs.Ahead.{opened}
 use Rattle.replay.specs.Shown.{in-room, same-listed}
-use Rattle.replay.specs.Records.{Low, KeepsLow, Weighs, weighs}
+use Rattle.replay.specs.Records.{Low, OpensLow, low-ruled, Weighs, weighs}
 
 -- a line for a malformed record, 64 lines of accounts and one of totals
 abbrev pub extra : ℕ
@@ -77,14 +78,14 @@ fresh-bounded : Bounded freshModel
 unfolding keys
 fresh-bounded = record { sound = fresh-model; low = record { ids = tt } }
 
-low-by : (m : Model) (c : Command) (t : Bool) → KeepsLow c → Low (m .accounts) → Low (pick t (rule m c .done) m .accounts)
+low-by : (m : Model) (c : Shape) (t : Bool) → OpensLow c → Low (m .accounts) → Low (pick t (ruled m c .done) m .accounts)
 unfolding pick
-low-by m c true h k = h m k
+low-by m c true h k = low-ruled m c h k
 low-by m c false h k = k
 
-bounded-on : {m : Model} (c : Command) → KeepsLow c → Bounded m → Bounded (obeyed m c)
+bounded-on : {m : Model} (c : Command) → OpensLow (shapeOf c) → Bounded m → Bounded (obeyed m c)
 unfolding after
-bounded-on {m} c h b = record { sound = stays-sound (b .sound) c; low = low-by m c (eqb (answerTo m c) 0) h (b .low) }
+bounded-on {m} c h b = record { sound = stays-sound (b .sound) c; low = low-by m (shapeOf c) (eqb (answerTo m c) 0) h (b .low) }
 
 book-most : {m : Model} → Bounded m → length (bookText m) ≤ 64 * 113 + 70
 unfolding bookText

@@ -15,11 +15,12 @@ use Rattle.journal.specs.Answers.{found}
 use Rattle.journal.specs.Format.{readAt}
 use Rattle.book.specs.declared.Book.{Book}
 use Rattle.book.specs.declared.Step.{Step}
-use Rattle.book.specs.Model.{Model, freshModel}
-use Rattle.book.specs.Rules.{commanded}
+use Rattle.rules.specs.Model.{Model, freshModel}
+use Rattle.rules.specs.Rules.{commanded}
+use Rattle.command.specs.Shape.{shapeOf}
 use Rattle.book.specs.Stored.{modelOf, stored, stepOf, Shelved}
-use Rattle.book.specs.Shelving.{Fits, fits-of, shelved-stored, model-stored}
-use Rattle.book.specs.Fitting.{fits-kept}
+use Rattle.book.specs.Shelving.{fits-of, shelved-stored, model-stored}
+use Rattle.rules.specs.Fitting.{Fits, fits-kept}
 use Rattle.replay.specs.Replay.{answerTo, obeyed}
 use Rattle.replay.specs.Ahead.{ahead}
 
@@ -43,7 +44,7 @@ fresh e = record { shelved = rw e (shelved-stored fresh-fits); model = rw e (mod
 
 fits-by : {m : Model} (c : Command) (t : Bool) → eqb (answerTo m c) 0 ≡ t → Fits m → Fits (pick t (commanded m c .done) m)
 unfolding pick
-fits-by c true e f = fits-kept f c (eqb-true _ 0 e)
+fits-by c true e f = fits-kept f (shapeOf c) (eqb-true _ 0 e)
 fits-by c false e f = f
 
 fits-obeyed : {m : Model} (c : Command) → Fits m → Fits (obeyed m c)

@@ -14,7 +14,7 @@ use Rattle.sheet.specs.SheetLaws.{next, retext}
 use Rattle.lines.specs.Lines.{answerLine, markLine}
 use Rattle.book.specs.declared.Book.{Book}
 use Rattle.book.specs.declared.Step.{Step}
-use Rattle.book.specs.Model.{freshModel}
+use Rattle.rules.specs.Model.{freshModel}
 use Rattle.book.specs.Stored.{modelOf}
 use Rattle.replay.specs.Replay.{replayFrom}
 use Rattle.replay.specs.Text.{bookText, textOf, listingOf}

@@ -6,7 +6,7 @@ use lib.ListN.{length, drop}
 use Rattle.refusal.specs.Choice.{pick}
 use Rattle.refusal.specs.Refusal.{number, bufferShort}
 use Rattle.lines.specs.Lines.{answerLine, markLine, accountLines, totalsLine}
-use Rattle.book.specs.Model.{Model}
+use Rattle.rules.specs.Model.{Model}
 use Rattle.replay.specs.Replay.{Stop, atEnd, atHeader, atRecord, Replayed, replayOf}
 use Rattle.replay.specs.declared.Listed.{Listed}
 use Rattle.replay.specs.declared.Listed.the-variants.{Done, Short}

@@ -7,7 +7,7 @@ use native.Mathlib.Nat.{add-zero}
 use native.Mathlib.Numerals.{add-one}
 use lib.ListN.{length}
 use Rattle.lines.specs.Lines.{answerLine, markLine}
-use Rattle.book.specs.Model.{Model}
+use Rattle.rules.specs.Model.{Model}
 use Rattle.replay.specs.Replay.{atEnd, atHeader, atRecord, Replayed, halted, heard}
 use Rattle.replay.specs.Text.{answerLines, stopLine, bookText, textOf}
 

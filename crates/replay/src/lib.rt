@@ -1,23 +1,22 @@
 // Replay of a journal from a fresh book, and its listing.
+use account::SeenAccount;
 use book::Book;
+use invoice::SeenInvoice;
 use journal::Decoded;
 use journal::Opened;
-use negotiation::Negotiation;
+use near::Full;
+use near::Near;
 use offer::Deal;
-use offer::Offer;
 use offer::SeenDeal;
+use parties::Parties;
 use sheet::Pen;
-use table::Found;
-use terms::Schedule;
 ghost use mathlib.Core.Path.{_≡_};
 ghost use mathlib.Core.Bool.{false};
 ghost use Prim.Native.Nat.{_≤_};
 ghost use lib.ListN.{length};
-ghost use Rattle.table.specs.Tables.{here};
-ghost use Rattle.shelves.specs.Offers.{dealOf, seenDeal};
 ghost use Rattle.sheet.specs.Sheet.{Wrote, penAt};
 ghost use Rattle.book.specs.Stored.{modelOf};
-ghost use Rattle.book.specs.Model.{freshModel};
+ghost use Rattle.rules.specs.Model.{freshModel};
 ghost use Rattle.replay.specs.Replay.{replayFrom, replayOf, outcomeOf, ending};
 ghost use Rattle.replay.specs.Text.{bookText, textOf, listingOf, listed, listedIn, shownIn};
 
@@ -45,20 +44,6 @@ fn put_book(out: &mut [u8], pen: Pen, ink: bool, book: Book) -> Pen
     let p = lines::put_accounts(out, pen, ink, ids, rows, accounts.count);
     let totals = book.totals;
     lines::put_totals(out, p, ink, totals)
-}
-
-// A row that was found.
-fn seen(offer: Offer, negotiation: Negotiation, schedule: Schedule) -> SeenDeal
-    ensures { λ r. ⌜ r ≡ seenDeal (here (dealOf offer negotiation schedule)) ⌝ }
-{
-    SeenDeal {
-        here: true,
-        row: Deal {
-            offer: offer,
-            negotiation: negotiation,
-            schedule: schedule,
-        },
-    }
 }
 
 // What a walk over a journal leaves: the replay's outcome, and the pen behind its text.
@@ -92,21 +77,19 @@ fn finish(
     }
 }
 
-// The records from a place on. The offers stay where they are and a command sees the one that it names, which saves copies of
-// the book. The book is fresh and each step keeps it sound, so that soundness is never tested.
+// The records from a place on. The tables are locals: the rows that a command names are read where they stand, turned, and written
+// back there, and a row that came is let in. The book is fresh and each step keeps it sound, so that soundness is never tested.
 fn records(s: &[u8], out: &mut [u8], ink: bool, first: usize) -> Told
     requires { ⌜ first ≤ length (now s) ⌝ }
     ensures outcome { λ r. ⌜ r .outcome ≡ outcomeOf 0 (replayFrom (now (s .entry)) first freshModel) ⌝ }
     ensures wrote { λ r. ⌜ Wrote ink (textOf 0 (replayFrom (now (s .entry)) first freshModel)) (now (out .entry)) (penAt 0 false) (now (out .exit)) (r .pen) ⌝ }
 {
     let book = Book::fresh();
-    let zero = Deal::none();
-    let none = SeenDeal {
-        here: false,
-        row: zero,
-    };
-    let mut near = book::near_of(book, none);
+    let mut accounts = book.accounts;
+    let mut invoices = book.invoices;
     let mut offers = book.offers;
+    let mut totals = book.totals;
+    let mut settings = book.settings;
     let mut pen = Pen {
         at: 0,
         short: false,
@@ -117,50 +100,134 @@ fn records(s: &[u8], out: &mut [u8], ink: bool, first: usize) -> Told
         let d = reader::read(s, at);
         match d {
             Decoded::Command(c, next) => {
-                let id = c.offer();
-                let n = offers.count;
-                let f = table::find(&offers.ids, n, id);
-                let Found::At(i) = f else {
-                    near.deal = none;
-                    let t = near.turn(c, shelves::ROOM <= n);
-                    pen = lines::put_answer(out, pen, ink, (k + 1) as u64, t.answer);
-                    near = t.near;
-                    k += 1;
-                    at = next;
-                    let x = near.deal;
-                    if !x.here {
-                        continue;
-                    }
-                    let more = offers.let_in(id, x.row);
-                    offers = more;
-                    continue;
+                let names = c.names();
+                let id = names.offer;
+                let po = table::spot_by(&offers.ids, offers.count, id);
+                let io = po.at;
+                let mut x = SeenDeal::none();
+                if po.here {
+                    let o = offers.rows[io];
+                    let g = offers.negotiations[io];
+                    let p = offers.schedules[io];
+                    x = SeenDeal {
+                        here: true,
+                        row: Deal {
+                            offer: o,
+                            negotiation: g,
+                            schedule: p,
+                        },
+                    };
+                }
+                let np = names.paper;
+                let key = np.key(x.row.offer.invoice);
+                let pi = table::spot_by(&invoices.ids, invoices.count, key);
+                let ii = pi.at;
+                let v = invoices.rows[ii];
+                let w = SeenInvoice::at(pi.here, v);
+                let ka = names.first;
+                let nb = names.second;
+                let kb = nb.key(x.row.offer.lender, w.row.originator);
+                let pa = table::spot_by(&accounts.ids, accounts.count, ka);
+                let ia = pa.at;
+                let va = accounts.rows[ia];
+                let sa = SeenAccount::at(pa.here, va);
+                let pb = table::spot_by(&accounts.ids, accounts.count, kb);
+                let ib = pb.at;
+                let vb = accounts.rows[ib];
+                let sb = SeenAccount::at(pb.here, vb);
+                let one = ka.same(kb);
+                let near = Near {
+                    parties: Parties {
+                        first: sa,
+                        second: sb,
+                        one: one,
+                    },
+                    paper: w,
+                    deal: x,
+                    totals: totals,
+                    settings: settings,
                 };
-                let o = offers.rows[i];
-                let g = offers.negotiations[i];
-                let p = offers.schedules[i];
-                let x = seen(o, g, p);
-                near.deal = x;
-                let t = near.turn(c, shelves::ROOM <= n);
+                let filled = Full {
+                    accounts: shelves::ROOM <= accounts.count,
+                    invoices: shelves::ROOM <= invoices.count,
+                    offers: shelves::ROOM <= offers.count,
+                };
+                let t = near.turn(c, filled);
                 pen = lines::put_answer(out, pen, ink, (k + 1) as u64, t.answer);
-                near = t.near;
-                let y = near.deal;
-                let z = y.row;
-                let u = z.offer;
-                let v = z.negotiation;
-                let w = z.schedule;
-                offers.rows[i] = u;
-                offers.negotiations[i] = v;
-                offers.schedules[i] = w;
+                totals = t.near.totals;
+                settings = t.near.settings;
+                let rb = t.near.parties.second.row;
+                let mb = rb.over(pb.here, vb);
+                accounts.rows[ib] = mb;
+                let old = accounts.rows[ia];
+                let ra = t.near.parties.first.row;
+                let ma = ra.over(pa.here, old);
+                accounts.rows[ia] = ma;
+                let ri = t.near.paper.row;
+                let mi = ri.over(pi.here, v);
+                invoices.rows[ii] = mi;
+                if po.here {
+                    let u1 = t.near.deal.row.offer;
+                    let u2 = t.near.deal.row.negotiation;
+                    let u3 = t.near.deal.row.schedule;
+                    offers.rows[io] = u1;
+                    offers.negotiations[io] = u2;
+                    offers.schedules[io] = u3;
+                }
+                if !pa.here & t.near.parties.first.here {
+                    let more = accounts.let_in(ka.id(), ra);
+                    accounts = more;
+                }
+                if !pi.here & t.near.paper.here {
+                    let more = invoices.let_in(key.id(), ri);
+                    invoices = more;
+                }
+                if !po.here & t.near.deal.here {
+                    let n = offers.count;
+                    let mut ci = id.id();
+                    let mut co = t.near.deal.row.offer;
+                    let mut cg = t.near.deal.row.negotiation;
+                    let mut cp = t.near.deal.row.schedule;
+                    let mut j = po.slot;
+                    while j <= n {
+                        let a1 = offers.ids[j];
+                        let b1 = offers.rows[j];
+                        let c1 = offers.negotiations[j];
+                        let d1 = offers.schedules[j];
+                        offers.ids[j] = ci;
+                        offers.rows[j] = co;
+                        offers.negotiations[j] = cg;
+                        offers.schedules[j] = cp;
+                        ci = a1;
+                        co = b1;
+                        cg = c1;
+                        cp = d1;
+                        j += 1;
+                    }
+                    offers.count = n + 1;
+                }
                 k += 1;
                 at = next;
             }
             Decoded::Malformed(tag) => {
                 let p = lines::put_mark(out, pen, ink, (k + 1) as u64, tag as u64);
-                let b = book::book_of(near, offers);
+                let b = Book {
+                    accounts: accounts,
+                    invoices: invoices,
+                    offers: offers,
+                    totals: totals,
+                    settings: settings,
+                };
                 return finish(out, p, ink, b, k, refusal::JOURNAL_MALFORMED, tag);
             }
             Decoded::End => {
-                let b = book::book_of(near, offers);
+                let b = Book {
+                    accounts: accounts,
+                    invoices: invoices,
+                    offers: offers,
+                    totals: totals,
+                    settings: settings,
+                };
                 return finish(out, pen, ink, b, k, 0, 0);
             }
         }

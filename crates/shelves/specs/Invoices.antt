@@ -2,12 +2,11 @@
 use Prim.Native.Nat.{ℕ}
 use mathlib.Core.Bool.{Bool, true, false, _&&_}
 use mathlib.Core.List.{List}
-use Rattle.table.specs.Tables.{Found, absent, here, Table}
+use Rattle.table.specs.Tables.{Table}
 use Rattle.table.specs.Shelf.{tableOf, shelve, Shelf}
 use Rattle.table.specs.Test.{idsTest, rowsTest}
 use Rattle.invoice.specs.Invoice.{noInvoice, invoiceSound, invoiceZero}
 use Rattle.invoice.specs.declared.Invoice.{Invoice}
-use Rattle.invoice.specs.declared.SeenInvoice.{SeenInvoice}
 use Rattle.shelves.specs.declared.Invoices.{Invoices}
 
 abbrev pub invoicesOf : Invoices → Table Invoice
@@ -21,10 +20,6 @@ storedInvoices t = shelve asInvoices noInvoice 64 t
 
 abbrev pub InvoiceShelf : Invoices → Type 0
 InvoiceShelf a = Shelf noInvoice 64 (a .ids) (a .rows) (a .count)
-
-abbrev pub seenInvoice : Found Invoice → SeenInvoice
-seenInvoice absent = record { here = false; row = noInvoice }
-seenInvoice (here r) = record { here = true; row = r }
 
 -- at most 64 rows, ids that ascend strictly, numbers in range, unused rows zero
 unfoldable pub invoicesTest : Invoices → Bool

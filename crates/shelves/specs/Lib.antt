@@ -6,5 +6,5 @@ pub mod Deals
 pub mod Moving
 pub mod Laws
 pub mod OfferLaws
-pub mod Steps
-pub mod Settling
+pub mod Placing
+pub mod Seeing

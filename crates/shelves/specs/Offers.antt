@@ -4,7 +4,7 @@ use mathlib.Core.Path.{_≡_}
 use mathlib.Core.Bool.{Bool, true, false, _&&_}
 use mathlib.Core.List.{List}
 use lib.ListN.{length, getD}
-use Rattle.table.specs.Tables.{Found, absent, here, Table}
+use Rattle.table.specs.Tables.{Table}
 use Rattle.table.specs.Shelf.{tableOf, shelve, Shelf}
 use Rattle.table.specs.Columns.{join, column, Level}
 use Rattle.table.specs.Test.{idsTest, rowsTest}
@@ -15,7 +15,6 @@ use Rattle.terms.specs.declared.Schedule.{Schedule}
 use Rattle.offer.specs.Offer.{noDeal, dealSound, dealZero}
 use Rattle.offer.specs.declared.Offer.{Offer}
 use Rattle.offer.specs.declared.Deal.{Deal}
-use Rattle.offer.specs.declared.SeenDeal.{SeenDeal}
 use Rattle.shelves.specs.declared.Offers.{Offers}
 
 abbrev pub dealOf : Offer → Negotiation → Schedule → Deal
@@ -36,10 +35,6 @@ storedDeals t = shelve asOffers noDeal 64 t
 pub record DealShelf (a : Offers) : Type 0 where
   pub shelf : Shelf noDeal 64 (a .ids) (rowsOf a) (a .count)
   pub level : Level (a .rows) (a .negotiations) (a .schedules)
-
-abbrev pub seenDeal : Found Deal → SeenDeal
-seenDeal absent = record { here = false; row = noDeal }
-seenDeal (here d) = record { here = true; row = d }
 
 -- at most 64 rows, ids that ascend strictly, numbers in range, codes listed, unused rows zero
 unfoldable pub dealsTest : Offers → Bool

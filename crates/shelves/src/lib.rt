@@ -1,5 +1,5 @@
+// The three tables of the book, each in arrays: rows are seen and stored by their keys.
 use account::Account;
-use account::AccountPosted;
 use account::SeenAccount;
 use invoice::Invoice;
 use invoice::SeenInvoice;
@@ -8,16 +8,20 @@ use offer::Deal;
 use offer::Offer;
 use offer::SeenDeal;
 use table::Found;
+use table::Named;
 use terms::Schedule;
-use terms::Terms;
 ghost use mathlib.Core.Path.{_≡_};
 ghost use mathlib.Core.List.{[]};
-ghost use Rattle.refusal.specs.Rule.{answered};
 ghost use Rattle.table.specs.Shift.{insertAt};
-ghost use Rattle.table.specs.Tables.{find, adjust, insert, full, Room};
-ghost use Rattle.shelves.specs.Accounts.{accountsOf, storedAccounts, seenAccount, AccountShelf, accountsTest, tabled, settleAccounts, settledAccounts};
-ghost use Rattle.shelves.specs.Invoices.{invoicesOf, storedInvoices, seenInvoice, InvoiceShelf, invoicesTest};
-ghost use Rattle.shelves.specs.Offers.{dealsOf, storedDeals, seenDeal, DealShelf, dealsTest, WholeDeals};
+ghost use Rattle.table.specs.Tables.{insert, full, Room};
+ghost use Rattle.table.specs.Named.{findBy};
+ghost use Rattle.account.specs.Seen.{seenAccount};
+ghost use Rattle.invoice.specs.Seen.{seenInvoice};
+ghost use Rattle.offer.specs.Seen.{seenDeal};
+ghost use Rattle.shelves.specs.Accounts.{accountsOf, storedAccounts, AccountShelf, accountsTest};
+ghost use Rattle.shelves.specs.Invoices.{invoicesOf, storedInvoices, InvoiceShelf, invoicesTest};
+ghost use Rattle.shelves.specs.Offers.{dealsOf, storedDeals, DealShelf, dealsTest, WholeDeals};
+ghost use Rattle.shelves.specs.Seeing.{StoresAccounts, StoresInvoices, StoresDeals};
 ghost use Rattle.shelves.specs.Sized.{Sized};
 
 // How many rows a table has room for.
@@ -75,54 +79,44 @@ impl Accounts {
         t & ok
     }
 
-    pub fn get(self, id: u64) -> SeenAccount
+    // The row that a key names.
+    pub fn see(self, key: Named) -> SeenAccount
         requires { ⌜ AccountShelf self ⌝ }
-        ensures { λ r. ⌜ r ≡ seenAccount (find (accountsOf self) id) ⌝ }
+        ensures { λ r. ⌜ r ≡ seenAccount (findBy (accountsOf self) key) ⌝ }
     {
         let n = self.count;
-        let f = table::find(&self.ids, n, id);
-        let Found::At(k) = f else {
-            let none = Account::none();
-            return SeenAccount {
-                here: false,
-                row: none,
-            };
-        };
-        let r = self.rows[k];
-        SeenAccount { here: true, row: r }
+        let p = table::spot_by(&self.ids, n, key);
+        let i = p.at;
+        let row = self.rows[i];
+        SeenAccount::at(p.here, row)
     }
 
-    // Whether `id` has a row. It looks at the ids alone, so that the rows are not copied.
-    pub fn has(self, id: u64) -> bool
+    // The rows left by a turn, put back at their keys, second before first, or the first let in where it came.
+    pub fn store(mut self, first: Named, second: Named, x: SeenAccount, y: Account) -> Accounts
         requires { ⌜ AccountShelf self ⌝ }
-        ensures { λ r. ⌜ r ≡ seenAccount (find (accountsOf self) id) .here ⌝ }
+        ensures { λ r. ⌜ StoresAccounts self first second x y r ⌝ }
     {
         let n = self.count;
-        let ids = self.ids;
-        let f = table::find(&ids, n, id);
-        let Found::At(_) = f else {
-            return false;
-        };
-        true
-    }
-
-    // The row of `id` made `row`; without such a row nothing changes.
-    pub fn put(mut self, id: u64, row: Account) -> Accounts
-        requires { ⌜ AccountShelf self ⌝ }
-        ensures { λ r. ⌜ r ≡ storedAccounts (adjust (accountsOf self) id (λ old. row)) ⌝ }
-    {
-        let n = self.count;
-        let f = table::find(&self.ids, n, id);
-        let Found::At(k) = f else {
-            return self;
-        };
-        self.rows[k] = row;
+        let q = table::spot_by(&self.ids, n, second);
+        let j = q.at;
+        let other = self.rows[j];
+        let b = y.over(q.here, other);
+        self.rows[j] = b;
+        let p = table::spot_by(&self.ids, n, first);
+        let i = p.at;
+        let old = self.rows[i];
+        let row = x.row;
+        let d = row.over(p.here, old);
+        self.rows[i] = d;
+        if !p.here & x.here {
+            return self.let_in(first.id(), row);
+        }
         self
     }
 
     pub fn let_in(mut self, id: u64, row: Account) -> Accounts
-        requires { ⌜ AccountShelf self × Room 64 (accountsOf self) id ⌝ }
-        ensures { λ r. ⌜ r ≡ storedAccounts (insert (accountsOf self) id row) ⌝ }
+        requires { ⌜ AccountShelf self ⌝ }
+        ensures { λ r. ⌜ (Room 64 (accountsOf self) id → r ≡ storedAccounts (insert (accountsOf self) id row)) ⌝ }
     {
         let n = self.count;
         let f = table::find(&self.ids, n, id);
@@ -200,40 +194,39 @@ impl Invoices {
         t & ok
     }
 
-    pub fn get(self, id: u64) -> SeenInvoice
+    // The row that a key names.
+    pub fn see(self, key: Named) -> SeenInvoice
         requires { ⌜ InvoiceShelf self ⌝ }
-        ensures { λ r. ⌜ r ≡ seenInvoice (find (invoicesOf self) id) ⌝ }
+        ensures { λ r. ⌜ r ≡ seenInvoice (findBy (invoicesOf self) key) ⌝ }
     {
         let n = self.count;
-        let f = table::find(&self.ids, n, id);
-        let Found::At(k) = f else {
-            let none = Invoice::none();
-            return SeenInvoice {
-                here: false,
-                row: none,
-            };
-        };
-        let r = self.rows[k];
-        SeenInvoice { here: true, row: r }
+        let p = table::spot_by(&self.ids, n, key);
+        let i = p.at;
+        let row = self.rows[i];
+        SeenInvoice::at(p.here, row)
     }
 
-    // The row of `id` made `row`; without such a row nothing changes.
-    pub fn put(mut self, id: u64, row: Invoice) -> Invoices
+    // The row left by a turn, put back at its key, or let in where it came.
+    pub fn store(mut self, key: Named, x: SeenInvoice) -> Invoices
         requires { ⌜ InvoiceShelf self ⌝ }
-        ensures { λ r. ⌜ r ≡ storedInvoices (adjust (invoicesOf self) id (λ old. row)) ⌝ }
+        ensures { λ r. ⌜ StoresInvoices self key x r ⌝ }
     {
         let n = self.count;
-        let f = table::find(&self.ids, n, id);
-        let Found::At(k) = f else {
-            return self;
-        };
-        self.rows[k] = row;
+        let p = table::spot_by(&self.ids, n, key);
+        let i = p.at;
+        let old = self.rows[i];
+        let row = x.row;
+        let d = row.over(p.here, old);
+        self.rows[i] = d;
+        if !p.here & x.here {
+            return self.let_in(key.id(), row);
+        }
         self
     }
 
     pub fn let_in(mut self, id: u64, row: Invoice) -> Invoices
-        requires { ⌜ InvoiceShelf self × Room 64 (invoicesOf self) id ⌝ }
-        ensures { λ r. ⌜ r ≡ storedInvoices (insert (invoicesOf self) id row) ⌝ }
+        requires { ⌜ InvoiceShelf self ⌝ }
+        ensures { λ r. ⌜ (Room 64 (invoicesOf self) id → r ≡ storedInvoices (insert (invoicesOf self) id row)) ⌝ }
     {
         let n = self.count;
         let f = table::find(&self.ids, n, id);
@@ -314,57 +307,64 @@ impl Offers {
         t & ok
     }
 
-    pub fn get(self, id: u64) -> SeenDeal
+    // The row that a key names.
+    pub fn see(self, key: Named) -> SeenDeal
         requires { ⌜ DealShelf self ⌝ }
-        ensures { λ r. ⌜ r ≡ seenDeal (find (dealsOf self) id) ⌝ }
+        ensures { λ r. ⌜ r ≡ seenDeal (findBy (dealsOf self) key) ⌝ }
     {
         let n = self.count;
-        let f = table::find(&self.ids, n, id);
-        let Found::At(k) = f else {
-            let none = Deal::none();
-            return SeenDeal {
-                here: false,
-                row: none,
-            };
+        let p = table::spot_by(&self.ids, n, key);
+        let i = p.at;
+        let o = self.rows[i];
+        let g = self.negotiations[i];
+        let q = self.schedules[i];
+        let d = Deal {
+            offer: o,
+            negotiation: g,
+            schedule: q,
         };
-        let o = self.rows[k];
-        let g = self.negotiations[k];
-        let p = self.schedules[k];
-        SeenDeal {
-            here: true,
-            row: Deal {
-                offer: o,
-                negotiation: g,
-                schedule: p,
-            },
-        }
+        SeenDeal::at(p.here, d)
     }
 
-    // The row of `id` made `row`; without such a row nothing changes.
-    pub fn put(mut self, id: u64, row: Deal) -> Offers
+    // The row left by a turn, put back at its key, or let in where it came.
+    pub fn store(mut self, key: Named, x: SeenDeal) -> Offers
         requires { ⌜ DealShelf self ⌝ }
-        ensures { λ r. ⌜ r ≡ storedDeals (adjust (dealsOf self) id (λ old. row)) ⌝ }
+        ensures { λ r. ⌜ StoresDeals self key x r ⌝ }
     {
         let n = self.count;
-        let f = table::find(&self.ids, n, id);
-        let Found::At(k) = f else {
-            return self;
+        let p = table::spot_by(&self.ids, n, key);
+        let i = p.at;
+        let o = self.rows[i];
+        let g = self.negotiations[i];
+        let q = self.schedules[i];
+        let old = Deal {
+            offer: o,
+            negotiation: g,
+            schedule: q,
         };
-        let o = row.offer;
-        let g = row.negotiation;
-        let p = row.schedule;
-        self.rows[k] = o;
-        self.negotiations[k] = g;
-        self.schedules[k] = p;
+        let row = x.row;
+        let d = row.over(p.here, old);
+        let e = d.offer;
+        let h = d.negotiation;
+        let l = d.schedule;
+        self.rows[i] = e;
+        self.negotiations[i] = h;
+        self.schedules[i] = l;
+        if !p.here & x.here {
+            return self.let_in(key.id(), row);
+        }
         self
     }
 
-    // From the id's place on each row moves up by one.
+    // From the id's place on each row in use moves up by one.
     pub fn let_in(mut self, id: u64, row: Deal) -> Offers
-        requires { ⌜ DealShelf self × Room 64 (dealsOf self) id ⌝ }
-        ensures { λ r. ⌜ r ≡ storedDeals (insert (dealsOf self) id row) ⌝ }
+        requires { ⌜ DealShelf self ⌝ }
+        ensures { λ r. ⌜ (Room 64 (dealsOf self) id → r ≡ storedDeals (insert (dealsOf self) id row)) ⌝ }
     {
         let n = self.count;
+        if ROOM <= n {
+            return self;
+        }
         let f = table::find(&self.ids, n, id);
         let Found::Absent(k) = f else {
             return self;
@@ -374,7 +374,7 @@ impl Offers {
         let mut g = row.negotiation;
         let mut p = row.schedule;
         let mut i = k;
-        while i < ROOM {
+        while i <= n {
             let a = self.ids[i];
             let b = self.rows[i];
             let c = self.negotiations[i];
@@ -399,66 +399,5 @@ impl Offers {
     {
         let n = self.count;
         ROOM <= n
-    }
-}
-
-// An answer's number, 0 where the rows were changed, and the table.
-pub struct AccountsPosted {
-    pub answer: u64,
-    pub table: Accounts,
-}
-
-fn kept(answer: u64, table: Accounts) -> AccountsPosted
-    ensures { λ r. ⌜ r ≡ settledAccounts answer table ⌝ }
-{
-    AccountsPosted {
-        answer: answer,
-        table: table,
-    }
-}
-
-impl Accounts {
-    // The lender pays the originator: each step finds its own row, so that one row may be both.
-    pub fn settle(self, lender: u64, originator: u64, t: Terms) -> AccountsPosted
-        requires { ⌜ AccountShelf self ⌝ }
-        ensures { λ r. ⌜ r ≡ answered tabled (accountsOf self) (settleAccounts (accountsOf self) lender originator t) ⌝ }
-    {
-        let s = self.get(lender);
-        if !s.here {
-            return kept(refusal::NOT_FOUND, self);
-        }
-        let l = s.row;
-        let p = l.debit(t);
-        let a = p.answer;
-        if !(a == 0) {
-            return kept(a, self);
-        }
-        let paid = p.row;
-        let one = self.put(lender, paid);
-        let g = one.get(originator);
-        if !g.here {
-            return kept(refusal::NOT_FOUND, self);
-        }
-        let o = g.row;
-        let q = o.credit(t);
-        let b = q.answer;
-        if !(b == 0) {
-            return kept(b, self);
-        }
-        let gained = q.row;
-        let two = one.put(originator, gained);
-        let h = two.get(lender);
-        let m = h.row;
-        let v = m.accept(t);
-        let c = v.answer;
-        if !(c == 0) {
-            return kept(c, self);
-        }
-        let grown = v.row;
-        let three = two.put(lender, grown);
-        AccountsPosted {
-            answer: 0,
-            table: three,
-        }
     }
 }

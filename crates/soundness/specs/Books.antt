@@ -18,8 +18,8 @@ use Rattle.shelves.specs.Laws.{accounts-keeping, accounts-sound, accounts-pass,
 use Rattle.shelves.specs.OfferLaws.{deals-keeping, deals-sound, deals-pass}
 use Rattle.command.specs.declared.Command.{Command}
 use Rattle.book.specs.declared.Book.{Book}
-use Rattle.book.specs.Model.{Model}
-use Rattle.book.specs.Rules.{commanded}
+use Rattle.rules.specs.Model.{Model}
+use Rattle.rules.specs.Rules.{commanded}
 use Rattle.book.specs.Stored.{modelOf, stored, stepOf, bookTest, answers}
 use Rattle.book.specs.Shelving.{fits-of}
 use Rattle.book.specs.Tested.{tests-of, shelved-of}

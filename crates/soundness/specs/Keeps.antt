@@ -31,16 +31,16 @@ use Rattle.settings.specs.declared.Totals.{Totals}
 use Rattle.settings.specs.Settings.{settingsSound, adminPasses, isRepayer}
 use Rattle.settings.specs.Totals.{totalsSound}
 use Rattle.settings.specs.Laws as Settings
-use Rattle.shelves.specs.Accounts.{seenAccount, seenAt, onRow, settleAccounts}
-use Rattle.shelves.specs.Invoices.{seenInvoice}
-use Rattle.shelves.specs.Offers.{seenDeal}
+use Rattle.parties.specs.Settlement.{seenAt, onRow, settleAccounts}
+use Rattle.account.specs.Seen.{seenAccount}
+use Rattle.invoice.specs.Seen.{seenInvoice}
+use Rattle.offer.specs.Seen.{seenDeal}
 use Rattle.command.specs.declared.Command.{Command}
-use Rattle.command.specs.declared.Command.the-variants.{OpenAccount, Deposit, Payout, Approve, RegisterInvoice, CancelInvoice, CreateOffer, WithdrawOffer, AcceptOffer, RejectOffer, AmendOffer, CounterOffer, CloseNegotiation, ScheduleRepayment, UpdateStatus, UpdateRepaid, UpdateLenderRepaid, UpdateTotalsRepaid, Pause, Unpause, SetWindow, SetRepaymentAccount, SetBlacklisted, SetSeats}
-use Rattle.book.specs.Model.{Model, withAccounts, withInvoices, withOffers, withTotals, withSettings, accountIn, invoiceIn, offerIn, paperOf, onAccount, onInvoice, onOffer, onTotals, onSettings}
-use Rattle.book.specs.Rules.{gateChecks, opening, registering, creating, settling, concluding, agreeing, termsIn, lenderOf, originatorOf, amendedIn, counteredIn, amending, countering, rule, commanded}
-use Rattle.book.specs.Fitting.{fits-opened, fits-registered, fits-created, fits-settled}
+use Rattle.command.specs.Shape.{OnAccount, deposits, pays, approves, lenderRepaid, blacklists, OnOffer, withdraws, rejects, closes, schedules, marks, repaid, OnSettings, pauses, waits, appoints, seats, Shape, opens, account, registers, cancels, creates, offer, accepts, amends, counters, totals, settings, shapeOf}
+use Rattle.rules.specs.Model.{Model, withAccounts, withInvoices, withOffers, withTotals, withSettings, accountIn, invoiceIn, offerIn, paperOf, onAccount, onInvoice, onOffer, onTotals, onSettings}
+use Rattle.rules.specs.Rules.{gateChecks, creating, termsIn, amendedIn, counteredIn, amending, countering, accountRule, offerRule, settingsRule, ruled, commanded}
 use Rattle.table.specs.Keeping.{fine-adjust}
-use Rattle.book.specs.Shelving.{Fits}
+use Rattle.rules.specs.Fitting.{Fits, fits-ruled}
 use Rattle.soundness.specs.Sound.{ModelSound, put-sound}
 use Rattle.soundness.specs.Parts.{Good, account-put, invoice-put, deal-put, settled-sound, agreed-sound, with-accounts, with-invoices, with-offers, with-totals, with-settings}
 
@@ -83,13 +83,14 @@ module _ {m : Model} (s : ModelSound m) where
       with-offers s _ (deal-put (m .offers) o (u .done) (s .offers) (λ z. k z e)) (record { accounts = s .fits .accounts; invoices = s .fits .invoices; offers = fine-adjust (s .fits .offers) _ _ })
 
   created-sound : (a o i : ℕ) (t : Terms) (x : ℕ) → first (creating m a o i t x .checks) ≡ 0 → ModelSound (creating m a o i t x .done)
+  unfolding ruled
   created-sound a o i t x e =
       let c = createChecks a (accountIn m a .row) t (invoiceIn m i) (offerIn m o .here) (full 64 (m .offers)) in
       let p = both-pass c _ e in
       let q = both-pass (offerOf (accountIn m a .row) t .checks) _ (p .1) in
       let k = passed _ _ _ (passed _ _ _ (p .0) .1) in
       record {
-        fits = fits-created (s .fits) a o i t x e;
+        fits = fits-ruled (s .fits) (creates a o i t x) e;
         accounts = account-put (m .accounts) a _ (s .accounts) (λ z. Account.offer-keeps (accountIn m a .row) t z (q .0));
         invoices = s .invoices;
         offers = all-insert DealKept (m .offers) o (newDeal a i t x) (s .offers) (new-kept a i t x (not-false (termsOk t) (k .0)));
@@ -97,39 +98,49 @@ module _ {m : Model} (s : ModelSound m) where
         settings = s .settings;
       }
 
+  keeps-account : (a : ℕ) (u : OnAccount) → Account.Keeps (accountIn m a .row) (accountRule m a u)
+  unfolding accountRule
+  keeps-account a (deposits x) = Account.deposit-keeps (accountIn m a .row) x
+  keeps-account a (pays x) = Account.payout-keeps (accountIn m a .row) x
+  keeps-account a (approves x) = Account.approve-keeps (accountIn m a .row) x
+  keeps-account a (lenderRepaid b f) = Account.lender-repaid-keeps (accountIn m a) (isRepayer (m .settings) b) f
+  keeps-account a (blacklists p c) = Account.blacklist-keeps (accountIn m a) (adminPasses (m .settings) p) c
+
+  keeps-offer : (o : ℕ) (u : OnOffer) → Deal.Keeps (offerIn m o .row) (offerRule m o u)
+  unfolding offerRule
+  keeps-offer o (withdraws a) = Deal.withdraw-keeps (offerIn m o) a
+  keeps-offer o (rejects a) = Deal.reject-keeps (offerIn m o) a (paperOf m o)
+  keeps-offer o (closes now a) = Deal.close-keeps (offerIn m o) now a (paperOf m o)
+  keeps-offer o (schedules now a k c d) = Deal.schedule-keeps (offerIn m o) now a k c d (paperOf m o)
+  keeps-offer o (marks a c) = Deal.status-update-keeps (offerIn m o) (isRepayer (m .settings) a) c
+  keeps-offer o (repaid a x) = Deal.repaid-update-keeps (offerIn m o) (isRepayer (m .settings) a) x
+
+  keeps-settings : (u : OnSettings) → first (settingsRule m u .checks) ≡ 0 → settingsSound (settingsRule m u .done) ≡ true
+  unfolding settingsRule
+  keeps-settings (pauses p b) e = Settings.pause-keeps (m .settings) p b (s .settings) e
+  keeps-settings (waits p w) e = Settings.window-keeps (m .settings) p w (s .settings) e
+  keeps-settings (appoints p i) e = Settings.repayer-keeps (m .settings) p i (accountIn m i .here) (s .settings) e
+  keeps-settings (seats p h q) e = Settings.seats-keeps (m .settings) p h q (s .settings) e
+
   -- the rule of each command
-  ruled-sound : (c : Command) → first (rule m c .checks) ≡ 0 → ModelSound (rule m c .done)
-  unfolding rule
-  ruled-sound (OpenAccount now a) e = with-accounts s _ (all-insert (λ r. accountSound r ≡ true) (m .accounts) a noAccount (s .accounts) Account.no-account-sound) (fits-opened (s .fits) a e)
-  ruled-sound (Deposit now a x) e = posted a _ (Account.deposit-keeps (accountIn m a .row) x) e
-  ruled-sound (Payout now a x) e = posted a _ (Account.payout-keeps (accountIn m a .row) x) e
-  ruled-sound (Approve now a x) e = posted a _ (Account.approve-keeps (accountIn m a .row) x) e
-  ruled-sound (RegisterInvoice now a i x) e =
-      with-invoices s _ (all-insert (λ r. invoiceSound r ≡ true) (m .invoices) i (invoiceOf a x) (s .invoices) (Invoice.registered-sound a x (not-false (inAmount x) (passed _ _ _ e .0)))) (fits-registered (s .fits) a i x e)
-  ruled-sound (CancelInvoice now a i) e =
-      with-invoices s _ (invoice-put (m .invoices) i _ (s .invoices) (λ z. Invoice.status-sound 2 (invoiceIn m i .row) refl z)) (record { accounts = s .fits .accounts; invoices = fine-adjust (s .fits .invoices) _ _; offers = s .fits .offers })
-  ruled-sound (CreateOffer now a o i t x) e = created-sound a o i t x e
-  ruled-sound (WithdrawOffer now a o) e = dealt o _ (Deal.withdraw-keeps (offerIn m o) a) e
-  ruled-sound (AcceptOffer now a o) e = settled-sound s now o (both-pass (acceptChecks (offerIn m o) now a (paperOf m o)) _ e .1)
-  ruled-sound (RejectOffer now a o) e = dealt o _ (Deal.reject-keeps (offerIn m o) a (paperOf m o)) e
-  ruled-sound (AmendOffer now a o t n) e = amending-sound s now a o t n e
-  ruled-sound (CounterOffer now a o t n) e = countering-sound s now a o t n e
-  ruled-sound (CloseNegotiation now a o) e = dealt o _ (Deal.close-keeps (offerIn m o) now a (paperOf m o)) e
-  ruled-sound (ScheduleRepayment now a o k c d) e = dealt o _ (Deal.schedule-keeps (offerIn m o) now a k c d (paperOf m o)) e
-  ruled-sound (UpdateStatus now a o c) e = dealt o _ (Deal.status-update-keeps (offerIn m o) (isRepayer (m .settings) a) c) e
-  ruled-sound (UpdateRepaid now a o x) e = dealt o _ (Deal.repaid-update-keeps (offerIn m o) (isRepayer (m .settings) a) x) e
-  ruled-sound (UpdateLenderRepaid now a l c) e = posted l _ (Account.lender-repaid-keeps (accountIn m l) (isRepayer (m .settings) a) c) e
-  ruled-sound (UpdateTotalsRepaid now a x y) e = with-totals s _ (Settings.repay-keeps (m .totals) (isRepayer (m .settings) a) x y (s .totals) e)
-  ruled-sound (Pause now p) e = with-settings s _ (Settings.pause-keeps (m .settings) p true (s .settings) e)
-  ruled-sound (Unpause now p) e = with-settings s _ (Settings.pause-keeps (m .settings) p false (s .settings) e)
-  ruled-sound (SetWindow now p w) e = with-settings s _ (Settings.window-keeps (m .settings) p w (s .settings) e)
-  ruled-sound (SetRepaymentAccount now i p) e = with-settings s _ (Settings.repayer-keeps (m .settings) p i (accountIn m i .here) (s .settings) e)
-  ruled-sound (SetBlacklisted now i c p) e = posted i _ (Account.blacklist-keeps (accountIn m i) (adminPasses (m .settings) p) c) e
-  ruled-sound (SetSeats now p h q) e = with-settings s _ (Settings.seats-keeps (m .settings) p h q (s .settings) e)
+  ruled-sound : (c : Shape) → first (ruled m c .checks) ≡ 0 → ModelSound (ruled m c .done)
+  unfolding ruled
+  ruled-sound (opens a) e = with-accounts s _ (all-insert (λ r. accountSound r ≡ true) (m .accounts) a noAccount (s .accounts) Account.no-account-sound) (fits-ruled (s .fits) (opens a) e)
+  ruled-sound (account a u) e = posted a _ (keeps-account a u) e
+  ruled-sound (registers a i x) e =
+      with-invoices s _ (all-insert (λ r. invoiceSound r ≡ true) (m .invoices) i (invoiceOf a x) (s .invoices) (Invoice.registered-sound a x (not-false (inAmount x) (passed _ _ _ e .0)))) (fits-ruled (s .fits) (registers a i x) e)
+  ruled-sound (cancels a i) e = with-invoices s _ (invoice-put (m .invoices) i _ (s .invoices) (λ z. Invoice.status-sound 2 (invoiceIn m i .row) refl z)) (fits-ruled (s .fits) (cancels a i) e)
+  ruled-sound (creates a o i t x) e = created-sound a o i t x e
+  ruled-sound (offer o u) e = dealt o _ (keeps-offer o u) e
+  ruled-sound (accepts now a o) e = settled-sound s now o (both-pass (acceptChecks (offerIn m o) now a (paperOf m o)) _ e .1)
+  ruled-sound (amends now a o t n) e = amending-sound s now a o t n e
+  ruled-sound (counters now a o t n) e = countering-sound s now a o t n e
+  ruled-sound (totals a x y) e = with-totals s _ (Settings.repay-keeps (m .totals) (isRepayer (m .settings) a) x y (s .totals) e)
+  ruled-sound (settings u) e = with-settings s _ (keeps-settings u e)
 
   -- every command, accepted or refused, leaves a sound model
   pub keeps-sound : (c : Command) → first (commanded m c .checks) ≡ 0 → ModelSound (commanded m c .done)
-  keeps-sound c e = ruled-sound c (both-pass (gateChecks m c) (rule m c .checks) e .1)
+  keeps-sound c e = ruled-sound (shapeOf c) (both-pass (gateChecks m (shapeOf c)) (ruled m (shapeOf c) .checks) e .1)
 
   pub stays-sound : (c : Command) → ModelSound (after m (commanded m c))
   unfolding after

@@ -31,16 +31,14 @@ use Rattle.settings.specs.declared.Totals.{Totals}
 use Rattle.settings.specs.Settings.{settingsSound, adminPasses, isRepayer}
 use Rattle.settings.specs.Totals.{totalsSound}
 use Rattle.settings.specs.Laws as Settings
-use Rattle.shelves.specs.Accounts.{seenAccount, seenAt, onRow, settleAccounts}
-use Rattle.shelves.specs.Invoices.{seenInvoice}
-use Rattle.shelves.specs.Offers.{seenDeal}
-use Rattle.command.specs.declared.Command.{Command}
-use Rattle.command.specs.declared.Command.the-variants.{OpenAccount, Deposit, Payout, Approve, RegisterInvoice, CancelInvoice, CreateOffer, WithdrawOffer, AcceptOffer, RejectOffer, AmendOffer, CounterOffer, CloseNegotiation, ScheduleRepayment, UpdateStatus, UpdateRepaid, UpdateLenderRepaid, UpdateTotalsRepaid, Pause, Unpause, SetWindow, SetRepaymentAccount, SetBlacklisted, SetSeats}
-use Rattle.book.specs.Model.{Model, withAccounts, withInvoices, withOffers, withTotals, withSettings, accountIn, invoiceIn, offerIn, paperOf, onAccount, onInvoice, onOffer, onTotals, onSettings}
-use Rattle.book.specs.Rules.{gateChecks, opening, registering, creating, settling, concluding, agreeing, termsIn, lenderOf, originatorOf, amendedIn, counteredIn, amending, countering, rule, commanded}
-use Rattle.book.specs.Fitting.{fits-opened, fits-registered, fits-created, fits-settled}
+use Rattle.parties.specs.Settlement.{seenAt, onRow, settleAccounts}
+use Rattle.account.specs.Seen.{seenAccount}
+use Rattle.invoice.specs.Seen.{seenInvoice}
+use Rattle.offer.specs.Seen.{seenDeal}
+use Rattle.rules.specs.Model.{Model, withAccounts, withInvoices, withOffers, withTotals, withSettings, accountIn, invoiceIn, offerIn, paperOf, onAccount, onInvoice, onOffer, onTotals, onSettings}
+use Rattle.rules.specs.Rules.{gateChecks, opening, registering, creating, settling, concluding, agreeing, termsIn, lenderOf, originatorOf, amendedIn, counteredIn, amending, countering, commanded}
 use Rattle.table.specs.Keeping.{fine-adjust}
-use Rattle.book.specs.Shelving.{Fits}
+use Rattle.rules.specs.Fitting.{Fits, fits-settled}
 use Rattle.soundness.specs.Sound.{ModelSound, put-sound}
 
 abbrev pub Good : Table Account → Type 0

@@ -2,8 +2,8 @@
 use mathlib.Core.List.{List, [], _∷_}
 use Rattle.refusal.specs.Rule.{after}
 use Rattle.command.specs.declared.Command.{Command}
-use Rattle.book.specs.Model.{Model}
-use Rattle.book.specs.Rules.{commanded}
+use Rattle.rules.specs.Model.{Model}
+use Rattle.rules.specs.Rules.{commanded}
 
 unfoldable pub played : Model → List Command → Model
 played m [] = m

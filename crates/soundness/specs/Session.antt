@@ -13,11 +13,12 @@ use Rattle.terms.specs.declared.Terms.{Terms}
 use Rattle.negotiation.specs.Rounds.{deadlineOf, statusOf, addedOf, acceptedOf, latestBelow, matches, agreesOf}
 use Rattle.account.specs.declared.Account.{Account}
 use Rattle.offer.specs.Offer.{expired, settledDeal, amendedDeal, counteredDeal}
-use Rattle.command.specs.Caller.{callerOf, stoppedByPause}
+use Rattle.command.specs.Shape.{shapeOf}
+use Rattle.command.specs.Names.{accountNames, offerNames, settingsNames, namesFor}
 use Rattle.command.specs.declared.Command.{Command}
 use Rattle.command.specs.declared.Command.the-variants.{OpenAccount, Deposit, Approve, RegisterInvoice, CreateOffer, AcceptOffer, AmendOffer, CounterOffer}
-use Rattle.book.specs.Model.{Model, freshModel, accountIn}
-use Rattle.book.specs.Rules.{unknown, settling, concluding, agreeing, rule, commanded}
+use Rattle.rules.specs.Model.{Model, freshModel, accountIn}
+use Rattle.rules.specs.Rules.{settling, concluding, agreeing, accountRule, offerRule, settingsRule, ruled, commanded}
 
 unfoldable pub answersOf : Model → List Command → List ℕ
 answersOf m [] = []
@@ -46,7 +47,7 @@ session =
     ∷ []
 
 pub session-answers : answersOf freshModel session ≡ 0 ∷ 0 ∷ 0 ∷ 0 ∷ 0 ∷ 0 ∷ 0 ∷ 3 ∷ 0 ∷ 7 ∷ []
-unfolding answersOf session pick first after find adjust insert termsOk sameTerms deadlineOf statusOf addedOf acceptedOf latestBelow matches agreesOf expired settledDeal amendedDeal counteredDeal callerOf stoppedByPause unknown settling concluding agreeing rule
+unfolding answersOf session pick first after find adjust insert termsOk sameTerms deadlineOf statusOf addedOf acceptedOf latestBelow matches agreesOf expired settledDeal amendedDeal counteredDeal settling concluding agreeing shapeOf accountNames offerNames settingsNames namesFor accountRule offerRule settingsRule ruled
 session-answers = refl
 
 -- balance, allowance, offered, accepted
@@ -54,13 +55,13 @@ abbrev figures : Model → ℕ → List ℤ
 figures m a = accountIn m a .row .balance ∷ accountIn m a .row .allowance ∷ accountIn m a .row .offered ∷ accountIn m a .row .accepted ∷ []
 
 pub session-lender : figures (leaves freshModel session) 1 ≡ pos 4100 ∷ pos 4100 ∷ pos 900 ∷ pos 900 ∷ []
-unfolding leaves session pick first after find adjust insert termsOk sameTerms deadlineOf statusOf addedOf acceptedOf latestBelow matches agreesOf expired settledDeal amendedDeal counteredDeal callerOf stoppedByPause unknown settling concluding agreeing rule
+unfolding leaves session pick first after find adjust insert termsOk sameTerms deadlineOf statusOf addedOf acceptedOf latestBelow matches agreesOf expired settledDeal amendedDeal counteredDeal settling concluding agreeing shapeOf accountNames offerNames settingsNames namesFor accountRule offerRule settingsRule ruled
 session-lender = refl
 
 pub session-originator : figures (leaves freshModel session) 2 ≡ pos 900 ∷ pos 0 ∷ pos 0 ∷ pos 0 ∷ []
-unfolding leaves session pick first after find adjust insert termsOk sameTerms deadlineOf statusOf addedOf acceptedOf latestBelow matches agreesOf expired settledDeal amendedDeal counteredDeal callerOf stoppedByPause unknown settling concluding agreeing rule
+unfolding leaves session pick first after find adjust insert termsOk sameTerms deadlineOf statusOf addedOf acceptedOf latestBelow matches agreesOf expired settledDeal amendedDeal counteredDeal settling concluding agreeing shapeOf accountNames offerNames settingsNames namesFor accountRule offerRule settingsRule ruled
 session-originator = refl
 
 pub session-totals : leaves freshModel session .totals ≡ record { financed = pos 900; repaid = pos 0; fees = pos 0; offers = 1 }
-unfolding leaves session pick first after find adjust insert termsOk sameTerms deadlineOf statusOf addedOf acceptedOf latestBelow matches agreesOf expired settledDeal amendedDeal counteredDeal callerOf stoppedByPause unknown settling concluding agreeing rule
+unfolding leaves session pick first after find adjust insert termsOk sameTerms deadlineOf statusOf addedOf acceptedOf latestBelow matches agreesOf expired settledDeal amendedDeal counteredDeal settling concluding agreeing shapeOf accountNames offerNames settingsNames namesFor accountRule offerRule settingsRule ruled
 session-totals = refl

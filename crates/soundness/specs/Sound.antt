@@ -12,8 +12,8 @@ use Rattle.offer.specs.Laws.{DealKept}
 use Rattle.settings.specs.Settings.{settingsSound}
 use Rattle.settings.specs.Totals.{totalsSound}
 use Rattle.settings.specs.Laws.{fresh-sound, no-totals-sound}
-use Rattle.book.specs.Model.{Model, freshModel}
-use Rattle.book.specs.Shelving.{Fits}
+use Rattle.rules.specs.Model.{Model, freshModel}
+use Rattle.rules.specs.Fitting.{Fits}
 
 pub record ModelSound (m : Model) : Type 0 where
   pub fits : Fits m

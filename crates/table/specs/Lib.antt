@@ -22,3 +22,12 @@ pub mod TestMore
 pub mod Columns
 pub mod Parts
 pub mod OneResult
+pub mod Named
+pub mod Spots
+pub mod SameId
+pub mod NamedLaws
+pub mod Alike
+pub mod Touching
+pub mod SpotLaws
+pub mod Storing
+pub mod Short

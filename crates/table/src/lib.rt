@@ -3,11 +3,51 @@ ghost use lib.ListN.{take};
 ghost use Rattle.table.specs.Find.{findIn};
 ghost use Rattle.table.specs.Shift.{insertAt};
 ghost use Rattle.table.specs.Test.{idsTest};
+ghost use Rattle.table.specs.Named.{idOf, same};
+ghost use Rattle.table.specs.Spots.{spotOf, spotBy};
 
 /// Where an id stands, or the place at which it would be let in.
 pub enum Found {
     At(usize),
     Absent(usize),
+}
+
+/// The id of a row, where one is named.
+pub enum Named {
+    Nothing,
+    Id(u64),
+}
+
+/// Where a row is read and written: the place of its id, 0 where it has none, and the place at which it would be let in.
+pub struct Spot {
+    pub here: bool,
+    pub at: usize,
+    pub slot: usize,
+}
+
+impl Named {
+    /// The id that is named, 0 where none is.
+    pub fn id(self) -> u64
+        ensures { λ r. ⌜ r ≡ idOf self ⌝ }
+    {
+        match self {
+            Named::Nothing => 0,
+            Named::Id(i) => i,
+        }
+    }
+
+    /// Whether both name one id.
+    pub fn same(self, other: Named) -> bool
+        ensures { λ r. ⌜ r ≡ same self other ⌝ }
+    {
+        let Named::Id(i) = self else {
+            return false;
+        };
+        let Named::Id(j) = other else {
+            return false;
+        };
+        i == j
+    }
 }
 
 /// Looks for `id` among the first `len` ids.
@@ -60,4 +100,36 @@ pub fn ids_sound(ids: &[u64; 64], len: usize) -> bool
         i += 1;
     }
     (len <= 64) & ok
+}
+
+fn spot_of(f: Found) -> Spot
+    ensures { λ r. ⌜ r ≡ spotOf f ⌝ }
+{
+    match f {
+        Found::At(i) => Spot {
+            here: true,
+            at: i,
+            slot: i,
+        },
+        Found::Absent(i) => Spot {
+            here: false,
+            at: 0,
+            slot: i,
+        },
+    }
+}
+
+/// The spot of a named row among the first `len` ids.
+pub fn spot_by(ids: &[u64], len: usize, key: Named) -> Spot
+    ensures { λ r. ⌜ r ≡ spotBy (take len (now (ids .entry))) key ⌝ }
+{
+    let Named::Id(i) = key else {
+        return Spot {
+            here: false,
+            at: 0,
+            slot: 0,
+        };
+    };
+    let f = find(ids, len, i);
+    spot_of(f)
 }

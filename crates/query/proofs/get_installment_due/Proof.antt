@@ -18,16 +18,16 @@ sound-requires c κs = search needs
 returns : tie.Need-returns
 returns c = refuses reply bookUnsound _ _ _ (ap not (sym (c .before .sound .ensures .0)) ∙ c .if1 .taken)
 
-get-requires : tie.Need-get-requires
-get-requires c κs = (c .before .before .sound .ensures .1 (not-false (c .before .before .sound .result) (c .before .if1 .left))) .offers
+see-requires : tie.Need-see-requires
+see-requires c κs = (c .before .before .sound .ensures .1 (not-false (c .before .before .sound .result) (c .before .if1 .left))) .offers
 
 due-requires : tie.Need-due-requires
 due-requires c κs = search needs
 
 returns-2 : tie.Need-returns-2
 returns-2 c = goes-on reply bookUnsound _ _ _ (ap not (sym (c .before .before .before .before .before .sound .ensures .0)) ∙ c .before .before .before .before .if1 .left)
-    (does reply _ _ (ap (λ (n : ℕ). n ∷ []) (c .due .ensures ∙ ap (λ (s : SeenDeal). dueIn (s .row) (c .before .before .before .before .before .before .args .now)) (c .before .before .get .ensures))))
+    (does reply _ _ (ap (λ (n : ℕ). n ∷ []) (c .due .ensures ∙ ap (λ (s : SeenDeal). dueIn (s .row) (c .before .before .before .before .before .before .args .now)) (c .before .before .see .ensures))))
 
 pub get-installment-due-spec : {M : Type 1} → statement M
 get-installment-due-spec =
-    tie.close (tie.spec sound-requires returns get-requires due-requires returns-2)
+    tie.close (tie.spec sound-requires returns see-requires due-requires returns-2)

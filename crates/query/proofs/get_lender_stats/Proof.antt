@@ -16,16 +16,16 @@ sound-requires c κs = search needs
 returns : tie.Need-returns
 returns c = refuses reply bookUnsound _ _ _ (ap not (sym (c .before .sound .ensures .0)) ∙ c .if1 .taken)
 
-get-requires : tie.Need-get-requires
-get-requires c κs = (c .before .before .sound .ensures .1 (not-false (c .before .before .sound .result) (c .before .if1 .left))) .accounts
+see-requires : tie.Need-see-requires
+see-requires c κs = (c .before .before .sound .ensures .1 (not-false (c .before .before .sound .result) (c .before .if1 .left))) .accounts
 
 of-requires : tie.Need-of-requires
 of-requires c κs = search needs
 
 returns-2 : tie.Need-returns-2
 returns-2 c = goes-on reply bookUnsound _ _ _ (ap not (sym (c .before .before .before .before .before .sound .ensures .0)) ∙ c .before .before .before .before .if1 .left)
-    (does reply _ _ (ap lenderOrder (c .of .ensures ∙ ap (λ (s : SeenAccount). lenderNumbers (s .row)) (c .before .before .get .ensures))))
+    (does reply _ _ (ap lenderOrder (c .of .ensures ∙ ap (λ (s : SeenAccount). lenderNumbers (s .row)) (c .before .before .see .ensures))))
 
 pub get-lender-stats-spec : {M : Type 1} → statement M
 get-lender-stats-spec =
-    tie.close (tie.spec sound-requires returns get-requires of-requires returns-2)
+    tie.close (tie.spec sound-requires returns see-requires of-requires returns-2)

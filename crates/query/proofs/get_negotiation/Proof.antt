@@ -18,13 +18,13 @@ none-requires c κs = search needs
 returns : tie.Need-returns
 returns c = rw (c .none .ensures) (refuses negotiationTold bookUnsound _ _ _ (ap not (sym (c .before .before .sound .ensures .0)) ∙ c .before .if1 .taken))
 
-get-requires : tie.Need-get-requires
-get-requires c κs = (c .before .before .sound .ensures .1 (not-false (c .before .before .sound .result) (c .before .if1 .left))) .offers
+see-requires : tie.Need-see-requires
+see-requires c κs = (c .before .before .sound .ensures .1 (not-false (c .before .before .sound .result) (c .before .if1 .left))) .offers
 
 returns-2 : tie.Need-returns-2
 returns-2 c = goes-on negotiationTold bookUnsound _ _ _ (ap not (sym (c .before .before .before .before .before .sound .ensures .0)) ∙ c .before .before .before .before .if1 .left)
-    (does negotiationTold _ _ (ap (λ (s : SeenDeal). s .row .negotiation) (c .before .before .get .ensures)))
+    (does negotiationTold _ _ (ap (λ (s : SeenDeal). s .row .negotiation) (c .before .before .see .ensures)))
 
 pub get-negotiation-spec : {M : Type 1} → statement M
 get-negotiation-spec =
-    tie.close (tie.spec sound-requires none-requires returns get-requires returns-2)
+    tie.close (tie.spec sound-requires none-requires returns see-requires returns-2)

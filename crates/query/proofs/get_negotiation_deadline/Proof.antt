@@ -16,12 +16,12 @@ sound-requires c κs = search needs
 returns : tie.Need-returns
 returns c = refuses reply bookUnsound _ _ _ (ap not (sym (c .before .sound .ensures .0)) ∙ c .if1 .taken)
 
-get-requires : tie.Need-get-requires
-get-requires c κs = (c .before .before .sound .ensures .1 (not-false (c .before .before .sound .result) (c .before .if1 .left))) .offers
+see-requires : tie.Need-see-requires
+see-requires c κs = (c .before .before .sound .ensures .1 (not-false (c .before .before .sound .result) (c .before .if1 .left))) .offers
 
 returns-2 : tie.Need-returns-2
 returns-2 c = goes-on reply bookUnsound _ _ _ (ap not (sym (c .before .before .before .before .before .sound .ensures .0)) ∙ c .before .before .before .before .if1 .left)
-    (does reply _ _ (ap (λ (s : SeenDeal). s .row .negotiation .deadline ∷ []) (c .before .before .get .ensures)))
+    (does reply _ _ (ap (λ (s : SeenDeal). s .row .negotiation .deadline ∷ []) (c .before .before .see .ensures)))
 
 pub get-negotiation-deadline-spec : {M : Type 1} → statement M
-get-negotiation-deadline-spec = tie.close (tie.spec sound-requires returns get-requires returns-2)
+get-negotiation-deadline-spec = tie.close (tie.spec sound-requires returns see-requires returns-2)

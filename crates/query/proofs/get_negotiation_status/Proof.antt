@@ -18,19 +18,19 @@ sound-requires c κs = search needs
 returns : tie.Need-returns
 returns c = refuses reply bookUnsound _ _ _ (ap not (sym (c .before .sound .ensures .0)) ∙ c .if1 .taken)
 
-get-requires : tie.Need-get-requires
-get-requires c κs = (c .before .before .sound .ensures .1 (not-false (c .before .before .sound .result) (c .before .if1 .left))) .offers
+see-requires : tie.Need-see-requires
+see-requires c κs = (c .before .before .sound .ensures .1 (not-false (c .before .before .sound .result) (c .before .if1 .left))) .offers
 
 status-requires : tie.Need-status-requires
 status-requires c κs = search needs
 
-cast-t13 : tie.Need-cast-t13
-cast-t13 c = search needs
+cast-t14 : tie.Need-cast-t14
+cast-t14 c = search needs
 
 returns-2 : tie.Need-returns-2
 returns-2 c = goes-on reply bookUnsound _ _ _ (ap not (sym (c .before .before .before .before .before .before .before .sound .ensures .0)) ∙ c .before .before .before .before .before .before .if1 .left)
-    (does reply _ _ (ap (λ (n : ℕ). n ∷ []) (c .status .ensures ∙ ap (λ (s : SeenDeal). standing s (c .before .before .before .before .before .before .before .before .args .now)) (c .before .before .before .before .get .ensures))))
+    (does reply _ _ (ap (λ (n : ℕ). n ∷ []) (c .status .ensures ∙ ap (λ (s : SeenDeal). standing s (c .before .before .before .before .before .before .before .before .args .now)) (c .before .before .before .before .see .ensures))))
 
 pub get-negotiation-status-spec : {M : Type 1} → statement M
 get-negotiation-status-spec =
-    tie.close (tie.spec sound-requires returns get-requires status-requires cast-t13 returns-2)
+    tie.close (tie.spec sound-requires returns see-requires status-requires cast-t14 returns-2)

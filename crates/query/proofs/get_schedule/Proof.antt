@@ -18,8 +18,8 @@ sound-requires c κs = search needs
 returns : tie.Need-returns
 returns c = refuses reply bookUnsound _ _ _ (ap not (sym (c .before .sound .ensures .0)) ∙ c .if1 .taken)
 
-get-requires : tie.Need-get-requires
-get-requires c κs = (c .before .before .sound .ensures .1 (not-false (c .before .before .sound .result) (c .before .if1 .left))) .offers
+see-requires : tie.Need-see-requires
+see-requires c κs = (c .before .before .sound .ensures .1 (not-false (c .before .before .sound .result) (c .before .if1 .left))) .offers
 
 schedule-zero-requires : tie.Need-schedule-zero-requires
 schedule-zero-requires c κs = search needs
@@ -27,7 +27,7 @@ schedule-zero-requires c κs = search needs
 returns-2 : tie.Need-returns-2
 unfolding scheduleValues
 returns-2 c = goes-on reply bookUnsound _ _ _ (ap not (sym (c .before .before .before .before .before .before .before .sound .ensures .0)) ∙ c .before .before .before .before .before .before .if1 .left)
-    (does reply _ _ (on _ (ap (λ (s : SeenDeal). scheduleZero (s .row .schedule)) (sym (c .before .before .before .before .get .ensures)) ∙ sym (c .before .schedule-zero .ensures) ∙ c .if2 .taken) refl))
+    (does reply _ _ (on _ (ap (λ (s : SeenDeal). scheduleZero (s .row .schedule)) (sym (c .before .before .before .before .see .ensures)) ∙ sym (c .before .schedule-zero .ensures) ∙ c .if2 .taken) refl))
 
 of-requires : tie.Need-of-requires
 of-requires c κs = search needs
@@ -35,8 +35,8 @@ of-requires c κs = search needs
 returns-3 : tie.Need-returns-3
 unfolding scheduleValues
 returns-3 c = goes-on reply bookUnsound _ _ _ (ap not (sym (c .before .before .before .before .before .before .before .before .sound .ensures .0)) ∙ c .before .before .before .before .before .before .before .if1 .left)
-    (does reply _ _ (off _ (ap (λ (s : SeenDeal). scheduleZero (s .row .schedule)) (sym (c .before .before .before .before .before .get .ensures)) ∙ sym (c .before .before .schedule-zero .ensures) ∙ c .before .if2 .left)
-    (ap scheduleOrder (c .of .ensures ∙ ap (λ (s : SeenDeal). scheduleNumbers (s .row .schedule)) (c .before .before .before .before .before .get .ensures)))))
+    (does reply _ _ (off _ (ap (λ (s : SeenDeal). scheduleZero (s .row .schedule)) (sym (c .before .before .before .before .before .see .ensures)) ∙ sym (c .before .before .schedule-zero .ensures) ∙ c .before .if2 .left)
+    (ap scheduleOrder (c .of .ensures ∙ ap (λ (s : SeenDeal). scheduleNumbers (s .row .schedule)) (c .before .before .before .before .before .see .ensures)))))
 
 pub get-schedule-spec : {M : Type 1} → statement M
 get-schedule-spec =
@@ -44,7 +44,7 @@ get-schedule-spec =
     (tie.spec
     sound-requires
     returns
-    get-requires
+    see-requires
     schedule-zero-requires
     returns-2
     of-requires

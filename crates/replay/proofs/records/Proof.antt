@@ -1,306 +1,488 @@
-use Rattle.replay.specs.Placing.{found-steps, absent-stays, absent-room, absent-grows}
-use Rattle.replay.specs.Standing.{fresh}
-use Rattle.replay.specs.Ahead.{ahead, inside}
-use Rattle.sheet.specs.SheetLaws.{kept}
-use Rattle.book.specs.Stored.{Shelved}
-use Rattle.journal.specs.Format.{readAt}
-use Rattle.journal.specs.Answers.{reading, found}
-use Rattle.command.specs.Caller.{offerNamed}
-use Rattle.shelves.specs.Offers.{dealsOf, storedDeals}
-use Rattle.table.specs.Tables.{insert}
-use Rattle.table.specs.ShelfLaws.{at-below}
-use Rattle.table.specs.Find.{findIn}
 use Prim.Native.Nat.{_+_, _-_, _<_}
+use mathlib.Core.Path.{_≡_, refl, sym, ap, _∙_}
+use mathlib.Core.Bool.{false}
+use mathlib.Core.Logic.{⊎-elim}
+use native.Mathlib.Omega.{arith}
 use mir.Syntax.{w64}
 use mir.Val.{Fits}
-use native.Mathlib.Omega.{arith}
-use lib.ListN.{length, take}
+use lib.ListN.{length, take, set}
 use borrow.Author.Needs.{needs}
-use borrow.Author.Tests.{not-true, not-false}
-use mathlib.Core.Bool.{false}
-use mathlib.Core.Path.{_≡_, sym, ap, _∙_}
+use Rattle.table.specs.Find.{findIn}
+use Rattle.table.specs.declared.Found.the-variants.{Absent}
+use Rattle.table.specs.Named.{putBy, idOf}
+use Rattle.table.specs.SpotLaws.{spot-below, spot-found, spot-slot, slot-inside, on-spot, off-spot}
+use Rattle.table.specs.Storing.{Left, good, stays, named, room, grows, once}
+use Rattle.table.specs.ShelfLaws.{full-is}
+use Rattle.account.specs.Seen.{seenAccount}
+use Rattle.invoice.specs.Seen.{seenInvoice}
+use Rattle.offer.specs.Offer.{noDeal}
+use Rattle.offer.specs.Seen.{seenDeal}
+use Rattle.shelves.specs.Accounts.{accountsOf, asAccounts, storedAccounts}
+use Rattle.shelves.specs.Invoices.{invoicesOf, asInvoices, storedInvoices}
+use Rattle.shelves.specs.Offers.{dealsOf, storedDeals}
+use Rattle.shelves.specs.Laws.{accounts-keeping, invoices-keeping}
+use Rattle.shelves.specs.OfferLaws.{deals-keeping}
+use Rattle.shelves.specs.Moving.{Moves, moved, moves, moves-up, deals-moved}
+use Rattle.shelves.specs.Placing.{accounts-wrote, invoice-wrote, deal-read, deal-there, deal-gone, came-new, was-by, room-count}
+use Rattle.shelves.specs.Seeing.{accountRow, invoiceRow, dealRow}
 use Rattle.sheet.specs.Sheet.{penAt}
-use Rattle.book.specs.Near.{bookWith}
+use Rattle.sheet.specs.SheetLaws.{kept}
+use Rattle.journal.specs.Format.{readAt}
+use Rattle.journal.specs.Answers.{reading, found}
+use Rattle.rules.specs.Model.{accountBy, invoiceBy, offerBy}
+use Rattle.rules.specs.Keys.{keysBy}
+use Rattle.book.specs.Stored.{modelOf, Shelved}
+use Rattle.book.specs.Turning.{bookBy, Turned, turned, fetched, full-by, next, accounts-left, invoices-left, offers-left, steps}
+use Rattle.replay.specs.Standing.{fresh, stepped}
+use Rattle.replay.specs.Ahead.{ahead, inside}
 use Rattle.replay.specs.Going.{Going, going, going-on, gone-bad, gone}
 use Rattle.replay.proofs.records.Statement.{statement}
 use Rattle.replay.proofs.records.Tie as tie
 
+abbrev Inv-loop2 : tie.InvT-loop2
+Inv-loop2 s out ink first accounts invoices offers₀ totals settings pen at k next io ii ia ib one n ci₀ co₀ cg₀ cp₀ j₀ offers ci co cg cp j =
+    Moves n (moved offers₀ j₀ ci₀ co₀ cg₀ cp₀) offers j ci co cg cp
+
+abbrev μ-loop2 : tie.MeasureT-loop2
+μ-loop2 s out ink first accounts invoices offers₀ totals settings pen at k next io ii ia ib one n ci₀ co₀ cg₀ cp₀ j₀ offers ci co cg cp j =
+    n + 1 - j
+
 abbrev Inv-loop : tie.InvT-loop
-Inv-loop s out₀ ink first none near₀ offers₀ pen₀ at₀ k₀ out near offers pen at k = Going ink s first out₀ (penAt 0 false) out at k (bookWith near offers) pen
+Inv-loop s out₀ ink first accounts₀ invoices₀ offers₀ totals₀ settings₀ pen₀ at₀ k₀ out accounts invoices offers totals settings pen at k =
+    Going ink s first out₀ (penAt 0 false) out at k (bookBy accounts invoices offers totals settings) pen
 
 abbrev μ-loop : tie.MeasureT-loop
-μ-loop s out₀ ink first none near₀ offers₀ pen₀ at₀ k₀ out near offers pen at k = length s - at
+μ-loop s out₀ ink first accounts₀ invoices₀ offers₀ totals₀ settings₀ pen₀ at₀ k₀ out accounts invoices offers totals settings pen at k =
+    length s - at
 
--- the record that was read, and where its offer stands
-module _ (c : tie.After-find Inv-loop μ-loop) where
-  record-read : readAt (c .before .before .before .before .before .before .before .before .before .before .before .before .before .before .before .before .args .s .now) (c .before .before .before .before .before .before .before .before .before .loop .at) ≡ found (c .before .before .before .before .before .before .d .given .0 .0) (c .before .before .before .before .before .before .d .given .0 .1 .0)
-  record-read = sym (c .before .before .before .before .before .before .before .before .read .ensures) ∙ ap reading (c .before .before .before .before .before .before .d .given .1)
+record-read : (c : tie.After-names Inv-loop2 μ-loop2 Inv-loop μ-loop) → readAt (c .before .before .before .before .before .before .before .before .before .before .before .before .before .before .args .s .now) (c .before .before .before .before .before .loop .at) ≡ found (c .before .before .d .given .0 .0) (c .before .before .d .given .0 .1 .0)
+record-read c = sym (c .before .before .before .before .read .ensures) ∙ ap reading (c .before .before .d .given .1)
 
-  found-there : findIn (take (c .before .before .before .before .before .before .before .before .before .loop .offers .count) (c .before .before .before .before .before .before .before .before .before .loop .offers .ids)) (offerNamed (c .before .before .before .before .before .before .d .given .0 .0)) ≡ c .find .result
-  found-there = ap (findIn (take (c .before .before .before .before .before .before .before .before .before .loop .offers .count) (c .before .before .before .before .before .before .before .before .before .loop .offers .ids))) (sym (c .before .before .before .before .offer .ensures)) ∙ sym (c .find .ensures)
+shelved : (c : tie.After-names Inv-loop2 μ-loop2 Inv-loop μ-loop) → Shelved (bookBy (c .before .before .before .before .before .loop .accounts) (c .before .before .before .before .before .loop .invoices) (c .before .before .before .before .before .loop .offers) (c .before .before .before .before .before .loop .totals) (c .before .before .before .before .before .loop .settings))
+shelved c = c .before .before .before .before .before .loop .inv .plays .stand .shelved
 
-  shelved : Shelved (bookWith (c .before .before .before .before .before .before .before .before .before .loop .near) (c .before .before .before .before .before .before .before .before .before .loop .offers))
-  shelved = c .before .before .before .before .before .before .before .before .before .loop .inv .plays .stand .shelved
+more : (c : tie.After-names Inv-loop2 μ-loop2 Inv-loop μ-loop) → Fits w64 (c .before .before .before .before .before .loop .k + 1)
+more c = omega (arith, c .before .before .before .before .before .loop .inv .plays .stand .few, ahead _ _ (record-read c))
 
-  more : Fits w64 (c .before .before .before .before .before .before .before .before .before .loop .k + 1)
-  more = omega (arith, c .before .before .before .before .before .before .before .before .before .loop .inv .plays .stand .few, ahead _ _ record-read)
+below-o : (c : tie.After-spot-by Inv-loop2 μ-loop2 Inv-loop μ-loop) → c .spot-by .result .at < 64
+below-o c = spot-below (shelved (c .before .before .before .before) .offers .shelf) (omega arith) (c .before .before .before .before .names .result .offer) (c .spot-by .ensures)
 
-below : (c : tie.After-known-told2 Inv-loop μ-loop) → c .before .f .given .0 .0 < 64
-below c = at-below (shelved (c .before .before .before) .offers .shelf) _ _ (found-there (c .before .before .before) ∙ c .before .f .given .1)
+seen-o : (c : tie.Joined1 Inv-loop2 μ-loop2 Inv-loop μ-loop) → c .if1 .x ≡ offerBy (modelOf (bookBy (c .before .before .before .before .before .before .before .before .before .before .before .loop .accounts) (c .before .before .before .before .before .before .before .before .before .before .before .loop .invoices) (c .before .before .before .before .before .before .before .before .before .before .before .loop .offers) (c .before .before .before .before .before .before .before .before .before .before .before .loop .totals) (c .before .before .before .before .before .before .before .before .before .before .before .loop .settings))) (c .before .before .before .before .before .before .names .result .offer)
+seen-o c = ⊎-elim (λ t. t .4 ∙ ap seenDeal (sym (deal-read (shelved (c .before .before .before .before .before .before) .offers) _ _ _ (c .before .before .before .before .before .before .names .result .offer) (c .before .before .spot-by .ensures) ∙ on-spot _ (t .0 .taken)))) (λ l. l .1 ∙ c .before .none .ensures ∙ ap seenDeal (sym ((deal-read (shelved (c .before .before .before .before .before .before) .offers) (noDeal .offer) (noDeal .negotiation) (noDeal .schedule) (c .before .before .before .before .before .before .names .result .offer) (c .before .before .spot-by .ensures)) ∙ off-spot _ (l .0 .left)))) (c .if1 .came)
 
--- src/lib.rt:94:9
-fresh-requires : tie.Need-fresh-requires Inv-loop μ-loop
+below-i : (c : tie.After-spot-by2 Inv-loop2 μ-loop2 Inv-loop μ-loop) → c .spot-by2 .result .at < 64
+below-i c = spot-below (shelved (c .before .before .before .before .before .before .before .before .before .before .before) .invoices) (omega arith) (c .before .before .before .before .key .result) (c .spot-by2 .ensures)
+
+seen-i : (c : tie.After-at Inv-loop2 μ-loop2 Inv-loop μ-loop) → c .at .result ≡ invoiceBy (modelOf (bookBy (c .before .before .before .before .before .before .before .before .before .before .before .before .before .before .before .before .before .before .loop .accounts) (c .before .before .before .before .before .before .before .before .before .before .before .before .before .before .before .before .before .before .loop .invoices) (c .before .before .before .before .before .before .before .before .before .before .before .before .before .before .before .before .before .before .loop .offers) (c .before .before .before .before .before .before .before .before .before .before .before .before .before .before .before .before .before .before .loop .totals) (c .before .before .before .before .before .before .before .before .before .before .before .before .before .before .before .before .before .before .loop .settings))) (c .before .before .before .before .before .before .key .result)
+seen-i c = c .at .ensures ∙ ap seenInvoice (sym (spot-found (shelved (c .before .before .before .before .before .before .before .before .before .before .before .before .before) .invoices) (omega arith) (c .before .before .before .before .before .before .key .result) (c .before .before .spot-by2 .ensures)))
+
+below-a : (c : tie.After-spot-by3 Inv-loop2 μ-loop2 Inv-loop μ-loop) → c .spot-by3 .result .at < 64
+below-a c = spot-below (shelved (c .before .before .before .before .before .before .before .before .before .before .before .before .before .before .before .before .before .before) .accounts) (omega arith) (c .before .before .before .before .before .before .before .before .before .before .before .before .before .before .before .before .before .before .names .result .first) (c .spot-by3 .ensures)
+
+seen-a : (c : tie.After-at2 Inv-loop2 μ-loop2 Inv-loop μ-loop) → c .at2 .result ≡ accountBy (modelOf (bookBy (c .before .before .before .before .before .before .before .before .before .before .before .before .before .before .before .before .before .before .before .before .before .before .before .before .before .loop .accounts) (c .before .before .before .before .before .before .before .before .before .before .before .before .before .before .before .before .before .before .before .before .before .before .before .before .before .loop .invoices) (c .before .before .before .before .before .before .before .before .before .before .before .before .before .before .before .before .before .before .before .before .before .before .before .before .before .loop .offers) (c .before .before .before .before .before .before .before .before .before .before .before .before .before .before .before .before .before .before .before .before .before .before .before .before .before .loop .totals) (c .before .before .before .before .before .before .before .before .before .before .before .before .before .before .before .before .before .before .before .before .before .before .before .before .before .loop .settings))) (c .before .before .before .before .before .before .before .before .before .before .before .before .before .before .before .before .before .before .before .before .names .result .first)
+seen-a c = c .at2 .ensures ∙ ap seenAccount (sym (spot-found (shelved (c .before .before .before .before .before .before .before .before .before .before .before .before .before .before .before .before .before .before .before .before) .accounts) (omega arith) (c .before .before .before .before .before .before .before .before .before .before .before .before .before .before .before .before .before .before .before .before .names .result .first) (c .before .before .spot-by3 .ensures)))
+
+below-b : (c : tie.After-spot-by4 Inv-loop2 μ-loop2 Inv-loop μ-loop) → c .spot-by4 .result .at < 64
+below-b c = spot-below (shelved (c .before .before .before .before .before .before .before .before .before .before .before .before .before .before .before .before .before .before .before .before .before .before .before .before) .accounts) (omega arith) (c .before .before .before .before .before .before .before .before .before .before .key2 .result) (c .spot-by4 .ensures)
+
+seen-b : (c : tie.After-at3 Inv-loop2 μ-loop2 Inv-loop μ-loop) → c .at3 .result ≡ accountBy (modelOf (bookBy (c .before .before .before .before .before .before .before .before .before .before .before .before .before .before .before .before .before .before .before .before .before .before .before .before .before .before .before .before .before .before .before .loop .accounts) (c .before .before .before .before .before .before .before .before .before .before .before .before .before .before .before .before .before .before .before .before .before .before .before .before .before .before .before .before .before .before .before .loop .invoices) (c .before .before .before .before .before .before .before .before .before .before .before .before .before .before .before .before .before .before .before .before .before .before .before .before .before .before .before .before .before .before .before .loop .offers) (c .before .before .before .before .before .before .before .before .before .before .before .before .before .before .before .before .before .before .before .before .before .before .before .before .before .before .before .before .before .before .before .loop .totals) (c .before .before .before .before .before .before .before .before .before .before .before .before .before .before .before .before .before .before .before .before .before .before .before .before .before .before .before .before .before .before .before .loop .settings))) (c .before .before .before .before .before .before .before .before .before .before .before .before .key2 .result)
+seen-b c = c .at3 .ensures ∙ ap seenAccount (sym (spot-found (shelved (c .before .before .before .before .before .before .before .before .before .before .before .before .before .before .before .before .before .before .before .before .before .before .before .before .before .before) .accounts) (omega arith) (c .before .before .before .before .before .before .before .before .before .before .before .before .key2 .result) (c .before .before .spot-by4 .ensures)))
+
+step : (c : tie.After-turn Inv-loop2 μ-loop2 Inv-loop μ-loop) → Turned (bookBy (c .before .before .before .before .before .before .before .before .before .before .before .before .before .before .before .before .before .before .before .before .before .before .before .before .before .before .before .before .before .before .before .before .before .loop .accounts) (c .before .before .before .before .before .before .before .before .before .before .before .before .before .before .before .before .before .before .before .before .before .before .before .before .before .before .before .before .before .before .before .before .before .loop .invoices) (c .before .before .before .before .before .before .before .before .before .before .before .before .before .before .before .before .before .before .before .before .before .before .before .before .before .before .before .before .before .before .before .before .before .loop .offers) (c .before .before .before .before .before .before .before .before .before .before .before .before .before .before .before .before .before .before .before .before .before .before .before .before .before .before .before .before .before .before .before .before .before .loop .totals) (c .before .before .before .before .before .before .before .before .before .before .before .before .before .before .before .before .before .before .before .before .before .before .before .before .before .before .before .before .before .before .before .before .before .loop .settings)) (c .before .before .before .before .before .before .before .before .before .before .before .before .before .before .before .before .before .before .before .before .before .before .before .before .before .before .before .before .before .before .d .given .0 .0) (keysBy (c .before .before .before .before .before .before .before .before .before .before .before .before .before .before .before .before .before .before .before .before .before .before .before .before .before .before .before .before .names .result .first) (c .before .before .before .before .before .before .before .before .before .before .before .before .before .before .key2 .result) (c .before .before .before .before .before .before .before .before .before .before .before .before .before .before .before .before .before .before .before .before .before .key .result) (c .before .before .before .before .before .before .before .before .before .before .before .before .before .before .before .before .before .before .before .before .before .before .before .before .before .before .before .before .names .result .offer)) (c .turn .result)
+step c = turned (shelved (c .before .before .before .before .before .before .before .before .before .before .before .before .before .before .before .before .before .before .before .before .before .before .before .before .before .before .before .before)) (fetched (c .before .before .before .before .before .before .before .before .before .before .before .before .before .before .before .before .before .before .before .before .before .before .before .before .before .before .before .before .names .ensures) (seen-o (c .before .before .before .before .before .before .before .before .before .before .before .before .before .before .before .before .before .before .before .before .before .before)) (c .before .before .before .before .before .before .before .before .before .before .before .before .before .before .before .before .before .before .before .before .before .key .ensures) (seen-i (c .before .before .before .before .before .before .before .before .before .before .before .before .before .before .before)) (c .before .before .before .before .before .before .before .before .before .before .before .before .before .before .key2 .ensures) (seen-a (c .before .before .before .before .before .before .before .before)) (seen-b (c .before .before)) (c .before .same .ensures)) (full-by (bookBy (c .before .before .before .before .before .before .before .before .before .before .before .before .before .before .before .before .before .before .before .before .before .before .before .before .before .before .before .before .before .before .before .before .before .loop .accounts) (c .before .before .before .before .before .before .before .before .before .before .before .before .before .before .before .before .before .before .before .before .before .before .before .before .before .before .before .before .before .before .before .before .before .loop .invoices) (c .before .before .before .before .before .before .before .before .before .before .before .before .before .before .before .before .before .before .before .before .before .before .before .before .before .before .before .before .before .before .before .before .before .loop .offers) (c .before .before .before .before .before .before .before .before .before .before .before .before .before .before .before .before .before .before .before .before .before .before .before .before .before .before .before .before .before .before .before .before .before .loop .totals) (c .before .before .before .before .before .before .before .before .before .before .before .before .before .before .before .before .before .before .before .before .before .before .before .before .before .before .before .before .before .before .before .before .before .loop .settings)) (full-is (shelved (c .before .before .before .before .before .before .before .before .before .before .before .before .before .before .before .before .before .before .before .before .before .before .before .before .before .before .before .before) .accounts)) (full-is (shelved (c .before .before .before .before .before .before .before .before .before .before .before .before .before .before .before .before .before .before .before .before .before .before .before .before .before .before .before .before) .invoices)) (full-is (shelved (c .before .before .before .before .before .before .before .before .before .before .before .before .before .before .before .before .before .before .before .before .before .before .before .before .before .before .before .before) .offers .shelf))) (c .turn .ensures)
+
+left-a : (c : tie.After-turn Inv-loop2 μ-loop2 Inv-loop μ-loop) → Left 64 accountRow (accountsOf (c .before .before .before .before .before .before .before .before .before .before .before .before .before .before .before .before .before .before .before .before .before .before .before .before .before .before .before .before .before .before .before .before .before .loop .accounts)) (next (step c) .accounts) (c .before .before .before .before .before .before .before .before .before .before .before .before .before .before .before .before .before .before .before .before .before .before .before .before .before .before .before .before .names .result .first) (c .before .before .before .before .before .before .before .before .before .before .before .before .before .before .key2 .result) (c .before .before .before .before .before .before .before .before .before .before .spot-by3 .result .here) (c .turn .result .near .parties .first .here) (c .turn .result .near .parties .first .row) (c .turn .result .near .parties .second .row)
+left-a c = accounts-left (step c) (was-by _ _ (spot-found (shelved (c .before .before .before .before .before .before .before .before .before .before .before .before .before .before .before .before .before .before .before .before .before .before .before .before .before .before .before .before) .accounts) (omega arith) (c .before .before .before .before .before .before .before .before .before .before .before .before .before .before .before .before .before .before .before .before .before .before .before .before .before .before .before .before .names .result .first) (c .before .before .before .before .before .before .before .before .before .before .spot-by3 .ensures)))
+
+left-i : (c : tie.After-turn Inv-loop2 μ-loop2 Inv-loop μ-loop) → Left 64 invoiceRow (invoicesOf (c .before .before .before .before .before .before .before .before .before .before .before .before .before .before .before .before .before .before .before .before .before .before .before .before .before .before .before .before .before .before .before .before .before .loop .invoices)) (next (step c) .invoices) (c .before .before .before .before .before .before .before .before .before .before .before .before .before .before .before .before .before .before .before .before .before .key .result) (c .before .before .before .before .before .before .before .before .before .before .before .before .before .before .before .before .before .before .before .before .before .key .result) (c .before .before .before .before .before .before .before .before .before .before .before .before .before .before .before .before .before .spot-by2 .result .here) (c .turn .result .near .paper .here) (c .turn .result .near .paper .row) (c .turn .result .near .paper .row)
+left-i c = invoices-left (step c) (was-by _ _ (spot-found (shelved (c .before .before .before .before .before .before .before .before .before .before .before .before .before .before .before .before .before .before .before .before .before .before .before .before .before .before .before .before) .invoices) (omega arith) (c .before .before .before .before .before .before .before .before .before .before .before .before .before .before .before .before .before .before .before .before .before .key .result) (c .before .before .before .before .before .before .before .before .before .before .before .before .before .before .before .before .before .spot-by2 .ensures)))
+
+left-o : (c : tie.After-turn Inv-loop2 μ-loop2 Inv-loop μ-loop) → Left 64 dealRow (dealsOf (c .before .before .before .before .before .before .before .before .before .before .before .before .before .before .before .before .before .before .before .before .before .before .before .before .before .before .before .before .before .before .before .before .before .loop .offers)) (next (step c) .offers) (c .before .before .before .before .before .before .before .before .before .before .before .before .before .before .before .before .before .before .before .before .before .before .before .before .before .before .before .before .names .result .offer) (c .before .before .before .before .before .before .before .before .before .before .before .before .before .before .before .before .before .before .before .before .before .before .before .before .before .before .before .before .names .result .offer) (c .before .before .before .before .before .before .before .before .before .before .before .before .before .before .before .before .before .before .before .before .before .before .before .before .spot-by .result .here) (c .turn .result .near .deal .here) (c .turn .result .near .deal .row) (c .turn .result .near .deal .row)
+left-o c = offers-left (step c) (was-by _ _ (deal-read (shelved (c .before .before .before .before .before .before .before .before .before .before .before .before .before .before .before .before .before .before .before .before .before .before .before .before .before .before .before .before) .offers) (noDeal .offer) (noDeal .negotiation) (noDeal .schedule) (c .before .before .before .before .before .before .before .before .before .before .before .before .before .before .before .before .before .before .before .before .before .before .before .before .before .before .before .before .names .result .offer) (c .before .before .before .before .before .before .before .before .before .before .before .before .before .before .before .before .before .before .before .before .before .before .before .before .spot-by .ensures)))
+
+wrote-a : (c : tie.After-over2 Inv-loop2 μ-loop2 Inv-loop μ-loop) → asAccounts (c .before .before .before .before .before .before .before .before .before .before .before .before .before .before .before .before .before .before .before .before .before .before .before .before .before .before .before .before .before .before .before .before .before .before .before .before .before .before .before .before .before .before .before .before .loop .accounts .ids) (set (set (c .before .before .before .before .before .before .before .before .before .before .before .before .before .before .before .before .before .before .before .before .before .before .before .before .before .before .before .before .before .before .before .before .before .before .before .before .before .before .before .before .before .before .before .before .loop .accounts .rows) (c .before .before .before .before .before .before .before .before .before .before .before .before .before .before .before .spot-by4 .result .at) (c .before .before .before .over .result)) (c .before .before .before .before .before .before .before .before .before .before .before .before .before .before .before .before .before .before .before .before .before .spot-by3 .result .at) (c .over2 .result)) (c .before .before .before .before .before .before .before .before .before .before .before .before .before .before .before .before .before .before .before .before .before .before .before .before .before .before .before .before .before .before .before .before .before .before .before .before .before .before .before .before .before .before .before .before .loop .accounts .count) ≡ storedAccounts (putBy (putBy (accountsOf (c .before .before .before .before .before .before .before .before .before .before .before .before .before .before .before .before .before .before .before .before .before .before .before .before .before .before .before .before .before .before .before .before .before .before .before .before .before .before .before .before .before .before .before .before .loop .accounts)) (c .before .before .before .before .before .before .before .before .before .before .before .before .before .before .before .before .before .before .before .before .before .before .before .before .before .key2 .result) (c .before .before .before .before .before .before .before .before .before .before .before .turn .result .near .parties .second .row)) (c .before .before .before .before .before .before .before .before .before .before .before .before .before .before .before .before .before .before .before .before .before .before .before .before .before .before .before .before .before .before .before .before .before .before .before .before .before .before .before .names .result .first) (c .before .before .before .before .before .before .before .before .before .before .before .turn .result .near .parties .first .row))
+wrote-a c = accounts-wrote (shelved (c .before .before .before .before .before .before .before .before .before .before .before .before .before .before .before .before .before .before .before .before .before .before .before .before .before .before .before .before .before .before .before .before .before .before .before .before .before .before .before) .accounts) (c .before .before .before .before .before .before .before .before .before .before .before .before .before .before .before .before .before .before .before .before .before .before .before .before .before .before .before .before .before .before .before .before .before .before .before .before .before .before .before .names .result .first) (c .before .before .before .before .before .before .before .before .before .before .before .before .before .before .before .before .before .before .before .before .before .before .before .before .before .key2 .result) (c .before .before .before .before .before .before .before .before .before .before .before .before .before .before .before .before .before .before .before .before .before .spot-by3 .ensures) (c .before .before .before .before .before .before .before .before .before .before .before .before .before .before .before .spot-by4 .ensures) (c .before .before .before .before .before .before .before .before .before .before .before .turn .result .near .parties .first .row) (c .before .before .before .before .before .before .before .before .before .before .before .turn .result .near .parties .second .row) (c .before .before .before .over .ensures) (c .over2 .ensures)
+
+wrote-i : (c : tie.After-over3 Inv-loop2 μ-loop2 Inv-loop μ-loop) → asInvoices (c .before .before .before .before .before .before .before .before .before .before .before .before .before .before .before .before .before .before .before .before .before .before .before .before .before .before .before .before .before .before .before .before .before .before .before .before .before .before .before .before .before .before .before .before .before .before .loop .invoices .ids) (set (c .before .before .before .before .before .before .before .before .before .before .before .before .before .before .before .before .before .before .before .before .before .before .before .before .before .before .before .before .before .before .before .before .before .before .before .before .before .before .before .before .before .before .before .before .before .before .loop .invoices .rows) (c .before .before .before .before .before .before .before .before .before .before .before .before .before .before .before .before .before .before .before .before .before .before .before .before .before .before .before .before .before .before .spot-by2 .result .at) (c .over3 .result)) (c .before .before .before .before .before .before .before .before .before .before .before .before .before .before .before .before .before .before .before .before .before .before .before .before .before .before .before .before .before .before .before .before .before .before .before .before .before .before .before .before .before .before .before .before .before .before .loop .invoices .count) ≡ storedInvoices (putBy (putBy (invoicesOf (c .before .before .before .before .before .before .before .before .before .before .before .before .before .before .before .before .before .before .before .before .before .before .before .before .before .before .before .before .before .before .before .before .before .before .before .before .before .before .before .before .before .before .before .before .before .before .loop .invoices)) (c .before .before .before .before .before .before .before .before .before .before .before .before .before .before .before .before .before .before .before .before .before .before .before .before .before .before .before .before .before .before .before .before .before .before .key .result) (c .before .before .before .before .before .before .before .before .before .before .before .before .before .turn .result .near .paper .row)) (c .before .before .before .before .before .before .before .before .before .before .before .before .before .before .before .before .before .before .before .before .before .before .before .before .before .before .before .before .before .before .before .before .before .before .key .result) (c .before .before .before .before .before .before .before .before .before .before .before .before .before .turn .result .near .paper .row))
+wrote-i c = once storedInvoices (invoicesOf (c .before .before .before .before .before .before .before .before .before .before .before .before .before .before .before .before .before .before .before .before .before .before .before .before .before .before .before .before .before .before .before .before .before .before .before .before .before .before .before .before .before .before .before .before .before .before .loop .invoices)) (c .before .before .before .before .before .before .before .before .before .before .before .before .before .before .before .before .before .before .before .before .before .before .before .before .before .before .before .before .before .before .before .before .before .before .key .result) (c .before .before .before .before .before .before .before .before .before .before .before .before .before .turn .result .near .paper .row) (invoice-wrote (shelved (c .before .before .before .before .before .before .before .before .before .before .before .before .before .before .before .before .before .before .before .before .before .before .before .before .before .before .before .before .before .before .before .before .before .before .before .before .before .before .before .before .before) .invoices) (c .before .before .before .before .before .before .before .before .before .before .before .before .before .before .before .before .before .before .before .before .before .before .before .before .before .before .before .before .before .before .before .before .before .before .key .result) (c .before .before .before .before .before .before .before .before .before .before .before .before .before .before .before .before .before .before .before .before .before .before .before .before .before .before .before .before .before .before .spot-by2 .ensures) (c .before .before .before .before .before .before .before .before .before .before .before .before .before .turn .result .near .paper .row) (c .over3 .ensures))
+
+wrote-o : (c : tie.Joined2 Inv-loop2 μ-loop2 Inv-loop μ-loop) → c .if2 .offers ≡ storedDeals (putBy (putBy (dealsOf (c .before .before .before .before .before .before .before .before .before .before .before .before .before .before .before .before .before .before .before .before .before .before .before .before .before .before .before .before .before .before .before .before .before .before .before .before .before .before .before .before .before .before .before .before .before .before .before .loop .offers)) (c .before .before .before .before .before .before .before .before .before .before .before .before .before .before .before .before .before .before .before .before .before .before .before .before .before .before .before .before .before .before .before .before .before .before .before .before .before .before .before .before .before .before .names .result .offer) (c .before .before .before .before .before .before .before .before .before .before .before .before .before .before .turn .result .near .deal .row)) (c .before .before .before .before .before .before .before .before .before .before .before .before .before .before .before .before .before .before .before .before .before .before .before .before .before .before .before .before .before .before .before .before .before .before .before .before .before .before .before .before .before .before .names .result .offer) (c .before .before .before .before .before .before .before .before .before .before .before .before .before .before .turn .result .near .deal .row))
+wrote-o c = once storedDeals (dealsOf (c .before .before .before .before .before .before .before .before .before .before .before .before .before .before .before .before .before .before .before .before .before .before .before .before .before .before .before .before .before .before .before .before .before .before .before .before .before .before .before .before .before .before .before .before .before .before .before .loop .offers)) (c .before .before .before .before .before .before .before .before .before .before .before .before .before .before .before .before .before .before .before .before .before .before .before .before .before .before .before .before .before .before .before .before .before .before .before .before .before .before .before .before .before .before .names .result .offer) (c .before .before .before .before .before .before .before .before .before .before .before .before .before .before .turn .result .near .deal .row) (⊎-elim (λ t. t .4 ∙ deal-there (shelved (c .before .before .before .before .before .before .before .before .before .before .before .before .before .before .before .before .before .before .before .before .before .before .before .before .before .before .before .before .before .before .before .before .before .before .before .before .before .before .before .before .before .before) .offers) (noDeal .offer) (noDeal .negotiation) (noDeal .schedule) (c .before .before .before .before .before .before .before .before .before .before .before .before .before .before .before .before .before .before .before .before .before .before .before .before .before .before .before .before .before .before .before .before .before .before .before .before .before .before .before .before .before .before .names .result .offer) (c .before .before .before .before .before .before .before .before .before .before .before .before .before .before .before .before .before .before .before .before .before .before .before .before .before .before .before .before .before .before .before .before .before .before .before .before .before .before .spot-by .ensures) (c .before .before .before .before .before .before .before .before .before .before .before .before .before .before .turn .result .near .deal .row) (t .0 .taken)) (λ l. l .1 ∙ deal-gone (shelved (c .before .before .before .before .before .before .before .before .before .before .before .before .before .before .before .before .before .before .before .before .before .before .before .before .before .before .before .before .before .before .before .before .before .before .before .before .before .before .before .before .before .before) .offers) (noDeal .offer) (noDeal .negotiation) (noDeal .schedule) (c .before .before .before .before .before .before .before .before .before .before .before .before .before .before .before .before .before .before .before .before .before .before .before .before .before .before .before .before .before .before .before .before .before .before .before .before .before .before .before .before .before .before .names .result .offer) (c .before .before .before .before .before .before .before .before .before .before .before .before .before .before .before .before .before .before .before .before .before .before .before .before .before .before .before .before .before .before .before .before .before .before .before .before .before .before .spot-by .ensures) (c .before .before .before .before .before .before .before .before .before .before .before .before .before .before .turn .result .near .deal .row) (l .0 .left)) (c .if2 .came))
+
+ids-o : (c : tie.Joined2 Inv-loop2 μ-loop2 Inv-loop μ-loop) → c .if2 .offers .ids ≡ c .before .before .before .before .before .before .before .before .before .before .before .before .before .before .before .before .before .before .before .before .before .before .before .before .before .before .before .before .before .before .before .before .before .before .before .before .before .before .before .before .before .before .before .before .before .before .before .loop .offers .ids
+ids-o c = ⊎-elim (λ t. ap (λ z. z .ids) (t .4)) (λ l. ap (λ z. z .ids) (l .1)) (c .if2 .came)
+
+count-o : (c : tie.Joined2 Inv-loop2 μ-loop2 Inv-loop μ-loop) → c .if2 .offers .count ≡ c .before .before .before .before .before .before .before .before .before .before .before .before .before .before .before .before .before .before .before .before .before .before .before .before .before .before .before .before .before .before .before .before .before .before .before .before .before .before .before .before .before .before .before .before .before .before .before .loop .offers .count
+count-o c = ⊎-elim (λ t. ap (λ z. z .count) (t .4)) (λ l. ap (λ z. z .count) (l .1)) (c .if2 .came)
+
+stored-a : (c : tie.Joined3 Inv-loop2 μ-loop2 Inv-loop μ-loop) → c .if3 .accounts ≡ storedAccounts (next (step (c .before .before .before .before .before .before .before .before .before .before .before .before .before .before .before .before .before)) .accounts)
+stored-a c = ⊎-elim (λ x. grows accounts-keeping accountRow (λ r. refl) (left-a (c .before .before .before .before .before .before .before .before .before .before .before .before .before .before .before .before .before)) (wrote-a (c .before .before .before .before .before .before)) (x .0 .taken) (x .3 ∙ (simp (x .1 .ensures) at (x .2 .ensures)) (room accounts-keeping accountRow (λ r. refl) (left-a (c .before .before .before .before .before .before .before .before .before .before .before .before .before .before .before .before .before)) (wrote-a (c .before .before .before .before .before .before)) (x .0 .taken)))) (λ x. x .1 ∙ stays accounts-keeping accountRow (λ r. refl) (left-a (c .before .before .before .before .before .before .before .before .before .before .before .before .before .before .before .before .before)) (wrote-a (c .before .before .before .before .before .before)) (x .0 .left)) (c .if3 .came)
+
+stored-i : (c : tie.Joined4 Inv-loop2 μ-loop2 Inv-loop μ-loop) → c .if4 .invoices ≡ storedInvoices (next (step (c .before .before .before .before .before .before .before .before .before .before .before .before .before .before .before .before .before .before .before .before)) .invoices)
+stored-i c = ⊎-elim (λ x. grows invoices-keeping invoiceRow (λ r. refl) (left-i (c .before .before .before .before .before .before .before .before .before .before .before .before .before .before .before .before .before .before .before .before)) (wrote-i (c .before .before .before .before .before .before .before)) (x .0 .taken) (x .3 ∙ (simp (x .1 .ensures) at (x .2 .ensures)) (room invoices-keeping invoiceRow (λ r. refl) (left-i (c .before .before .before .before .before .before .before .before .before .before .before .before .before .before .before .before .before .before .before .before)) (wrote-i (c .before .before .before .before .before .before .before)) (x .0 .taken)))) (λ x. x .1 ∙ stays invoices-keeping invoiceRow (λ r. refl) (left-i (c .before .before .before .before .before .before .before .before .before .before .before .before .before .before .before .before .before .before .before .before)) (wrote-i (c .before .before .before .before .before .before .before)) (x .0 .left)) (c .if4 .came)
+
+few-o : (c : tie.Then5 Inv-loop2 μ-loop2 Inv-loop μ-loop) → c .before .before .before .before .before .before .before .before .before .if2 .offers .count < 64
+few-o c = room-count (good deals-keeping dealRow (λ r. refl) (left-o (c .before .before .before .before .before .before .before .before .before .before .before .before .before .before .before .before .before .before .before .before .before .before .before)) (wrote-o (c .before .before .before .before .before .before .before .before .before))) (room deals-keeping dealRow (λ r. refl) (left-o (c .before .before .before .before .before .before .before .before .before .before .before .before .before .before .before .before .before .before .before .before .before .before .before)) (wrote-o (c .before .before .before .before .before .before .before .before .before)) (c .if5 .taken))
+
+slot-o : (c : tie.Then5 Inv-loop2 μ-loop2 Inv-loop μ-loop) → findIn (take (c .before .before .before .before .before .before .before .before .before .if2 .offers .count) (c .before .before .before .before .before .before .before .before .before .if2 .offers .ids)) (idOf (c .before .before .before .before .before .before .before .before .before .before .before .before .before .before .before .before .before .before .before .before .before .before .before .before .before .before .before .before .before .before .before .before .before .before .before .before .before .before .before .before .before .before .before .before .before .before .before .before .before .before .before .names .result .offer)) ≡ Absent (c .before .before .before .before .before .before .before .before .before .before .before .before .before .before .before .before .before .before .before .before .before .before .before .before .before .before .before .before .before .before .before .before .before .before .before .before .before .before .before .before .before .before .before .before .before .before .before .spot-by .result .slot)
+slot-o c = ap (λ n. findIn (take n (c .before .before .before .before .before .before .before .before .before .if2 .offers .ids)) (idOf (c .before .before .before .before .before .before .before .before .before .before .before .before .before .before .before .before .before .before .before .before .before .before .before .before .before .before .before .before .before .before .before .before .before .before .before .before .before .before .before .before .before .before .before .before .before .before .before .before .before .before .before .names .result .offer))) (count-o (c .before .before .before .before .before .before .before .before .before)) ∙ ap (λ l. findIn (take (c .before .before .before .before .before .before .before .before .before .before .before .before .before .before .before .before .before .before .before .before .before .before .before .before .before .before .before .before .before .before .before .before .before .before .before .before .before .before .before .before .before .before .before .before .before .before .before .before .before .before .before .before .before .before .before .before .loop .offers .count) l) (idOf (c .before .before .before .before .before .before .before .before .before .before .before .before .before .before .before .before .before .before .before .before .before .before .before .before .before .before .before .before .before .before .before .before .before .before .before .before .before .before .before .before .before .before .before .before .before .before .before .before .before .before .before .names .result .offer))) (ids-o (c .before .before .before .before .before .before .before .before .before)) ∙ spot-slot _ (c .before .before .before .before .before .before .before .before .before .before .before .before .before .before .before .before .before .before .before .before .before .before .before .before .before .before .before .before .before .before .before .before .before .before .before .before .before .before .before .before .before .before .before .before .before .before .before .before .before .before .before .names .result .offer) (c .before .before .before .before .before .before .before .before .before .before .before .before .before .before .before .before .before .before .before .before .before .before .before .before .before .before .before .before .before .before .before .before .before .before .before .before .before .before .before .before .before .before .before .before .before .before .before .spot-by .ensures) (named deals-keeping dealRow (λ r. refl) (left-o (c .before .before .before .before .before .before .before .before .before .before .before .before .before .before .before .before .before .before .before .before .before .before .before)) (wrote-o (c .before .before .before .before .before .before .before .before .before)) (c .if5 .taken)) (came-new _ _ (c .if5 .taken))
+
+stored-o : (c : tie.Joined5 Inv-loop2 μ-loop2 Inv-loop μ-loop) → c .if5 .offers ≡ storedDeals (next (step (c .before .before .before .before .before .before .before .before .before .before .before .before .before .before .before .before .before .before .before .before .before .before .before)) .offers)
+stored-o c = ⊎-elim (λ x. grows deals-keeping dealRow (λ r. refl) (left-o (c .before .before .before .before .before .before .before .before .before .before .before .before .before .before .before .before .before .before .before .before .before .before .before)) (wrote-o (c .before .before .before .before .before .before .before .before .before)) (x .0 .taken) (x .7 ∙ (simp (x .1 .ensures) at (deals-moved (good deals-keeping dealRow (λ r. refl) (left-o (c .before .before .before .before .before .before .before .before .before .before .before .before .before .before .before .before .before .before .before .before .before .before .before)) (wrote-o (c .before .before .before .before .before .before .before .before .before))) (rw (x .1 .ensures) (room deals-keeping dealRow (λ r. refl) (left-o (c .before .before .before .before .before .before .before .before .before .before .before .before .before .before .before .before .before .before .before .before .before .before .before)) (wrote-o (c .before .before .before .before .before .before .before .before .before)) (x .0 .taken))) (rw (x .1 .ensures) (slot-o (record { before = (c .before); if5 = x .0 }))) (c .before .before .before .before .before .before .before .before .before .before .before .before .before .before .before .before .before .before .before .before .before .before .before .turn .result .near .deal .row) (x .5 .inv) (x .6 .left))))) (λ x. x .1 ∙ stays deals-keeping dealRow (λ r. refl) (left-o (c .before .before .before .before .before .before .before .before .before .before .before .before .before .before .before .before .before .before .before .before .before .before .before)) (wrote-o (c .before .before .before .before .before .before .before .before .before)) (x .0 .left)) (c .if5 .came)
+
+fresh-requires : tie.Need-fresh-requires Inv-loop2 μ-loop2 Inv-loop μ-loop
 fresh-requires c κs = search needs
 
--- src/lib.rt:95:9
-none-requires : tie.Need-none-requires Inv-loop μ-loop
-none-requires c κs = search needs
+loop-holds : tie.Need-loop-holds Inv-loop2 μ-loop2 Inv-loop μ-loop
+loop-holds c = going (c .before .before .before .before .before .before .before .before .pre) (fresh (c .before .before .before .before .before .fresh .ensures))
 
--- src/lib.rt:100:9
-near-of-requires : tie.Need-near-of-requires Inv-loop μ-loop
-near-of-requires c κs = search needs
-
--- src/lib.rt:108:5
-loop-holds : tie.Need-loop-holds Inv-loop μ-loop
-loop-holds c = going (c .before .before .before .before .before .before .pre) (fresh (ap (λ n. bookWith n (c .before .before .before .fresh .result .offers)) (c .before .near-of .ensures) ∙ c .before .before .before .fresh .ensures))
-
--- src/lib.rt:109:13
-read-requires : tie.Need-read-requires Inv-loop μ-loop
+read-requires : tie.Need-read-requires Inv-loop2 μ-loop2 Inv-loop μ-loop
 read-requires c κs = search needs
 
--- src/lib.rt:111:30
-enum-known-d : tie.Need-enum-known-d Inv-loop μ-loop
+enum-known-d : tie.Need-enum-known-d Inv-loop2 μ-loop2 Inv-loop μ-loop
 enum-known-d c = search needs
 
--- src/lib.rt:112:21
-offer-requires : tie.Need-offer-requires Inv-loop μ-loop
-offer-requires c κs = search needs
+names-requires : tie.Need-names-requires Inv-loop2 μ-loop2 Inv-loop μ-loop
+names-requires c κs = search needs
 
--- src/lib.rt:114:21
-find-requires : tie.Need-find-requires Inv-loop μ-loop
-find-requires c κs = search needs
+spot-by-requires : tie.Need-spot-by-requires Inv-loop2 μ-loop2 Inv-loop μ-loop
+spot-by-requires c κs = search needs
 
--- src/lib.rt:115:31
-enum-known-f : tie.Need-enum-known-f Inv-loop μ-loop
-enum-known-f c = search needs
+none-requires : tie.Need-none-requires Inv-loop2 μ-loop2 Inv-loop μ-loop
+none-requires c κs = search needs
 
--- src/lib.rt:116:21
-enum-told : tie.Need-enum-told Inv-loop μ-loop
-enum-told c = search needs
+mul-o : tie.Need-mul-o Inv-loop2 μ-loop2 Inv-loop μ-loop
+mul-o c = omega (arith, below-o (c .before .before))
 
--- src/lib.rt:117:25
-turn-requires : tie.Need-turn-requires Inv-loop μ-loop
-turn-requires c κs = record { accounts = shelved (c .before .before) .accounts; invoices = shelved (c .before .before) .invoices }
+element-copy-out-o : tie.Need-element-copy-out-o Inv-loop2 μ-loop2 Inv-loop μ-loop
+element-copy-out-o c = omega (arith, below-o (c .before .before))
 
--- src/lib.rt:118:61
-add-put-answer : tie.Need-add-put-answer Inv-loop μ-loop
-add-put-answer c = more (c .before .before .before .before)
+mul-g : tie.Need-mul-g Inv-loop2 μ-loop2 Inv-loop μ-loop
+mul-g c = omega (arith, below-o (c .before .before .before))
 
--- src/lib.rt:118:21
-put-answer-requires : tie.Need-put-answer-requires Inv-loop μ-loop
+element-copy-out-g : tie.Need-element-copy-out-g Inv-loop2 μ-loop2 Inv-loop μ-loop
+element-copy-out-g c = omega (arith, below-o (c .before .before .before))
+
+mul-p : tie.Need-mul-p Inv-loop2 μ-loop2 Inv-loop μ-loop
+mul-p c = omega (arith, below-o (c .before .before .before .before))
+
+element-copy-out-p : tie.Need-element-copy-out-p Inv-loop2 μ-loop2 Inv-loop μ-loop
+element-copy-out-p c = omega (arith, below-o (c .before .before .before .before))
+
+key-requires : tie.Need-key-requires Inv-loop2 μ-loop2 Inv-loop μ-loop
+key-requires c κs = search needs
+
+spot-by-requires-2 : tie.Need-spot-by-requires-2 Inv-loop2 μ-loop2 Inv-loop μ-loop
+spot-by-requires-2 c κs = search needs
+
+mul-v : tie.Need-mul-v Inv-loop2 μ-loop2 Inv-loop μ-loop
+mul-v c = omega (arith, below-i c)
+
+element-copy-out-v : tie.Need-element-copy-out-v Inv-loop2 μ-loop2 Inv-loop μ-loop
+element-copy-out-v c = omega (arith, below-i c)
+
+at-requires : tie.Need-at-requires Inv-loop2 μ-loop2 Inv-loop μ-loop
+at-requires c κs = search needs
+
+key-requires-2 : tie.Need-key-requires-2 Inv-loop2 μ-loop2 Inv-loop μ-loop
+key-requires-2 c κs = search needs
+
+spot-by-requires-3 : tie.Need-spot-by-requires-3 Inv-loop2 μ-loop2 Inv-loop μ-loop
+spot-by-requires-3 c κs = search needs
+
+mul-va : tie.Need-mul-va Inv-loop2 μ-loop2 Inv-loop μ-loop
+mul-va c = omega (arith, below-a c)
+
+element-copy-out-va : tie.Need-element-copy-out-va Inv-loop2 μ-loop2 Inv-loop μ-loop
+element-copy-out-va c = omega (arith, below-a c)
+
+at-requires-2 : tie.Need-at-requires-2 Inv-loop2 μ-loop2 Inv-loop μ-loop
+at-requires-2 c κs = search needs
+
+spot-by-requires-4 : tie.Need-spot-by-requires-4 Inv-loop2 μ-loop2 Inv-loop μ-loop
+spot-by-requires-4 c κs = search needs
+
+mul-vb : tie.Need-mul-vb Inv-loop2 μ-loop2 Inv-loop μ-loop
+mul-vb c = omega (arith, below-b c)
+
+element-copy-out-vb : tie.Need-element-copy-out-vb Inv-loop2 μ-loop2 Inv-loop μ-loop
+element-copy-out-vb c = omega (arith, below-b c)
+
+at-requires-3 : tie.Need-at-requires-3 Inv-loop2 μ-loop2 Inv-loop μ-loop
+at-requires-3 c κs = search needs
+
+same-requires : tie.Need-same-requires Inv-loop2 μ-loop2 Inv-loop μ-loop
+same-requires c κs = search needs
+
+turn-requires : tie.Need-turn-requires Inv-loop2 μ-loop2 Inv-loop μ-loop
+turn-requires c κs = search needs
+
+add-put-answer : tie.Need-add-put-answer Inv-loop2 μ-loop2 Inv-loop μ-loop
+add-put-answer c = more (c .before .before .before .before .before .before .before .before .before .before .before .before .before .before .before .before .before .before .before .before .before .before .before .before .before .before .before .before .before)
+
+put-answer-requires : tie.Need-put-answer-requires Inv-loop2 μ-loop2 Inv-loop μ-loop
 put-answer-requires c κs = search needs
 
--- src/lib.rt:120:21
-add-k : tie.Need-add-k Inv-loop μ-loop
-add-k c = more (c .before .before .before .before .before .before .before .before)
+over-requires : tie.Need-over-requires Inv-loop2 μ-loop2 Inv-loop μ-loop
+over-requires c κs = search needs
 
--- src/lib.rt:108:5
-loop-less : tie.Need-loop-less Inv-loop μ-loop
-loop-less c = omega (arith, ahead _ _ (record-read (c .before .before .before .before .before .before .before .before .before .before .before)))
+mul-mb : tie.Need-mul-mb Inv-loop2 μ-loop2 Inv-loop μ-loop
+mul-mb c = omega (arith, below-b (c .before .before .before .before .before .before .before .before .before .before .before .before))
 
--- src/lib.rt:108:5
-loop-again : tie.Need-loop-again Inv-loop μ-loop
-loop-again c = going-on (c .before .before .before .before .before .before .before .before .before .before .before .before .before .before .before .before .before .before .before .before .loop .inv) (record-read (c .before .before .before .before .before .before .before .before .before .before .before)) (absent-stays _ (shelved (c .before .before .before .before .before .before .before .before .before .before .before)) _ (found-there (c .before .before .before .before .before .before .before .before .before .before .before) ∙ c .before .before .before .before .before .before .before .before .before .enum-told .given .1) (ap (λ d. record { here = false; row = d }) (c .before .before .before .before .before .before .before .before .before .before .before .before .before .before .before .before .before .before .before .before .before .before .before .none .ensures)) (c .before .before .before .before .before .before .before .before .turn .ensures) (not-true _ (c .if1 .taken))) (c .before .before .before .before .before .before .put-answer .ensures)
+element-set-from-mb : tie.Need-element-set-from-mb Inv-loop2 μ-loop2 Inv-loop μ-loop
+element-set-from-mb c = omega (arith, below-b (c .before .before .before .before .before .before .before .before .before .before .before .before))
 
--- src/lib.rt:126:25
-let-in-requires : tie.Need-let-in-requires Inv-loop μ-loop
-let-in-requires c κs = (shelved (c .before .before .before .before .before .before .before .before .before .before .before) .offers, rw (c .before .before .before .before .before .before .before .before .before .before .before .before .before .before .before .offer .ensures) (absent-room _ (shelved (c .before .before .before .before .before .before .before .before .before .before .before)) _ (found-there (c .before .before .before .before .before .before .before .before .before .before .before) ∙ c .before .before .before .before .before .before .before .before .before .enum-told .given .1) (ap (λ d. record { here = false; row = d }) (c .before .before .before .before .before .before .before .before .before .before .before .before .before .before .before .before .before .before .before .before .before .before .before .none .ensures)) (c .before .before .before .before .before .before .before .before .turn .ensures) (not-false _ (c .if1 .left))))
+mul-old : tie.Need-mul-old Inv-loop2 μ-loop2 Inv-loop μ-loop
+mul-old c = omega (arith, below-a (c .before .before .before .before .before .before .before .before .before .before .before .before .before .before .before .before .before .before))
 
--- src/lib.rt:108:5
-loop-less-2 : tie.Need-loop-less-2 Inv-loop μ-loop
-loop-less-2 c = omega (arith, ahead _ _ (record-read (c .before .before .before .before .before .before .before .before .before .before .before .before)))
+element-copy-out-old : tie.Need-element-copy-out-old Inv-loop2 μ-loop2 Inv-loop μ-loop
+element-copy-out-old c = omega (arith, below-a (c .before .before .before .before .before .before .before .before .before .before .before .before .before .before .before .before .before .before))
 
--- src/lib.rt:108:5
-loop-again-2 : tie.Need-loop-again-2 Inv-loop μ-loop
-loop-again-2 c = going-on (c .before .before .before .before .before .before .before .before .before .before .before .before .before .before .before .before .before .before .before .before .before .loop .inv) (record-read (c .before .before .before .before .before .before .before .before .before .before .before .before)) (absent-grows _ (shelved (c .before .before .before .before .before .before .before .before .before .before .before .before)) _ (found-there (c .before .before .before .before .before .before .before .before .before .before .before .before) ∙ c .before .before .before .before .before .before .before .before .before .before .enum-told .given .1) (ap (λ d. record { here = false; row = d }) (c .before .before .before .before .before .before .before .before .before .before .before .before .before .before .before .before .before .before .before .before .before .before .before .before .none .ensures)) (c .before .before .before .before .before .before .before .before .before .turn .ensures) (not-false _ (c .before .if1 .left)) (c .let-in .ensures ∙ ap (λ i. storedDeals (insert (dealsOf (c .before .before .before .before .before .before .before .before .before .before .before .before .before .before .before .before .before .before .before .before .before .loop .offers)) i (c .before .before .before .before .before .before .before .before .before .turn .result .near .deal .row))) (c .before .before .before .before .before .before .before .before .before .before .before .before .before .before .before .before .offer .ensures))) (c .before .before .before .before .before .before .before .put-answer .ensures)
+over-requires-2 : tie.Need-over-requires-2 Inv-loop2 μ-loop2 Inv-loop μ-loop
+over-requires-2 c κs = search needs
 
--- src/lib.rt:130:25
-mul-o : tie.Need-mul-o Inv-loop μ-loop
-mul-o c = omega (arith, below (c))
+mul-ma : tie.Need-mul-ma Inv-loop2 μ-loop2 Inv-loop μ-loop
+mul-ma c = omega (arith, below-a (c .before .before .before .before .before .before .before .before .before .before .before .before .before .before .before .before .before .before .before .before .before))
 
--- src/lib.rt:130:25
-element-copy-out-o : tie.Need-element-copy-out-o Inv-loop μ-loop
-element-copy-out-o c = omega (arith, below (c))
+element-set-from-ma : tie.Need-element-set-from-ma Inv-loop2 μ-loop2 Inv-loop μ-loop
+element-set-from-ma c = omega (arith, below-a (c .before .before .before .before .before .before .before .before .before .before .before .before .before .before .before .before .before .before .before .before .before))
 
--- src/lib.rt:131:25
-mul-g : tie.Need-mul-g Inv-loop μ-loop
-mul-g c = omega (arith, below (c .before))
+over-requires-3 : tie.Need-over-requires-3 Inv-loop2 μ-loop2 Inv-loop μ-loop
+over-requires-3 c κs = search needs
 
--- src/lib.rt:131:25
-element-copy-out-g : tie.Need-element-copy-out-g Inv-loop μ-loop
-element-copy-out-g c = omega (arith, below (c .before))
+mul-mi : tie.Need-mul-mi Inv-loop2 μ-loop2 Inv-loop μ-loop
+mul-mi c = omega (arith, below-i (c .before .before .before .before .before .before .before .before .before .before .before .before .before .before .before .before .before .before .before .before .before .before .before .before .before .before .before .before .before .before))
 
--- src/lib.rt:132:25
-mul-p : tie.Need-mul-p Inv-loop μ-loop
-mul-p c = omega (arith, below (c .before .before))
+element-set-from-mi : tie.Need-element-set-from-mi Inv-loop2 μ-loop2 Inv-loop μ-loop
+element-set-from-mi c = omega (arith, below-i (c .before .before .before .before .before .before .before .before .before .before .before .before .before .before .before .before .before .before .before .before .before .before .before .before .before .before .before .before .before .before))
 
--- src/lib.rt:132:25
-element-copy-out-p : tie.Need-element-copy-out-p Inv-loop μ-loop
-element-copy-out-p c = omega (arith, below (c .before .before))
+mul-u1 : tie.Need-mul-u1 Inv-loop2 μ-loop2 Inv-loop μ-loop
+mul-u1 c = omega (arith, below-o (c .before .before .before .before .before .before .before .before .before .before .before .before .before .before .before .before .before .before .before .before .before .before .before .before .before .before .before .before .before .before .before .before .before .before .before .before .before .before .before .before .before))
 
--- src/lib.rt:133:21
-seen-requires : tie.Need-seen-requires Inv-loop μ-loop
-seen-requires c κs = search needs
+element-set-from-u1 : tie.Need-element-set-from-u1 Inv-loop2 μ-loop2 Inv-loop μ-loop
+element-set-from-u1 c = omega (arith, below-o (c .before .before .before .before .before .before .before .before .before .before .before .before .before .before .before .before .before .before .before .before .before .before .before .before .before .before .before .before .before .before .before .before .before .before .before .before .before .before .before .before .before))
 
--- src/lib.rt:135:21
-turn-requires-2 : tie.Need-turn-requires-2 Inv-loop μ-loop
-turn-requires-2 c κs = record { accounts = shelved (c .before .before .before .before .before .before .before) .accounts; invoices = shelved (c .before .before .before .before .before .before .before) .invoices }
+mul-u2 : tie.Need-mul-u2 Inv-loop2 μ-loop2 Inv-loop μ-loop
+mul-u2 c = omega (arith, below-o (c .before .before .before .before .before .before .before .before .before .before .before .before .before .before .before .before .before .before .before .before .before .before .before .before .before .before .before .before .before .before .before .before .before .before .before .before .before .before .before .before .before))
 
--- src/lib.rt:136:57
-add-put-answer-2 : tie.Need-add-put-answer-2 Inv-loop μ-loop
-add-put-answer-2 c = more (c .before .before .before .before .before .before .before .before .before)
+element-set-from-u2 : tie.Need-element-set-from-u2 Inv-loop2 μ-loop2 Inv-loop μ-loop
+element-set-from-u2 c = omega (arith, below-o (c .before .before .before .before .before .before .before .before .before .before .before .before .before .before .before .before .before .before .before .before .before .before .before .before .before .before .before .before .before .before .before .before .before .before .before .before .before .before .before .before .before))
 
--- src/lib.rt:136:17
-put-answer-requires-2 : tie.Need-put-answer-requires-2 Inv-loop μ-loop
-put-answer-requires-2 c κs = search needs
+mul-u3 : tie.Need-mul-u3 Inv-loop2 μ-loop2 Inv-loop μ-loop
+mul-u3 c = omega (arith, below-o (c .before .before .before .before .before .before .before .before .before .before .before .before .before .before .before .before .before .before .before .before .before .before .before .before .before .before .before .before .before .before .before .before .before .before .before .before .before .before .before .before .before))
 
--- src/lib.rt:143:17
-mul-u : tie.Need-mul-u Inv-loop μ-loop
-mul-u c = omega (arith, below (c .before .before .before .before .before .before .before .before .before .before .before .before .before .before .before))
+element-set-from-u3 : tie.Need-element-set-from-u3 Inv-loop2 μ-loop2 Inv-loop μ-loop
+element-set-from-u3 c = omega (arith, below-o (c .before .before .before .before .before .before .before .before .before .before .before .before .before .before .before .before .before .before .before .before .before .before .before .before .before .before .before .before .before .before .before .before .before .before .before .before .before .before .before .before .before))
 
--- src/lib.rt:143:17
-element-set-from-u : tie.Need-element-set-from-u Inv-loop μ-loop
-element-set-from-u c = omega (arith, below (c .before .before .before .before .before .before .before .before .before .before .before .before .before .before .before))
+id-requires : tie.Need-id-requires Inv-loop2 μ-loop2 Inv-loop μ-loop
+id-requires c κs = search needs
 
--- src/lib.rt:144:17
-mul-v : tie.Need-mul-v Inv-loop μ-loop
-mul-v c = omega (arith, below (c .before .before .before .before .before .before .before .before .before .before .before .before .before .before .before))
+let-in-requires : tie.Need-let-in-requires Inv-loop2 μ-loop2 Inv-loop μ-loop
+let-in-requires c κs = good accounts-keeping accountRow (λ r. refl) (left-a (c .before .before .before .before .before .before .before .before .before .before .before .before .before .before .before .before .before .before)) (wrote-a (c .before .before .before .before .before .before .before))
 
--- src/lib.rt:144:17
-element-set-from-v : tie.Need-element-set-from-v Inv-loop μ-loop
-element-set-from-v c = omega (arith, below (c .before .before .before .before .before .before .before .before .before .before .before .before .before .before .before))
+id-requires-2 : tie.Need-id-requires-2 Inv-loop2 μ-loop2 Inv-loop μ-loop
+id-requires-2 c κs = search needs
 
--- src/lib.rt:145:17
-mul-w : tie.Need-mul-w Inv-loop μ-loop
-mul-w c = omega (arith, below (c .before .before .before .before .before .before .before .before .before .before .before .before .before .before .before))
+let-in-requires-2 : tie.Need-let-in-requires-2 Inv-loop2 μ-loop2 Inv-loop μ-loop
+let-in-requires-2 c κs = good invoices-keeping invoiceRow (λ r. refl) (left-i (c .before .before .before .before .before .before .before .before .before .before .before .before .before .before .before .before .before .before .before .before .before)) (wrote-i (c .before .before .before .before .before .before .before .before))
 
--- src/lib.rt:145:17
-element-set-from-w : tie.Need-element-set-from-w Inv-loop μ-loop
-element-set-from-w c = omega (arith, below (c .before .before .before .before .before .before .before .before .before .before .before .before .before .before .before))
+id-requires-3 : tie.Need-id-requires-3 Inv-loop2 μ-loop2 Inv-loop μ-loop
+id-requires-3 c κs = search needs
 
--- src/lib.rt:146:17
-add-k-2 : tie.Need-add-k-2 Inv-loop μ-loop
-add-k-2 c = more (c .before .before .before .before .before .before .before .before .before .before .before .before .before .before .before .before .before .before)
+loop2-holds : tie.Need-loop2-holds Inv-loop2 μ-loop2 Inv-loop μ-loop
+loop2-holds c = moves (good deals-keeping dealRow (λ r. refl) (left-o (c .before .before .before .before .before .before .before .before .before .before .before .before .before .before .before .before .before .before .before .before .before .before .before .before .before .before .before)) (wrote-o (c .before .before .before .before .before .before .before .before .before .before .before .before .before))) _ _ _ _ _ (slot-inside _ _ _ _ (slot-o (c .before .before .before .before)))
 
--- src/lib.rt:108:5
-loop-less-3 : tie.Need-loop-less-3 Inv-loop μ-loop
-loop-less-3 c = omega (arith, ahead _ _ (record-read (c .before .before .before .before .before .before .before .before .before .before .before .before .before .before .before .before .before .before)))
+mul-a1 : tie.Need-mul-a1 Inv-loop2 μ-loop2 Inv-loop μ-loop
+mul-a1 c = omega (arith, c .loop2-test .taken, few-o (c .before .before .before .before .before .before))
 
--- src/lib.rt:108:5
-loop-again-3 : tie.Need-loop-again-3 Inv-loop μ-loop
-loop-again-3 c = going-on (c .before .before .before .before .before .before .before .before .before .before .before .before .before .before .before .before .before .before .before .before .before .before .before .before .before .before .before .loop .inv) (record-read (c .before .before .before .before .before .before .before .before .before .before .before .before .before .before .before .before .before .before)) (found-steps _ (shelved (c .before .before .before .before .before .before .before .before .before .before .before .before .before .before .before .before .before .before)) _ (found-there (c .before .before .before .before .before .before .before .before .before .before .before .before .before .before .before .before .before .before) ∙ c .before .before .before .before .before .before .before .before .before .before .before .before .before .before .before .before .f .given .1) _ _ _ (c .before .before .before .before .before .before .before .before .before .before .before .seen .ensures) (c .before .before .before .before .before .before .before .before .before .before .turn2 .ensures)) (c .before .before .before .before .before .before .before .before .put-answer2 .ensures)
+element-copy-out-a1 : tie.Need-element-copy-out-a1 Inv-loop2 μ-loop2 Inv-loop μ-loop
+element-copy-out-a1 c = omega (arith, c .loop2-test .taken, few-o (c .before .before .before .before .before .before))
 
--- src/lib.rt:149:32
-enum-known-d-2 : tie.Need-enum-known-d-2 Inv-loop μ-loop
+mul-b1 : tie.Need-mul-b1 Inv-loop2 μ-loop2 Inv-loop μ-loop
+mul-b1 c = omega (arith, c .before .loop2-test .taken, few-o (c .before .before .before .before .before .before .before))
+
+element-copy-out-b1 : tie.Need-element-copy-out-b1 Inv-loop2 μ-loop2 Inv-loop μ-loop
+element-copy-out-b1 c = omega (arith, c .before .loop2-test .taken, few-o (c .before .before .before .before .before .before .before))
+
+mul-c1 : tie.Need-mul-c1 Inv-loop2 μ-loop2 Inv-loop μ-loop
+mul-c1 c = omega (arith, c .before .before .loop2-test .taken, few-o (c .before .before .before .before .before .before .before .before))
+
+element-copy-out-c1 : tie.Need-element-copy-out-c1 Inv-loop2 μ-loop2 Inv-loop μ-loop
+element-copy-out-c1 c = omega (arith, c .before .before .loop2-test .taken, few-o (c .before .before .before .before .before .before .before .before))
+
+mul-d1 : tie.Need-mul-d1 Inv-loop2 μ-loop2 Inv-loop μ-loop
+mul-d1 c = omega (arith, c .before .before .before .loop2-test .taken, few-o (c .before .before .before .before .before .before .before .before .before))
+
+element-copy-out-d1 : tie.Need-element-copy-out-d1 Inv-loop2 μ-loop2 Inv-loop μ-loop
+element-copy-out-d1 c = omega (arith, c .before .before .before .loop2-test .taken, few-o (c .before .before .before .before .before .before .before .before .before))
+
+mul-offers : tie.Need-mul-offers Inv-loop2 μ-loop2 Inv-loop μ-loop
+mul-offers c = omega (arith, c .before .before .before .before .loop2-test .taken, few-o (c .before .before .before .before .before .before .before .before .before .before))
+
+element-write-offers : tie.Need-element-write-offers Inv-loop2 μ-loop2 Inv-loop μ-loop
+element-write-offers c = omega (arith, c .before .before .before .before .loop2-test .taken, few-o (c .before .before .before .before .before .before .before .before .before .before))
+
+mul-co : tie.Need-mul-co Inv-loop2 μ-loop2 Inv-loop μ-loop
+mul-co c = omega (arith, c .before .before .before .before .loop2-test .taken, few-o (c .before .before .before .before .before .before .before .before .before .before))
+
+element-set-from-co : tie.Need-element-set-from-co Inv-loop2 μ-loop2 Inv-loop μ-loop
+element-set-from-co c = omega (arith, c .before .before .before .before .loop2-test .taken, few-o (c .before .before .before .before .before .before .before .before .before .before))
+
+mul-cg : tie.Need-mul-cg Inv-loop2 μ-loop2 Inv-loop μ-loop
+mul-cg c = omega (arith, c .before .before .before .before .loop2-test .taken, few-o (c .before .before .before .before .before .before .before .before .before .before))
+
+element-set-from-cg : tie.Need-element-set-from-cg Inv-loop2 μ-loop2 Inv-loop μ-loop
+element-set-from-cg c = omega (arith, c .before .before .before .before .loop2-test .taken, few-o (c .before .before .before .before .before .before .before .before .before .before))
+
+mul-cp : tie.Need-mul-cp Inv-loop2 μ-loop2 Inv-loop μ-loop
+mul-cp c = omega (arith, c .before .before .before .before .loop2-test .taken, few-o (c .before .before .before .before .before .before .before .before .before .before))
+
+element-set-from-cp : tie.Need-element-set-from-cp Inv-loop2 μ-loop2 Inv-loop μ-loop
+element-set-from-cp c = omega (arith, c .before .before .before .before .loop2-test .taken, few-o (c .before .before .before .before .before .before .before .before .before .before))
+
+add-j : tie.Need-add-j Inv-loop2 μ-loop2 Inv-loop μ-loop
+add-j c = omega (arith, c .before .before .before .before .loop2-test .taken, few-o (c .before .before .before .before .before .before .before .before .before .before))
+
+loop2-less : tie.Need-loop2-less Inv-loop2 μ-loop2 Inv-loop μ-loop
+loop2-less c = omega (arith, c .before .before .before .before .loop2-test .taken, few-o (c .before .before .before .before .before .before .before .before .before .before))
+
+loop2-again : tie.Need-loop2-again Inv-loop2 μ-loop2 Inv-loop μ-loop
+loop2-again c = moves-up (c .before .before .before .before .before .loop2 .inv) _ _ _ _ (omega (arith, c .before .before .before .before .loop2-test .taken, few-o (c .before .before .before .before .before .before .before .before .before .before)))
+
+add-offers : tie.Need-add-offers Inv-loop2 μ-loop2 Inv-loop μ-loop
+add-offers c = omega (arith, few-o (c .before .before .before .before .before .before))
+
+add-k : tie.Need-add-k Inv-loop2 μ-loop2 Inv-loop μ-loop
+add-k c = more (c .before .before .before .before .before .before .before .before .before .before .before .before .before .before .before .before .before .before .before .before .before .before .before .before .before .before .before .before .before .before .before .before .before .before .before .before .before .before .before .before .before .before .before .before .before .before .before .before .before .before .before)
+
+loop-less : tie.Need-loop-less Inv-loop2 μ-loop2 Inv-loop μ-loop
+loop-less c = omega (arith, ahead _ _ (record-read (c .before .before .before .before .before .before .before .before .before .before .before .before .before .before .before .before .before .before .before .before .before .before .before .before .before .before .before .before .before .before .before .before .before .before .before .before .before .before .before .before .before .before .before .before .before .before .before .before .before .before .before)))
+
+loop-again : tie.Need-loop-again Inv-loop2 μ-loop2 Inv-loop μ-loop
+loop-again c = going-on (c .before .before .before .before .before .before .before .before .before .before .before .before .before .before .before .before .before .before .before .before .before .before .before .before .before .before .before .before .before .before .before .before .before .before .before .before .before .before .before .before .before .before .before .before .before .before .before .before .before .before .before .before .before .before .before .before .loop .inv) (record-read (c .before .before .before .before .before .before .before .before .before .before .before .before .before .before .before .before .before .before .before .before .before .before .before .before .before .before .before .before .before .before .before .before .before .before .before .before .before .before .before .before .before .before .before .before .before .before .before .before .before .before .before)) (stepped (shelved (c .before .before .before .before .before .before .before .before .before .before .before .before .before .before .before .before .before .before .before .before .before .before .before .before .before .before .before .before .before .before .before .before .before .before .before .before .before .before .before .before .before .before .before .before .before .before .before .before .before .before .before)) (steps (step (c .before .before .before .before .before .before .before .before .before .before .before .before .before .before .before .before .before .before .before .before .before .before .before)) (stored-a (c .before .before .before .before .before .before)) (stored-i (c .before .before .before)) (stored-o c))) (c .before .before .before .before .before .before .before .before .before .before .before .before .before .before .before .before .before .before .before .before .before .put-answer .ensures)
+
+enum-known-d-2 : tie.Need-enum-known-d-2 Inv-loop2 μ-loop2 Inv-loop μ-loop
 enum-known-d-2 c = search needs
 
--- src/lib.rt:150:57
-add-put-mark : tie.Need-add-put-mark Inv-loop μ-loop
+add-put-mark : tie.Need-add-put-mark Inv-loop2 μ-loop2 Inv-loop μ-loop
 add-put-mark c = omega (arith, c .before .before .before .before .before .loop .inv .plays .stand .few, inside _ _ (sym (c .before .before .before .before .read .ensures) ∙ ap reading (c .before .before .d2 .given .1)))
 
--- src/lib.rt:150:21
-put-mark-requires : tie.Need-put-mark-requires Inv-loop μ-loop
+put-mark-requires : tie.Need-put-mark-requires Inv-loop2 μ-loop2 Inv-loop μ-loop
 put-mark-requires c κs = search needs
 
--- src/lib.rt:151:21
-book-of-requires : tie.Need-book-of-requires Inv-loop μ-loop
-book-of-requires c κs = search needs
-
--- src/lib.rt:152:17
-finish-requires : tie.Need-finish-requires Inv-loop μ-loop
+finish-requires : tie.Need-finish-requires Inv-loop2 μ-loop2 Inv-loop μ-loop
 finish-requires c κs = search needs
 
--- src/lib.rt:152:17
-same-length : tie.Need-same-length Inv-loop μ-loop
-same-length c = kept (gone-bad (c .before .before .before .before .before .before .before .before .before .before .before .before .before .loop .inv) (sym (c .before .before .before .before .before .before .before .before .before .before .before .before .read .ensures) ∙ ap reading (c .before .before .before .before .before .before .before .before .before .before .d2 .given .1)) (c .before .before .before .before .book-of .ensures) (c .before .before .before .before .before .before .before .put-mark .ensures) (c .before .before .finish .ensures) .wrote)
+same-length : tie.Need-same-length Inv-loop2 μ-loop2 Inv-loop μ-loop
+same-length c = kept (gone-bad (c .before .before .before .before .before .before .before .before .before .before .before .before .loop .inv) (sym (c .before .before .before .before .before .before .before .before .before .before .before .read .ensures) ∙ ap reading (c .before .before .before .before .before .before .before .before .before .d2 .given .1)) refl (c .before .before .before .before .before .before .put-mark .ensures) (c .before .before .finish .ensures) .wrote)
 
--- src/lib.rt:152:17
-returns : tie.Need-returns Inv-loop μ-loop
-returns c = let g = gone-bad (c .before .before .before .before .before .before .before .before .before .before .before .before .before .loop .inv) (sym (c .before .before .before .before .before .before .before .before .before .before .before .before .read .ensures) ∙ ap reading (c .before .before .before .before .before .before .before .before .before .before .d2 .given .1)) (c .before .before .before .before .book-of .ensures) (c .before .before .before .before .before .before .before .put-mark .ensures) (c .before .before .finish .ensures) in (g .outcome, g .wrote)
+returns : tie.Need-returns Inv-loop2 μ-loop2 Inv-loop μ-loop
+returns c = let g = gone-bad (c .before .before .before .before .before .before .before .before .before .before .before .before .loop .inv) (sym (c .before .before .before .before .before .before .before .before .before .before .before .read .ensures) ∙ ap reading (c .before .before .before .before .before .before .before .before .before .d2 .given .1)) refl (c .before .before .before .before .before .before .put-mark .ensures) (c .before .before .finish .ensures) in (g .outcome, g .wrote)
 
--- src/lib.rt:155:45
-enum-told-2 : tie.Need-enum-told-2 Inv-loop μ-loop
-enum-told-2 c = search needs
+enum-told : tie.Need-enum-told Inv-loop2 μ-loop2 Inv-loop μ-loop
+enum-told c = search needs
 
--- src/lib.rt:155:21
-book-of-requires-2 : tie.Need-book-of-requires-2 Inv-loop μ-loop
-book-of-requires-2 c κs = search needs
-
--- src/lib.rt:156:17
-finish-requires-2 : tie.Need-finish-requires-2 Inv-loop μ-loop
+finish-requires-2 : tie.Need-finish-requires-2 Inv-loop2 μ-loop2 Inv-loop μ-loop
 finish-requires-2 c κs = search needs
 
--- src/lib.rt:156:17
-same-length-2 : tie.Need-same-length-2 Inv-loop μ-loop
-same-length-2 c = kept (gone (c .before .before .before .before .before .before .before .before .loop .inv) (sym (c .before .before .before .before .before .before .before .read .ensures) ∙ ap reading (c .before .before .before .before .before .enum-told2 .given .1)) (c .before .before .before .before .book-of2 .ensures) (c .before .before .finish2 .ensures) .wrote)
+same-length-2 : tie.Need-same-length-2 Inv-loop2 μ-loop2 Inv-loop μ-loop
+same-length-2 c = kept (gone (c .before .before .before .before .before .before .before .loop .inv) (sym (c .before .before .before .before .before .before .read .ensures) ∙ ap reading (c .before .before .before .before .enum-told .given .1)) refl (c .before .before .finish2 .ensures) .wrote)
 
--- src/lib.rt:156:17
-returns-2 : tie.Need-returns-2 Inv-loop μ-loop
-returns-2 c = let g = gone (c .before .before .before .before .before .before .before .before .loop .inv) (sym (c .before .before .before .before .before .before .before .read .ensures) ∙ ap reading (c .before .before .before .before .before .enum-told2 .given .1)) (c .before .before .before .before .book-of2 .ensures) (c .before .before .finish2 .ensures) in (g .outcome, g .wrote)
+returns-2 : tie.Need-returns-2 Inv-loop2 μ-loop2 Inv-loop μ-loop
+returns-2 c = let g = gone (c .before .before .before .before .before .before .before .loop .inv) (sym (c .before .before .before .before .before .before .read .ensures) ∙ ap reading (c .before .before .before .before .enum-told .given .1)) refl (c .before .before .finish2 .ensures) in (g .outcome, g .wrote)
 
 pub records-spec : {M : Type 1} → statement M
 records-spec =
     tie.close
     (tie.spec
+    Inv-loop2
+    μ-loop2
     Inv-loop
     μ-loop
     fresh-requires
-    none-requires
-    near-of-requires
     loop-holds
     read-requires
     enum-known-d
-    offer-requires
-    find-requires
-    enum-known-f
-    enum-told
-    turn-requires
-    add-put-answer
-    put-answer-requires
-    add-k
-    loop-less
-    loop-again
-    let-in-requires
-    loop-less-2
-    loop-again-2
+    names-requires
+    spot-by-requires
+    none-requires
     mul-o
     element-copy-out-o
     mul-g
     element-copy-out-g
     mul-p
     element-copy-out-p
-    seen-requires
-    turn-requires-2
-    add-put-answer-2
-    put-answer-requires-2
-    mul-u
-    element-set-from-u
+    key-requires
+    spot-by-requires-2
     mul-v
-    element-set-from-v
-    mul-w
-    element-set-from-w
-    add-k-2
-    loop-less-3
-    loop-again-3
+    element-copy-out-v
+    at-requires
+    key-requires-2
+    spot-by-requires-3
+    mul-va
+    element-copy-out-va
+    at-requires-2
+    spot-by-requires-4
+    mul-vb
+    element-copy-out-vb
+    at-requires-3
+    same-requires
+    turn-requires
+    add-put-answer
+    put-answer-requires
+    over-requires
+    mul-mb
+    element-set-from-mb
+    mul-old
+    element-copy-out-old
+    over-requires-2
+    mul-ma
+    element-set-from-ma
+    over-requires-3
+    mul-mi
+    element-set-from-mi
+    mul-u1
+    element-set-from-u1
+    mul-u2
+    element-set-from-u2
+    mul-u3
+    element-set-from-u3
+    id-requires
+    let-in-requires
+    id-requires-2
+    let-in-requires-2
+    id-requires-3
+    loop2-holds
+    mul-a1
+    element-copy-out-a1
+    mul-b1
+    element-copy-out-b1
+    mul-c1
+    element-copy-out-c1
+    mul-d1
+    element-copy-out-d1
+    mul-offers
+    element-write-offers
+    mul-co
+    element-set-from-co
+    mul-cg
+    element-set-from-cg
+    mul-cp
+    element-set-from-cp
+    add-j
+    loop2-less
+    loop2-again
+    add-offers
+    add-k
+    loop-less
+    loop-again
     enum-known-d-2
     add-put-mark
     put-mark-requires
-    book-of-requires
     finish-requires
     same-length
     returns
-    enum-told-2
-    book-of-requires-2
+    enum-told
     finish-requires-2
     same-length-2
     returns-2)

@@ -1,83 +1,78 @@
-use mathlib.Core.Path.{_≡_, sym, ap, _∙_}
-use mathlib.Core.Bool.{Bool, not, _&&_}
-use Rattle.table.specs.Tables.{find, adjust, insert}
-use Rattle.shelves.specs.Offers.{dealsOf, storedDeals, seenDeal}
-use Rattle.command.specs.Caller.{offerNamed}
-use Rattle.book.specs.Turning.{sited-near, Turned, turned, put-back, has-room, let-in, stepping}
+use mathlib.Core.Path.{refl}
+use Rattle.rules.specs.Keys.{keysBy}
+use Rattle.book.specs.Turning.{Turned, turned, fetched, full-by, accounts-left, invoices-left, offers-left, steps}
 use borrow.Author.Needs.{needs}
 use Rattle.book.proofs.Book.obey.Statement.{statement}
 use Rattle.book.proofs.Book.obey.Tie as tie
 
-module _ (c : tie.After-turn) where
-  abbrev start : tie.Start
-  start = c .before .before .before .before .before .before
+step : (c : tie.After-turn) → Turned (c .before .before .before .before .before .before .before .before .before .before .before .before .before .before .before .before .before .before .before .before .args .self) (c .before .before .before .before .before .before .before .before .before .before .before .before .before .before .before .before .before .before .before .before .args .c) (keysBy (c .before .before .before .before .before .before .before .before .before .before .before .before .before .before .before .before .before .before .before .names .result .first) (c .before .before .before .before .before .before .before .before .before .before .key2 .result) (c .before .before .before .before .before .before .before .before .before .before .before .before .before .before .key .result) (c .before .before .before .before .before .before .before .before .before .before .before .before .before .before .before .before .before .before .before .names .result .offer)) (c .turn .result)
+step c = turned (c .before .before .before .before .before .before .before .before .before .before .before .before .before .before .before .before .before .before .before .before .pre) (fetched (c .before .before .before .before .before .before .before .before .before .before .before .before .before .before .before .before .before .before .before .names .ensures) (c .before .before .before .before .before .before .before .before .before .before .before .before .before .before .before .before .before .see .ensures) (c .before .before .before .before .before .before .before .before .before .before .before .before .before .before .key .ensures) (c .before .before .before .before .before .before .before .before .before .before .before .before .see2 .ensures) (c .before .before .before .before .before .before .before .before .before .before .key2 .ensures) (c .before .before .before .before .before .before .before .before .see3 .ensures) (c .before .before .before .before .before .before .before .see4 .ensures) (c .before .before .before .before .before .before .same .ensures)) (full-by (c .before .before .before .before .before .before .before .before .before .before .before .before .before .before .before .before .before .before .before .before .args .self) (c .before .before .before .full .ensures) (c .before .before .full2 .ensures) (c .before .full3 .ensures)) (c .turn .ensures)
 
-  seen : c .before .before .before .get .result ≡ seenDeal (find (dealsOf (start .args .self .offers)) (offerNamed (start .args .c)))
-  seen = c .before .before .before .get .ensures ∙ ap (λ i. seenDeal (find (dealsOf (start .args .self .offers)) i)) (c .before .before .before .before .offer .ensures)
+names-requires : tie.Need-names-requires
+names-requires c κs = search needs
 
-  step : Turned (start .args .self) (start .args .c) (c .turn .result)
-  step = turned (c .before .near-of .ensures) seen (c .before .before .full .ensures) (c .turn .ensures)
+see-requires : tie.Need-see-requires
+see-requires c κs = search needs
 
-  -- whether the offer came
-  came : {x : Bool} → not (c .before .before .before .get .result .here) && c .turn .result .near .deal .here ≡ x → not (seenDeal (find (dealsOf (start .args .self .offers)) (offerNamed (start .args .c))) .here) && c .turn .result .near .deal .here ≡ x
-  came h = ap (λ s. not (s .here) && c .turn .result .near .deal .here) (sym seen) ∙ h
+key-requires : tie.Need-key-requires
+key-requires c κs = search needs
 
--- src/lib.rt:925:13
-offer-requires : tie.Need-offer-requires
-offer-requires c κs = search needs
+see-requires-2 : tie.Need-see-requires-2
+see-requires-2 c κs = search needs
 
--- src/lib.rt:926:13
-get-requires : tie.Need-get-requires
-get-requires c κs = search needs
+key-requires-2 : tie.Need-key-requires-2
+key-requires-2 c κs = search needs
 
--- src/lib.rt:927:13
+see-requires-3 : tie.Need-see-requires-3
+see-requires-3 c κs = search needs
+
+see-requires-4 : tie.Need-see-requires-4
+see-requires-4 c κs = search needs
+
+same-requires : tie.Need-same-requires
+same-requires c κs = search needs
+
 full-requires : tie.Need-full-requires
-full-requires c κs = search needs
+full-requires c κs = c .before .before .before .before .before .before .before .before .before .before .before .before .before .before .before .before .pre .accounts
 
--- src/lib.rt:928:13
-near-of-requires : tie.Need-near-of-requires
-near-of-requires c κs = search needs
+full-requires-2 : tie.Need-full-requires-2
+full-requires-2 c κs = c .before .before .before .before .before .before .before .before .before .before .before .before .before .before .before .before .before .pre .invoices
 
--- src/lib.rt:929:13
+full-requires-3 : tie.Need-full-requires-3
+full-requires-3 c κs = c .before .before .before .before .before .before .before .before .before .before .before .before .before .before .before .before .before .before .pre .offers
+
 turn-requires : tie.Need-turn-requires
-turn-requires c κs = sited-near (c .before .before .before .before .before .pre) (c .near-of .ensures)
+turn-requires c κs = search needs
 
--- src/lib.rt:934:17
-let-in-requires : tie.Need-let-in-requires
-let-in-requires c κs = (c .before .before .before .before .before .before .before .before .before .before .before .before .pre .offers, rw (c .before .before .before .before .before .before .before .before .before .before .offer .ensures) (has-room (step (c .before .before .before .before .before .before)) (came (c .before .before .before .before .before .before) (c .if1 .taken))))
+store-requires : tie.Need-store-requires
+store-requires c κs = c .before .before .before .before .before .before .before .before .before .before .before .before .before .before .before .before .before .before .before .before .before .before .before .before .before .pre .accounts
 
--- src/lib.rt:935:17
-book-of-requires : tie.Need-book-of-requires
-book-of-requires c κs = search needs
+store-requires-2 : tie.Need-store-requires-2
+store-requires-2 c κs = c .before .before .before .before .before .before .before .before .before .before .before .before .before .before .before .before .before .before .before .before .before .before .before .before .before .before .pre .invoices
 
--- src/lib.rt:936:13
+store-requires-3 : tie.Need-store-requires-3
+store-requires-3 c κs = c .before .before .before .before .before .before .before .before .before .before .before .before .before .before .before .before .before .before .before .before .before .before .before .before .before .before .before .pre .offers
+
 returns : tie.Need-returns
-returns c = ap (λ b. record { answer = c .before .before .before .before .before .before .before .before .turn .result .answer; book = b }) (c .book-of .ensures) ∙ ap (stepping (c .before .before .before .before .before .before .before .before .turn .result)) (c .before .let-in .ensures ∙ ap (λ i. storedDeals (insert (dealsOf (c .before .before .before .before .before .before .before .before .before .before .before .before .before .before .args .self .offers)) i (c .before .before .before .before .before .before .before .before .turn .result .near .deal .row))) (c .before .before .before .before .before .before .before .before .before .before .before .before .offer .ensures)) ∙ let-in (step (c .before .before .before .before .before .before .before .before)) (came (c .before .before .before .before .before .before .before .before) (c .before .before .if1 .taken))
-
--- src/lib.rt:941:13
-put-requires : tie.Need-put-requires
-put-requires c κs = c .before .before .before .before .before .before .before .before .before .before .before .before .pre .offers
-
--- src/lib.rt:942:13
-book-of-requires-2 : tie.Need-book-of-requires-2
-book-of-requires-2 c κs = search needs
-
--- src/lib.rt:920:5
-returns-2 : tie.Need-returns-2
-returns-2 c = ap (λ b. record { answer = c .before .before .before .before .before .before .before .before .turn .result .answer; book = b }) (c .book-of2 .ensures) ∙ ap (stepping (c .before .before .before .before .before .before .before .before .turn .result)) (c .before .put .ensures ∙ ap (λ i. storedDeals (adjust (dealsOf (c .before .before .before .before .before .before .before .before .before .before .before .before .before .before .args .self .offers)) i (λ old. c .before .before .before .before .before .before .before .before .turn .result .near .deal .row))) (c .before .before .before .before .before .before .before .before .before .before .before .before .offer .ensures)) ∙ put-back (step (c .before .before .before .before .before .before .before .before)) (came (c .before .before .before .before .before .before .before .before) (c .before .before .if1 .left))
+returns c = steps (step (c .before .before .before .before .before .before .before .before .before .before)) (c .before .before .before .before .store .ensures _ (accounts-left (step (c .before .before .before .before .before .before .before .before .before .before)) refl)) (c .before .before .before .store2 .ensures _ (invoices-left (step (c .before .before .before .before .before .before .before .before .before .before)) refl)) (c .before .before .store3 .ensures _ (offers-left (step (c .before .before .before .before .before .before .before .before .before .before)) refl))
 
 pub obey-spec : {M : Type 1} → statement M
 obey-spec =
     tie.close
     (tie.spec
-    offer-requires
-    get-requires
+    names-requires
+    see-requires
+    key-requires
+    see-requires-2
+    key-requires-2
+    see-requires-3
+    see-requires-4
+    same-requires
     full-requires
-    near-of-requires
+    full-requires-2
+    full-requires-3
     turn-requires
-    let-in-requires
-    book-of-requires
-    returns
-    put-requires
-    book-of-requires-2
-    returns-2)
+    store-requires
+    store-requires-2
+    store-requires-3
+    returns)

@@ -1,0 +1,4 @@
+pub mod Settlement
+pub mod Parties
+pub mod Laws
+pub mod Steps

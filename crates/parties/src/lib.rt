@@ -1,0 +1,159 @@
+// The two accounts that a command sees. Where both are one row, what is put in one place is put in the other too.
+use account::Account;
+use account::SeenAccount;
+use terms::Terms;
+ghost use mathlib.Core.Path.{_≡_};
+ghost use Prim.Native.Nat.{ℕ};
+ghost use Rattle.refusal.specs.Rule.{answered};
+ghost use Rattle.table.specs.Tables.{Table};
+ghost use Rattle.account.specs.declared.Account as Row;
+ghost use Rattle.parties.specs.Settlement.{settleAccounts};
+ghost use mathlib.Core.Bool.{true, false};
+ghost use Rattle.parties.specs.Parties.{putFirst, putSecond, turned, letIn, sideOf, partiesOf, partied, postedParties, Settles};
+
+// The first and the second row; `one`: both are the same.
+pub struct Parties {
+    pub first: SeenAccount,
+    pub second: SeenAccount,
+    pub one: bool,
+}
+
+// An answer's number, 0 where rows were changed, and the rows.
+pub struct PartiesPosted {
+    pub answer: u64,
+    pub parties: Parties,
+}
+
+fn kept(answer: u64, parties: Parties) -> PartiesPosted
+    ensures { λ r. ⌜ r ≡ postedParties answer parties ⌝ }
+{
+    PartiesPosted {
+        answer: answer,
+        parties: parties,
+    }
+}
+
+impl Parties {
+    pub fn put_first(mut self, row: Account) -> Parties
+        ensures { λ r. ⌜ r ≡ putFirst self row ⌝ }
+    {
+        let s = self.first;
+        let n = s.put(row);
+        self.first = n;
+        if !self.one {
+            return self;
+        }
+        self.second = n;
+        self
+    }
+
+    pub fn put_second(mut self, row: Account) -> Parties
+        ensures { λ r. ⌜ r ≡ putSecond self row ⌝ }
+    {
+        let s = self.second;
+        let n = s.put(row);
+        self.second = n;
+        if !self.one {
+            return self;
+        }
+        self.first = n;
+        self
+    }
+
+    // A row let in at the first place.
+    pub fn let_in(mut self, row: Account) -> Parties
+        ensures { λ r. ⌜ r ≡ letIn self row ⌝ }
+    {
+        let n = SeenAccount {
+            here: true,
+            row: row,
+        };
+        self.first = n;
+        if !self.one {
+            return self;
+        }
+        self.second = n;
+        self
+    }
+
+    // The first, or the second.
+    pub fn side(self, first: bool) -> SeenAccount
+        ensures { λ r. ⌜ r ≡ sideOf self first ⌝ }
+    {
+        if !first {
+            let s = self.second;
+            return s;
+        }
+        let s = self.first;
+        s
+    }
+
+    // The second as the first, and the first as the second.
+    fn turned(self) -> Parties
+        ensures { λ r. ⌜ r ≡ turned self ⌝ }
+    {
+        let first = self.second;
+        let second = self.first;
+        Parties {
+            first: first,
+            second: second,
+            one: self.one,
+        }
+    }
+
+    // The first pays the second.
+    fn settle(self, t: Terms) -> PartiesPosted
+        ensures { λ r. ⌜ ((a b : ℕ) (u : Table Row.Account) → self ≡ partiesOf a b u → r ≡ answered (partied a b) u (settleAccounts u a b t)) ⌝ }
+    {
+        let s = self.first;
+        if !s.here {
+            return kept(refusal::NOT_FOUND, self);
+        }
+        let l = s.row;
+        let p = l.debit(t);
+        let a = p.answer;
+        if !(a == 0) {
+            return kept(a, self);
+        }
+        let paid = p.row;
+        let one = self.put_first(paid);
+        let g = one.second;
+        if !g.here {
+            return kept(refusal::NOT_FOUND, self);
+        }
+        let o = g.row;
+        let q = o.credit(t);
+        let b = q.answer;
+        if !(b == 0) {
+            return kept(b, self);
+        }
+        let gained = q.row;
+        let two = one.put_second(gained);
+        let h = two.first;
+        let m = h.row;
+        let v = m.accept(t);
+        let c = v.answer;
+        if !(c == 0) {
+            return kept(c, self);
+        }
+        let grown = v.row;
+        let three = two.put_first(grown);
+        PartiesPosted {
+            answer: 0,
+            parties: three,
+        }
+    }
+
+    // The lender pays the originator; `lends`: the first is the lender, else the second is.
+    pub fn settle_by(self, t: Terms, lends: bool) -> PartiesPosted
+        ensures { λ r. ⌜ Settles lends self t r ⌝ }
+    {
+        if lends {
+            return self.settle(t);
+        }
+        let other = self.turned();
+        let p = other.settle(t);
+        let back = p.parties;
+        kept(p.answer, back.turned())
+    }
+}

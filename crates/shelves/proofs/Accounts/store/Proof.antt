@@ -1,0 +1,107 @@
+use lib.ListN.{set}
+use mathlib.Core.Path.{subst}
+use mathlib.Core.Bool.{Bool, not, _&&_}
+use Rattle.table.specs.NamedLaws.{fine-by}
+use Rattle.shelves.specs.Accounts.{AccountShelf}
+use mathlib.Core.Path.{_≡_, refl, sym, ap, _∙_}
+use mathlib.Core.Bool.{true}
+use Prim.Native.Nat.{_<_}
+use native.Mathlib.Omega.{arith}
+use Rattle.table.specs.Tables.{Table}
+use Rattle.table.specs.Storing.{Left, good, stays, room, grows}
+use Rattle.table.specs.Spots.{spotBy}
+use Rattle.table.specs.SpotLaws.{spot-below, spot-found}
+use Rattle.table.specs.Tables.{has}
+use Rattle.table.specs.Named.{findBy, putBy, idOf}
+use Rattle.account.specs.declared.Account.{Account}
+use Rattle.shelves.specs.Accounts.{accountsOf, asAccounts, storedAccounts}
+use Rattle.shelves.specs.Laws.{accounts-keeping}
+use Rattle.shelves.specs.Seeing.{accountRow}
+use Rattle.shelves.specs.Placing.{accounts-wrote, was-by}
+use borrow.Author.Needs.{needs}
+use Rattle.shelves.proofs.Accounts.store.Statement.{statement}
+use Rattle.shelves.proofs.Accounts.store.Tie as tie
+
+below-b : (c : tie.After-spot-by) → c .spot-by .result .at < 64
+below-b c = spot-below (c .before .before .before .before .pre) (omega arith) (c .before .before .before .before .args .second) (c .spot-by .ensures)
+
+below-a : (c : tie.After-spot-by2) → c .spot-by2 .result .at < 64
+below-a c = spot-below (c .before .before .before .before .before .before .before .before .before .before .pre) (omega arith) (c .before .before .before .before .before .before .before .before .before .before .args .first) (c .spot-by2 .ensures)
+
+was : (c : tie.After-over2) → c .before .before .before .spot-by2 .result .here ≡ has (findBy (accountsOf (c .before .before .before .before .before .before .before .before .before .before .before .before .before .args .t1)) (c .before .before .before .before .before .before .before .before .before .before .before .before .before .args .first))
+was c = was-by _ _ (spot-found (c .before .before .before .before .before .before .before .before .before .before .before .before .before .pre) (omega arith) (c .before .before .before .before .before .before .before .before .before .before .before .before .before .args .first) (c .before .before .before .spot-by2 .ensures))
+
+came : (c : tie.After-over2) → {b : Bool} → not (c .before .before .before .spot-by2 .result .here) && (c .before .before .before .before .before .before .before .before .before .before .before .before .before .args .x .here) ≡ b → not (has (findBy (accountsOf (c .before .before .before .before .before .before .before .before .before .before .before .before .before .args .t1)) (c .before .before .before .before .before .before .before .before .before .before .before .before .before .args .first))) && (c .before .before .before .before .before .before .before .before .before .before .before .before .before .args .x .here) ≡ b
+came c = λ q. ap (λ z. not z && (c .before .before .before .before .before .before .before .before .before .before .before .before .before .args .x .here)) (sym (was c)) ∙ q
+
+wrote : (c : tie.After-over2) → asAccounts (c .before .before .before .before .before .before .before .before .before .before .before .before .before .args .t1 .ids) (set (set (c .before .before .before .before .before .before .before .before .before .before .before .before .before .args .t1 .rows) (c .before .before .before .before .before .before .before .before .before .spot-by .result .at) (c .before .before .before .before .before .before .before .over .result)) (c .before .before .before .spot-by2 .result .at) (c .over2 .result)) (c .before .before .before .before .before .before .before .before .before .before .before .before .before .args .t1 .count) ≡ storedAccounts (putBy (putBy (accountsOf (c .before .before .before .before .before .before .before .before .before .before .before .before .before .args .t1)) (c .before .before .before .before .before .before .before .before .before .before .before .before .before .args .second) (c .before .before .before .before .before .before .before .before .before .before .before .before .before .args .y)) (c .before .before .before .before .before .before .before .before .before .before .before .before .before .args .first) (c .before .before .before .before .before .before .before .before .before .before .before .before .before .args .x .row))
+wrote c = accounts-wrote (c .before .before .before .before .before .before .before .before .before .before .before .before .before .pre) (c .before .before .before .before .before .before .before .before .before .before .before .before .before .args .first) (c .before .before .before .before .before .before .before .before .before .before .before .before .before .args .second) (c .before .before .before .spot-by2 .ensures) (c .before .before .before .before .before .before .before .before .before .spot-by .ensures) (c .before .before .before .before .before .before .before .before .before .before .before .before .before .args .x .row) (c .before .before .before .before .before .before .before .before .before .before .before .before .before .args .y) (c .before .before .before .before .before .before .before .over .ensures) (c .over2 .ensures)
+
+spot-by-requires : tie.Need-spot-by-requires
+spot-by-requires c κs = search needs
+
+mul-other : tie.Need-mul-other
+mul-other c = omega (arith, below-b c)
+
+element-copy-out-other : tie.Need-element-copy-out-other
+element-copy-out-other c = omega (arith, below-b c)
+
+over-requires : tie.Need-over-requires
+over-requires c κs = search needs
+
+mul-b : tie.Need-mul-b
+mul-b c = omega (arith, below-b (c .before .before))
+
+element-set-from-b : tie.Need-element-set-from-b
+element-set-from-b c = omega (arith, below-b (c .before .before))
+
+spot-by-requires-2 : tie.Need-spot-by-requires-2
+spot-by-requires-2 c κs = search needs
+
+mul-old : tie.Need-mul-old
+mul-old c = omega (arith, below-a c)
+
+element-copy-out-old : tie.Need-element-copy-out-old
+element-copy-out-old c = omega (arith, below-a c)
+
+over-requires-2 : tie.Need-over-requires-2
+over-requires-2 c κs = search needs
+
+mul-d : tie.Need-mul-d
+mul-d c = omega (arith, below-a (c .before .before .before))
+
+element-set-from-d : tie.Need-element-set-from-d
+element-set-from-d c = omega (arith, below-a (c .before .before .before))
+
+id-requires : tie.Need-id-requires
+id-requires c κs = search needs
+
+let-in-requires : tie.Need-let-in-requires
+let-in-requires c κs = subst AccountShelf (sym (wrote (c .before .before .before .before))) (accounts-keeping .good (fine-by (fine-by (accounts-keeping .fine _ (c .before .before .before .before .before .before .before .before .before .before .before .before .before .before .before .before .before .pre)) (c .before .before .before .before .before .before .before .before .before .before .before .before .before .before .before .before .before .args .second) (c .before .before .before .before .before .before .before .before .before .before .before .before .before .before .before .before .before .args .y)) (c .before .before .before .before .before .before .before .before .before .before .before .before .before .before .before .before .before .args .first) (c .before .before .before .before .before .before .before .before .before .before .before .before .before .before .before .before .before .args .x .row)))
+
+returns : tie.Need-returns
+returns c = λ u l. grows accounts-keeping accountRow (λ r. refl) l (wrote (c .before .before .before .before .before)) (came (c .before .before .before .before .before) (c .before .before .if1 .taken)) ((simp (c .before .id .ensures) at (c .let-in .ensures)) (room accounts-keeping accountRow (λ r. refl) l (wrote (c .before .before .before .before .before)) (came (c .before .before .before .before .before) (c .before .before .if1 .taken))))
+
+returns-2 : tie.Need-returns-2
+returns-2 c = λ u l. stays accounts-keeping accountRow (λ r. refl) l (wrote (c .before .before .before)) (came (c .before .before .before) (c .if1 .left))
+
+pub store-spec : {M : Type 1} → statement M
+store-spec =
+    tie.close
+    (tie.spec
+    spot-by-requires
+    mul-other
+    element-copy-out-other
+    over-requires
+    mul-b
+    element-set-from-b
+    spot-by-requires-2
+    mul-old
+    element-copy-out-old
+    over-requires-2
+    mul-d
+    element-set-from-d
+    id-requires
+    let-in-requires
+    returns
+    returns-2)

@@ -1,0 +1,29 @@
+use mathlib.Core.Path.{sym, ap, _∙_}
+use Prim.Native.Nat.{_<_}
+use native.Mathlib.Omega.{arith}
+use Rattle.table.specs.SpotLaws.{spot-below, spot-found}
+use Rattle.invoice.specs.Seen.{seenInvoice}
+use borrow.Author.Needs.{needs}
+use Rattle.shelves.proofs.Invoices.see.Statement.{statement}
+use Rattle.shelves.proofs.Invoices.see.Tie as tie
+
+below : (c : tie.After-spot-by) → c .spot-by .result .at < 64
+below c = spot-below (c .before .before .before .before .pre) (omega arith) (c .before .before .before .before .args .key) (c .spot-by .ensures)
+
+spot-by-requires : tie.Need-spot-by-requires
+spot-by-requires c κs = search needs
+
+mul-row : tie.Need-mul-row
+mul-row c = omega (arith, below c)
+
+element-copy-out-row : tie.Need-element-copy-out-row
+element-copy-out-row c = omega (arith, below c)
+
+at-requires : tie.Need-at-requires
+at-requires c κs = search needs
+
+returns : tie.Need-returns
+returns c = c .at .ensures ∙ ap seenInvoice (sym (spot-found (c .before .before .before .before .before .before .pre) (omega arith) (c .before .before .before .before .before .before .args .key) (c .before .before .spot-by .ensures)))
+
+pub see-spec : {M : Type 1} → statement M
+see-spec = tie.close (tie.spec spot-by-requires mul-row element-copy-out-row at-requires returns)
