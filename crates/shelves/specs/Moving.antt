@@ -1,14 +1,15 @@
--- The loop that lets a row into the table of offers: each column moves up by one from the row's place to the count
-use Prim.Native.Nat.{ℕ, _+_, _≤_, _<_}
+-- The loop that lets a row into the table of offers: each column moves up by one, from the count down to the row's place
+use Prim.Native.Nat.{ℕ, suc, _+_, _≤_, _<_}
 use native.Mathlib.Omega.{arith}
 use mathlib.Core.Path.{_≡_, refl, sym, ap, _∙_}
+use mathlib.Core.List.{List}
 use lib.ListN.{length, getD, set, take, List·getD-map}
-use Rattle.table.specs.Tables.{key, held, insert, Room}
+use Rattle.table.specs.Tables.{held, insert, Room}
 use Rattle.table.specs.Find.{findIn}
 use Rattle.table.specs.declared.Found.the-variants.{Absent}
-use Rattle.table.specs.Padded.{padded, pad-rest, length-padded}
-use Rattle.table.specs.Shift.{insertAt}
-use Rattle.table.specs.Short.{Short, short-turn, short-done}
+use Rattle.table.specs.Padded.{padded, pad-rest}
+use Rattle.table.specs.Shift.{insertAt, Lifts, lifts, lifts-on}
+use Rattle.table.specs.Raising.{Between, ids-raised}
 use Rattle.table.specs.Columns.{column}
 use Rattle.negotiation.specs.declared.Negotiation.{Negotiation}
 use Rattle.terms.specs.declared.Schedule.{Schedule}
@@ -19,53 +20,55 @@ use Rattle.shelves.specs.declared.Offers.{Offers}
 use Rattle.shelves.specs.Offers.{dealsOf, storedDeals, DealShelf}
 use Rattle.shelves.specs.Deals.{offersOf, offers-long, deals-kept, deal-in}
 
--- w is what is there in the end, u what is there at the turn i, c of its rows in use; x, o, g and p are carried
-pub record Moves (c : ℕ) (w u : Offers) (i x : ℕ) (o : Offer) (g : Negotiation) (p : Schedule) : Type 0 where
-  pub ids : Short 64 0 c (w .ids) (u .ids) i x
-  pub rows : Short 64 (noDeal .offer) c (w .rows) (u .rows) i o
-  pub negotiations : Short 64 (noDeal .negotiation) c (w .negotiations) (u .negotiations) i g
-  pub schedules : Short 64 (noDeal .schedule) c (w .schedules) (u .schedules) i p
-  pub count : u .count ≡ w .count
-
-abbrev pub moved : Offers → ℕ → ℕ → Offer → Negotiation → Schedule → Offers
-moved u k x o g p = offersOf (insertAt k x (u .ids)) (u .count) (insertAt k o (u .rows)) (insertAt k g (u .negotiations)) (insertAt k p (u .schedules))
+-- u is what was there before the loop, w what is there at i; the row's place is k
+pub record Moves (u : Offers) (k : ℕ) (w : Offers) (i : ℕ) : Type 0 where
+  pub ids : Lifts 64 (u .ids) (w .ids) i
+  pub rows : Lifts 64 (u .rows) (w .rows) i
+  pub negotiations : Lifts 64 (u .negotiations) (w .negotiations) i
+  pub schedules : Lifts 64 (u .schedules) (w .schedules) i
+  pub place : Between k (u .count) i
 
 module _ {u : Offers} (s : DealShelf u) where
   -- past the count all is zero
-  free-part : {X : Type 0} (f : Deal → X) (j : ℕ) → u .count ≤ j → getD (column f (padded noDeal held 64 (dealsOf u))) j (f noDeal) ≡ f noDeal
-  free-part f j h = List·getD-map f (padded noDeal held 64 (dealsOf u)) j noDeal ∙ ap f (pad-rest noDeal held 64 (dealsOf u) j (omega (arith, s .shelf .counted)))
+  free-part : {X : Type 0} (f : Deal → X) (part : Offers → List X) → part (storedDeals (dealsOf u)) ≡ column f (padded noDeal held 64 (dealsOf u)) → length (part u) ≡ 64 → Lifts 64 (part u) (part u) (u .count)
+  free-part f part e l =
+      let parts = padded noDeal held 64 (dealsOf u) in
+      lifts (f noDeal) (part u) (u .count) l
+      (λ j h. ap (λ z. getD (part z) j (f noDeal)) (deals-kept s) ∙ ap (λ z. getD z j (f noDeal)) e ∙ List·getD-map f parts j noDeal ∙ ap f (pad-rest noDeal held 64 (dealsOf u) j (omega (arith, s .shelf .counted))))
 
-  free-ids : (j : ℕ) → u .count ≤ j → getD (u .ids) j 0 ≡ 0
-  free-ids j h = ap (λ z. getD z j 0) (sym (s .shelf .ids-kept)) ∙ pad-rest 0 key 64 (dealsOf u) j (omega (arith, s .shelf .counted))
-
-  pub moves : (k x : ℕ) (o : Offer) (g : Negotiation) (p : Schedule) → k ≤ u .count → Moves (u .count) (moved u k x o g p) u k x o g p
-  moves k x o g p h =
+  pub moves : {k : ℕ} → k ≤ u .count → Moves u k u (u .count)
+  moves h =
       let long = offers-long s in
       record {
-        ids = record { shifting = record { size = ap length (sym (s .shelf .ids-kept)) ∙ length-padded 0 key 64 (dealsOf u); rest = refl }; free = λ j a b l. free-ids j b; carry = λ q. absurd (omega arith) };
-        rows = record { shifting = record { size = long; rest = refl }; free = λ j a b l. ap (λ (z : Offers). getD (z .rows) j (noDeal .offer)) (deals-kept s) ∙ free-part (λ d. d .offer) j b; carry = λ q. absurd (omega arith) };
-        negotiations = record { shifting = record { size = s .level .second ∙ long; rest = refl }; free = λ j a b l. ap (λ (z : Offers). getD (z .negotiations) j (noDeal .negotiation)) (deals-kept s) ∙ free-part (λ d. d .negotiation) j b; carry = λ q. absurd (omega arith) };
-        schedules = record { shifting = record { size = s .level .third ∙ long; rest = refl }; free = λ j a b l. ap (λ (z : Offers). getD (z .schedules) j (noDeal .schedule)) (deals-kept s) ∙ free-part (λ d. d .schedule) j b; carry = λ q. absurd (omega arith) };
-        count = refl;
+        ids = ids-raised (s .shelf);
+        rows = free-part (λ d. d .offer) (λ z. z .rows) refl long;
+        negotiations = free-part (λ d. d .negotiation) (λ z. z .negotiations) refl (s .level .second ∙ long);
+        schedules = free-part (λ d. d .schedule) (λ z. z .schedules) refl (s .level .third ∙ long);
+        place = record { above = h; within = omega arith };
       }
 
-module _ {c : ℕ} {w u : Offers} {i x : ℕ} {o : Offer} {g : Negotiation} {p : Schedule} (m : Moves c w u i x o g p) where
-  pub moves-up : (a : ℕ) (b : Offer) (e : Negotiation) (f : Schedule) → i < 64
-      → Moves c w (offersOf (set (u .ids) i x) (u .count) (set (u .rows) i o) (set (u .negotiations) i g) (set (u .schedules) i p)) (i + 1) (getD (u .ids) i a) (getD (u .rows) i b) (getD (u .negotiations) i e) (getD (u .schedules) i f)
-  moves-up a b e f h =
-      record { ids = short-turn a (m .ids) h; rows = short-turn b (m .rows) h; negotiations = short-turn e (m .negotiations) h; schedules = short-turn f (m .schedules) h; count = m .count }
+module _ {u w : Offers} {k i : ℕ} (m : Moves u k w i) where
+  pub moves-on : {j : ℕ} (a : ℕ) (b : Offer) (e : Negotiation) (f : Schedule) → i ≡ suc j → k < i
+      → Moves u k (offersOf (set (w .ids) i (getD (w .ids) j a)) (w .count) (set (w .rows) i (getD (w .rows) j b)) (set (w .negotiations) i (getD (w .negotiations) j e)) (set (w .schedules) i (getD (w .schedules) j f))) j
+  moves-on a b e f q h =
+      record {
+        ids = lifts-on a (m .ids) q;
+        rows = lifts-on b (m .rows) q;
+        negotiations = lifts-on e (m .negotiations) q;
+        schedules = lifts-on f (m .schedules) q;
+        place = record { above = omega arith; within = omega (arith, m .place .within) };
+      }
 
-  abbrev bare : ℕ → Offers → Offers
-  bare n z = offersOf (z .ids) n (z .rows) (z .negotiations) (z .schedules)
-
-  moved-up : (n : ℕ) → c < i → bare n u ≡ bare n w
-  moved-up n h =
-      ap (λ z. offersOf z n (u .rows) (u .negotiations) (u .schedules)) (short-done (m .ids) h)
-      ∙ ap (λ z. offersOf (w .ids) n z (u .negotiations) (u .schedules)) (short-done (m .rows) h)
-      ∙ ap (λ z. offersOf (w .ids) n (w .rows) z (u .schedules)) (short-done (m .negotiations) h)
-      ∙ ap (λ z. offersOf (w .ids) n (w .rows) (w .negotiations) z) (short-done (m .schedules) h)
-
-module _ {u l : Offers} {i k j x : ℕ} {o : Offer} {n : Negotiation} {p : Schedule} where
-  pub deals-moved : DealShelf u → Room 64 (dealsOf u) i → findIn (take (u .count) (u .ids)) i ≡ Absent k → (d : Deal) → Moves (u .count) (moved u k i (d .offer) (d .negotiation) (d .schedule)) l j x o n p → u .count < j
-      → offersOf (l .ids) (u .count + 1) (l .rows) (l .negotiations) (l .schedules) ≡ storedDeals (insert (dealsOf u) i d)
-  deals-moved s r q d m h = moved-up m (u .count + 1) h ∙ deal-in s i k d (omega (arith, r .small, s .shelf .counted)) q
+  pub deal-let-in : DealShelf u → (x : ℕ) (d : Deal) → u .count < 64 → findIn (take (u .count) (u .ids)) x ≡ Absent k → i ≤ k
+      → offersOf (set (w .ids) i x) (u .count + 1) (set (w .rows) i (d .offer)) (set (w .negotiations) i (d .negotiation)) (set (w .schedules) i (d .schedule)) ≡ storedDeals (insert (dealsOf u) x d)
+  deal-let-in s x d h e l =
+      let c = u .count + 1 in
+      let o = d .offer in
+      let g = d .negotiation in
+      let p = d .schedule in
+      ap (λ z. offersOf z c (set (w .rows) i o) (set (w .negotiations) i g) (set (w .schedules) i p)) (m .ids .put x)
+      ∙ ap (λ z. offersOf (insertAt i x (u .ids)) c z (set (w .negotiations) i g) (set (w .schedules) i p)) (m .rows .put o)
+      ∙ ap (λ z. offersOf (insertAt i x (u .ids)) c (insertAt i o (u .rows)) z (set (w .schedules) i p)) (m .negotiations .put g)
+      ∙ ap (λ z. offersOf (insertAt i x (u .ids)) c (insertAt i o (u .rows)) (insertAt i g (u .negotiations)) z) (m .schedules .put p)
+      ∙ ap (λ z. offersOf (insertAt z x (u .ids)) c (insertAt z o (u .rows)) (insertAt z g (u .negotiations)) (insertAt z p (u .schedules))) (omega (arith, m .place .above))
+      ∙ deal-in s x k d h e

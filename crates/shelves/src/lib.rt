@@ -12,7 +12,6 @@ use table::Named;
 use terms::Schedule;
 ghost use mathlib.Core.Path.{_≡_};
 ghost use mathlib.Core.List.{[]};
-ghost use Rattle.table.specs.Shift.{insertAt};
 ghost use Rattle.table.specs.Tables.{insert, full, Room};
 ghost use Rattle.table.specs.Named.{findBy};
 ghost use Rattle.account.specs.Seen.{seenAccount};
@@ -31,20 +30,6 @@ pub struct Accounts {
     pub ids: [u64; 64],
     pub rows: [Account; 64],
     pub count: usize,
-}
-
-pub fn insert_account(mut xs: [Account; 64], at: usize, x: Account) -> [Account; 64]
-    ensures { λ r. ⌜ r ≡ insertAt at x xs ⌝ }
-{
-    let mut carry = x;
-    let mut i = at;
-    while i < ROOM {
-        let next = xs[i];
-        xs[i] = carry;
-        carry = next;
-        i += 1;
-    }
-    xs
 }
 
 impl Accounts {
@@ -114,21 +99,28 @@ impl Accounts {
         self
     }
 
+    // A row let in at its id's place: from there on each row in use moves up by one.
     pub fn let_in(mut self, id: u64, row: Account) -> Accounts
         requires { ⌜ AccountShelf self ⌝ }
         ensures { λ r. ⌜ (Room 64 (accountsOf self) id → r ≡ storedAccounts (insert (accountsOf self) id row)) ⌝ }
     {
         let n = self.count;
+        if ROOM <= n {
+            return self;
+        }
         let f = table::find(&self.ids, n, id);
         let Found::Absent(k) = f else {
             return self;
         };
-        let c = self.ids;
-        let d = table::insert_id(c, k, id);
-        self.ids = d;
-        let r = self.rows;
-        let s = insert_account(r, k, row);
-        self.rows = s;
+        let mut i = n;
+        while k < i {
+            let j = i - 1;
+            self.ids[i] = self.ids[j];
+            self.rows[i] = self.rows[j];
+            i = j;
+        }
+        self.ids[i] = id;
+        self.rows[i] = row;
         self.count = n + 1;
         self
     }
@@ -146,20 +138,6 @@ pub struct Invoices {
     pub ids: [u64; 64],
     pub rows: [Invoice; 64],
     pub count: usize,
-}
-
-pub fn insert_invoice(mut xs: [Invoice; 64], at: usize, x: Invoice) -> [Invoice; 64]
-    ensures { λ r. ⌜ r ≡ insertAt at x xs ⌝ }
-{
-    let mut carry = x;
-    let mut i = at;
-    while i < ROOM {
-        let next = xs[i];
-        xs[i] = carry;
-        carry = next;
-        i += 1;
-    }
-    xs
 }
 
 impl Invoices {
@@ -224,21 +202,28 @@ impl Invoices {
         self
     }
 
+    // A row let in at its id's place: from there on each row in use moves up by one.
     pub fn let_in(mut self, id: u64, row: Invoice) -> Invoices
         requires { ⌜ InvoiceShelf self ⌝ }
         ensures { λ r. ⌜ (Room 64 (invoicesOf self) id → r ≡ storedInvoices (insert (invoicesOf self) id row)) ⌝ }
     {
         let n = self.count;
+        if ROOM <= n {
+            return self;
+        }
         let f = table::find(&self.ids, n, id);
         let Found::Absent(k) = f else {
             return self;
         };
-        let c = self.ids;
-        let d = table::insert_id(c, k, id);
-        self.ids = d;
-        let r = self.rows;
-        let s = insert_invoice(r, k, row);
-        self.rows = s;
+        let mut i = n;
+        while k < i {
+            let j = i - 1;
+            self.ids[i] = self.ids[j];
+            self.rows[i] = self.rows[j];
+            i = j;
+        }
+        self.ids[i] = id;
+        self.rows[i] = row;
         self.count = n + 1;
         self
     }
@@ -356,7 +341,7 @@ impl Offers {
         self
     }
 
-    // From the id's place on each row in use moves up by one.
+    // A row let in at its id's place: from there on each row in use moves up by one.
     pub fn let_in(mut self, id: u64, row: Deal) -> Offers
         requires { ⌜ DealShelf self ⌝ }
         ensures { λ r. ⌜ (Room 64 (dealsOf self) id → r ≡ storedDeals (insert (dealsOf self) id row)) ⌝ }
@@ -369,26 +354,22 @@ impl Offers {
         let Found::Absent(k) = f else {
             return self;
         };
-        let mut x = id;
-        let mut o = row.offer;
-        let mut g = row.negotiation;
-        let mut p = row.schedule;
-        let mut i = k;
-        while i <= n {
-            let a = self.ids[i];
-            let b = self.rows[i];
-            let c = self.negotiations[i];
-            let d = self.schedules[i];
-            self.ids[i] = x;
-            self.rows[i] = o;
-            self.negotiations[i] = g;
-            self.schedules[i] = p;
-            x = a;
-            o = b;
-            g = c;
-            p = d;
-            i += 1;
+        let mut i = n;
+        while k < i {
+            let j = i - 1;
+            self.ids[i] = self.ids[j];
+            self.rows[i] = self.rows[j];
+            self.negotiations[i] = self.negotiations[j];
+            self.schedules[i] = self.schedules[j];
+            i = j;
         }
+        let o = row.offer;
+        let g = row.negotiation;
+        let p = row.schedule;
+        self.ids[i] = id;
+        self.rows[i] = o;
+        self.negotiations[i] = g;
+        self.schedules[i] = p;
         self.count = n + 1;
         self
     }

@@ -30,4 +30,4 @@ pub mod Alike
 pub mod Touching
 pub mod SpotLaws
 pub mod Storing
-pub mod Short
+pub mod Raising

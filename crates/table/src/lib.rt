@@ -1,7 +1,6 @@
 ghost use mathlib.Core.Path.{_≡_};
 ghost use lib.ListN.{take};
 ghost use Rattle.table.specs.Find.{findIn};
-ghost use Rattle.table.specs.Shift.{insertAt};
 ghost use Rattle.table.specs.Test.{idsTest};
 ghost use Rattle.table.specs.Named.{idOf, same};
 ghost use Rattle.table.specs.Spots.{spotOf, spotBy};
@@ -69,21 +68,6 @@ pub fn find(ids: &[u64], len: usize, id: u64) -> Found
         i += 1;
     }
     Found::Absent(i)
-}
-
-/// Puts `x` at `at`: what stood there and after it moves up by one, and the last goes.
-pub fn insert_id(mut xs: [u64; 64], at: usize, x: u64) -> [u64; 64]
-    ensures { λ r. ⌜ r ≡ insertAt at x xs ⌝ }
-{
-    let mut carry = x;
-    let mut i = at;
-    while i < 64 {
-        let next = xs[i];
-        xs[i] = carry;
-        carry = next;
-        i += 1;
-    }
-    xs
 }
 
 /// Whether the first `len` ids ascend strictly and the rest are 0. Id 0 is an ordinary id.
