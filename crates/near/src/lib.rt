@@ -33,8 +33,7 @@ ghost use Rattle.settings.specs.Totals.{repayOf};
 ghost use Rattle.settings.specs.declared.Settings as Sets;
 ghost use Rattle.rules.specs.Model.{Model, accountIn, invoiceIn, offerIn, paperOf, onAccount, onInvoice, onOffer, onTotals, onSettings};
 ghost use Rattle.command.specs.Names.{namesOf};
-ghost use Rattle.rules.specs.Rules.{gateBy, opening, registering, creating, settling, accepting, concluding, amending, countering, lenderOf, originatorOf, ruled, commanded};
-ghost use Rattle.command.specs.Shape.{shapeOf};
+ghost use Rattle.rules.specs.Rules.{gateBy, opening, registering, creating, settling, accepting, concluding, amending, countering, lenderOf, originatorOf, commanded};
 ghost use Rattle.rules.specs.Keys.{keysBy, keysOf};
 ghost use Rattle.near.specs.Near.{viewOf, Turns, Anywhere, AtFirst, AtSecond, AtPaper, AtDeal, dealKeys, sidesOf, BySides, Concludes, SeesAmendment, SeesCounter, TurnsBy};
 
@@ -589,9 +588,17 @@ fn gate(c: Command, paused: bool, here: bool) -> u64
 
 // ── The turn of a command ──
 impl Near {
-    fn execute(self, c: Command, filled: Full) -> Turn
-        ensures { λ r. ⌜ TurnsBy self r c filled (λ m. ruled m (shapeOf c)) ⌝ }
+    // The gate, then the command's own rule. `filled`: which tables have no room.
+    pub fn turn(self, c: Command, filled: Full) -> Turn
+        ensures { λ r. ⌜ TurnsBy self r c filled (λ m. commanded m c) ⌝ }
     {
+        let n = gate(c, self.settings.paused, self.parties.first.here);
+        if !(n == 0) {
+            return Turn {
+                answer: n,
+                near: self,
+            };
+        }
         match c {
             Command::OpenAccount { now: _, caller: _ } => self.opened(filled.accounts),
             Command::Deposit {
@@ -707,19 +714,5 @@ impl Near {
                 next,
             } => self.seats_set(seats, threshold, next),
         }
-    }
-
-    // The gate, then the command's own rule. `filled`: which tables have no room.
-    pub fn turn(self, c: Command, filled: Full) -> Turn
-        ensures { λ r. ⌜ TurnsBy self r c filled (λ m. commanded m c) ⌝ }
-    {
-        let n = gate(c, self.settings.paused, self.parties.first.here);
-        if !(n == 0) {
-            return Turn {
-                answer: n,
-                near: self,
-            };
-        }
-        self.execute(c, filled)
     }
 }
