@@ -104,20 +104,19 @@ fn records(s: &[u8], out: &mut [u8], ink: bool, first: usize) -> Told
                 let id = names.offer;
                 let po = table::spot_by(&offers.ids, offers.count, id);
                 let io = po.at;
-                let mut x = SeenDeal::none();
+                let mut deal = Deal::none();
                 if po.here {
                     let o = offers.rows[io];
                     let g = offers.negotiations[io];
                     let p = offers.schedules[io];
-                    x = SeenDeal {
-                        here: true,
-                        row: Deal {
-                            offer: o,
-                            negotiation: g,
-                            schedule: p,
-                        },
-                    };
+                    deal.offer = o;
+                    deal.negotiation = g;
+                    deal.schedule = p;
                 }
+                let x = SeenDeal {
+                    here: po.here,
+                    row: deal,
+                };
                 let np = names.paper;
                 let key = np.key(x.row.offer.invoice);
                 let pi = table::spot_by(&invoices.ids, invoices.count, key);
@@ -184,26 +183,23 @@ fn records(s: &[u8], out: &mut [u8], ink: bool, first: usize) -> Told
                 }
                 if !po.here & t.near.deal.here {
                     let n = offers.count;
-                    let mut ci = id.id();
-                    let mut co = t.near.deal.row.offer;
-                    let mut cg = t.near.deal.row.negotiation;
-                    let mut cp = t.near.deal.row.schedule;
-                    let mut j = po.slot;
-                    while j <= n {
-                        let a1 = offers.ids[j];
-                        let b1 = offers.rows[j];
-                        let c1 = offers.negotiations[j];
-                        let d1 = offers.schedules[j];
-                        offers.ids[j] = ci;
-                        offers.rows[j] = co;
-                        offers.negotiations[j] = cg;
-                        offers.schedules[j] = cp;
-                        ci = a1;
-                        co = b1;
-                        cg = c1;
-                        cp = d1;
-                        j += 1;
+                    let slot = po.slot;
+                    let mut j = n;
+                    while slot < j {
+                        let i = j - 1;
+                        offers.ids[j] = offers.ids[i];
+                        offers.rows[j] = offers.rows[i];
+                        offers.negotiations[j] = offers.negotiations[i];
+                        offers.schedules[j] = offers.schedules[i];
+                        j = i;
                     }
+                    let u1 = t.near.deal.row.offer;
+                    let u2 = t.near.deal.row.negotiation;
+                    let u3 = t.near.deal.row.schedule;
+                    offers.ids[j] = id.id();
+                    offers.rows[j] = u1;
+                    offers.negotiations[j] = u2;
+                    offers.schedules[j] = u3;
                     offers.count = n + 1;
                 }
                 k += 1;

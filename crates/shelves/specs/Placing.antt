@@ -9,7 +9,7 @@ use Rattle.table.specs.Tables.{Found, absent, here, find, has, Room}
 use Rattle.table.specs.Find.{findIn}
 use Rattle.table.specs.Named.{idOf, findBy, putBy}
 use Rattle.table.specs.Spots.{spotOf, spotBy, atSpot}
-use Rattle.table.specs.SpotLaws.{spot-put, has-spot, written-new}
+use Rattle.table.specs.SpotLaws.{spot-put, has-spot, on-spot, off-spot, written-new}
 use Rattle.table.specs.NamedLaws.{never, fine-by}
 use Rattle.table.specs.declared.Named.{Named}
 use Rattle.table.specs.declared.Named.the-variants.{Nothing, Id}
@@ -24,7 +24,10 @@ use Rattle.invoice.specs.declared.Invoice.{Invoice}
 use Rattle.negotiation.specs.declared.Negotiation.{Negotiation}
 use Rattle.terms.specs.declared.Schedule.{Schedule}
 use Rattle.offer.specs.declared.Offer.{Offer}
+use Rattle.offer.specs.Offer.{noDeal}
+use Rattle.offer.specs.Seen.{seenDeal}
 use Rattle.offer.specs.declared.Deal.{Deal}
+use Rattle.offer.specs.declared.SeenDeal.{SeenDeal}
 use Rattle.shelves.specs.declared.Accounts.{Accounts}
 use Rattle.shelves.specs.declared.Invoices.{Invoices}
 use Rattle.shelves.specs.declared.Offers.{Offers}
@@ -63,6 +66,9 @@ module _ {u : Invoices} (s : InvoiceShelf u) (i : Named) {p : Spot} (e : p ≡ s
   invoice-wrote h = ap (λ z. asInvoices (u .ids) (set (u .rows) (p .at) z) (u .count)) h ∙ spot-put s (omega arith) i e asInvoices x
 
 -- ── An offer ──────────────────────────────────────────────────────
+abbrev pub seenAs : Bool → Deal → SeenDeal
+seenAs b d = record { here = b; row = d }
+
 module _ {u : Offers} (s : DealShelf u) (o : Offer) (n : Negotiation) (l : Schedule) where
   abbrev dealAt : ℕ → Deal
   dealAt k = dealOf (getD (u .rows) k o) (getD (u .negotiations) k n) (getD (u .schedules) k l)
@@ -98,6 +104,13 @@ module _ {u : Offers} (s : DealShelf u) (o : Offer) (n : Negotiation) (l : Sched
   module _ (i : Named) {p : Spot} (e : p ≡ spotBy (take (u .count) (u .ids)) i) where
     pub deal-read : findBy (dealsOf u) i ≡ atSpot (p .here) (dealAt (p .at))
     deal-read = rw e (found-by i)
+
+    -- what is seen of it, read only where it is there
+    pub deal-here : {x : Deal} → p .here ≡ true → x ≡ dealAt (p .at) → seenAs (p .here) x ≡ seenDeal (findBy (dealsOf u) i)
+    deal-here h q = ap (λ z. seenAs (p .here) z) q ∙ ap (λ z. seenAs z (dealAt (p .at))) h ∙ ap seenDeal (sym (deal-read ∙ on-spot _ h))
+
+    pub deal-away : {x : Deal} → p .here ≡ false → x ≡ noDeal → seenAs (p .here) x ≡ seenDeal (findBy (dealsOf u) i)
+    deal-away h q = ap (λ z. seenAs (p .here) z) q ∙ ap (λ z. seenAs z noDeal) h ∙ ap seenDeal (sym (deal-read ∙ off-spot _ h))
 
     pub deal-wrote : (d : Deal) {w : Deal} → w ≡ cond (p .here) d (dealAt (p .at)) → wrote (p .at) w ≡ storedDeals (putBy (dealsOf u) i d)
     deal-wrote d h = rw h (rw e (put-by d i))

@@ -22,8 +22,8 @@ use Rattle.shelves.specs.Invoices.{invoicesOf, asInvoices, storedInvoices}
 use Rattle.shelves.specs.Offers.{dealsOf, storedDeals}
 use Rattle.shelves.specs.Laws.{accounts-keeping, invoices-keeping}
 use Rattle.shelves.specs.OfferLaws.{deals-keeping}
-use Rattle.shelves.specs.Moving.{Moves, moved, moves, moves-up, deals-moved}
-use Rattle.shelves.specs.Placing.{accounts-wrote, invoice-wrote, deal-read, deal-there, deal-gone, came-new, was-by, room-count}
+use Rattle.shelves.specs.Moving.{Moves, moves, moves-on, deal-let-in}
+use Rattle.shelves.specs.Placing.{accounts-wrote, invoice-wrote, deal-read, deal-there, deal-gone, came-new, was-by, room-count, deal-here, deal-away, seenAs}
 use Rattle.shelves.specs.Seeing.{accountRow, invoiceRow, dealRow}
 use Rattle.sheet.specs.Sheet.{penAt}
 use Rattle.sheet.specs.SheetLaws.{kept}
@@ -36,16 +36,17 @@ use Rattle.book.specs.Turning.{bookBy, Turned, turned, fetched, full-by, next, 
 use Rattle.replay.specs.Standing.{fresh, stepped}
 use Rattle.replay.specs.Ahead.{ahead, inside}
 use Rattle.replay.specs.Going.{Going, going, going-on, gone-bad, gone}
+use Rattle.table.specs.Tables.{insert}
 use Rattle.replay.proofs.records.Statement.{statement}
 use Rattle.replay.proofs.records.Tie as tie
 
 abbrev Inv-loop2 : tie.InvT-loop2
-Inv-loop2 s out ink first accounts invoices offers₀ totals settings pen at k next io ii ia ib one n ci₀ co₀ cg₀ cp₀ j₀ offers ci co cg cp j =
-    Moves n (moved offers₀ j₀ ci₀ co₀ cg₀ cp₀) offers j ci co cg cp
+Inv-loop2 s out ink first accounts invoices offers₀ totals settings pen at k next id io ii ia ib one t n slot j₀ offers j =
+    Moves offers₀ slot offers j
 
 abbrev μ-loop2 : tie.MeasureT-loop2
-μ-loop2 s out ink first accounts invoices offers₀ totals settings pen at k next io ii ia ib one n ci₀ co₀ cg₀ cp₀ j₀ offers ci co cg cp j =
-    n + 1 - j
+μ-loop2 s out ink first accounts invoices offers₀ totals settings pen at k next id io ii ia ib one t n slot j₀ offers j =
+    j
 
 abbrev Inv-loop : tie.InvT-loop
 Inv-loop s out₀ ink first accounts₀ invoices₀ offers₀ totals₀ settings₀ pen₀ at₀ k₀ out accounts invoices offers totals settings pen at k =
@@ -67,8 +68,8 @@ more c = omega (arith, c .before .before .before .before .before .loop .inv .pla
 below-o : (c : tie.After-spot-by Inv-loop2 μ-loop2 Inv-loop μ-loop) → c .spot-by .result .at < 64
 below-o c = spot-below (shelved (c .before .before .before .before) .offers .shelf) (omega arith) (c .before .before .before .before .names .result .offer) (c .spot-by .ensures)
 
-seen-o : (c : tie.Joined1 Inv-loop2 μ-loop2 Inv-loop μ-loop) → c .if1 .x ≡ offerBy (modelOf (bookBy (c .before .before .before .before .before .before .before .before .before .before .before .loop .accounts) (c .before .before .before .before .before .before .before .before .before .before .before .loop .invoices) (c .before .before .before .before .before .before .before .before .before .before .before .loop .offers) (c .before .before .before .before .before .before .before .before .before .before .before .loop .totals) (c .before .before .before .before .before .before .before .before .before .before .before .loop .settings))) (c .before .before .before .before .before .before .names .result .offer)
-seen-o c = ⊎-elim (λ t. t .4 ∙ ap seenDeal (sym (deal-read (shelved (c .before .before .before .before .before .before) .offers) _ _ _ (c .before .before .before .before .before .before .names .result .offer) (c .before .before .spot-by .ensures) ∙ on-spot _ (t .0 .taken)))) (λ l. l .1 ∙ c .before .none .ensures ∙ ap seenDeal (sym ((deal-read (shelved (c .before .before .before .before .before .before) .offers) (noDeal .offer) (noDeal .negotiation) (noDeal .schedule) (c .before .before .before .before .before .before .names .result .offer) (c .before .before .spot-by .ensures)) ∙ off-spot _ (l .0 .left)))) (c .if1 .came)
+seen-o : (c : tie.Joined1 Inv-loop2 μ-loop2 Inv-loop μ-loop) → seenAs (c .before .before .spot-by .result .here) (c .if1 .deal) ≡ offerBy (modelOf (bookBy (c .before .before .before .before .before .before .before .before .before .before .before .loop .accounts) (c .before .before .before .before .before .before .before .before .before .before .before .loop .invoices) (c .before .before .before .before .before .before .before .before .before .before .before .loop .offers) (c .before .before .before .before .before .before .before .before .before .before .before .loop .totals) (c .before .before .before .before .before .before .before .before .before .before .before .loop .settings))) (c .before .before .before .before .before .before .names .result .offer)
+seen-o c = ⊎-elim (λ t. deal-here (shelved (c .before .before .before .before .before .before) .offers) _ _ _ (c .before .before .before .before .before .before .names .result .offer) (c .before .before .spot-by .ensures) (t .0 .taken) (t .4)) (λ l. deal-away (shelved (c .before .before .before .before .before .before) .offers) (noDeal .offer) (noDeal .negotiation) (noDeal .schedule) (c .before .before .before .before .before .before .names .result .offer) (c .before .before .spot-by .ensures) (l .0 .left) (l .1 ∙ c .before .none .ensures)) (c .if1 .came)
 
 below-i : (c : tie.After-spot-by2 Inv-loop2 μ-loop2 Inv-loop μ-loop) → c .spot-by2 .result .at < 64
 below-i c = spot-below (shelved (c .before .before .before .before .before .before .before .before .before .before .before) .invoices) (omega arith) (c .before .before .before .before .key .result) (c .spot-by2 .ensures)
@@ -128,7 +129,7 @@ slot-o : (c : tie.Then5 Inv-loop2 μ-loop2 Inv-loop μ-loop) → findIn (take (c
 slot-o c = ap (λ n. findIn (take n (c .before .before .before .before .before .before .before .before .before .if2 .offers .ids)) (idOf (c .before .before .before .before .before .before .before .before .before .before .before .before .before .before .before .before .before .before .before .before .before .before .before .before .before .before .before .before .before .before .before .before .before .before .before .before .before .before .before .before .before .before .before .before .before .before .before .before .before .before .before .names .result .offer))) (count-o (c .before .before .before .before .before .before .before .before .before)) ∙ ap (λ l. findIn (take (c .before .before .before .before .before .before .before .before .before .before .before .before .before .before .before .before .before .before .before .before .before .before .before .before .before .before .before .before .before .before .before .before .before .before .before .before .before .before .before .before .before .before .before .before .before .before .before .before .before .before .before .before .before .before .before .before .loop .offers .count) l) (idOf (c .before .before .before .before .before .before .before .before .before .before .before .before .before .before .before .before .before .before .before .before .before .before .before .before .before .before .before .before .before .before .before .before .before .before .before .before .before .before .before .before .before .before .before .before .before .before .before .before .before .before .before .names .result .offer))) (ids-o (c .before .before .before .before .before .before .before .before .before)) ∙ spot-slot _ (c .before .before .before .before .before .before .before .before .before .before .before .before .before .before .before .before .before .before .before .before .before .before .before .before .before .before .before .before .before .before .before .before .before .before .before .before .before .before .before .before .before .before .before .before .before .before .before .before .before .before .before .names .result .offer) (c .before .before .before .before .before .before .before .before .before .before .before .before .before .before .before .before .before .before .before .before .before .before .before .before .before .before .before .before .before .before .before .before .before .before .before .before .before .before .before .before .before .before .before .before .before .before .before .spot-by .ensures) (named deals-keeping dealRow (λ r. refl) (left-o (c .before .before .before .before .before .before .before .before .before .before .before .before .before .before .before .before .before .before .before .before .before .before .before)) (wrote-o (c .before .before .before .before .before .before .before .before .before)) (c .if5 .taken)) (came-new _ _ (c .if5 .taken))
 
 stored-o : (c : tie.Joined5 Inv-loop2 μ-loop2 Inv-loop μ-loop) → c .if5 .offers ≡ storedDeals (next (step (c .before .before .before .before .before .before .before .before .before .before .before .before .before .before .before .before .before .before .before .before .before .before .before)) .offers)
-stored-o c = ⊎-elim (λ x. grows deals-keeping dealRow (λ r. refl) (left-o (c .before .before .before .before .before .before .before .before .before .before .before .before .before .before .before .before .before .before .before .before .before .before .before)) (wrote-o (c .before .before .before .before .before .before .before .before .before)) (x .0 .taken) (x .7 ∙ (simp (x .1 .ensures) at (deals-moved (good deals-keeping dealRow (λ r. refl) (left-o (c .before .before .before .before .before .before .before .before .before .before .before .before .before .before .before .before .before .before .before .before .before .before .before)) (wrote-o (c .before .before .before .before .before .before .before .before .before))) (rw (x .1 .ensures) (room deals-keeping dealRow (λ r. refl) (left-o (c .before .before .before .before .before .before .before .before .before .before .before .before .before .before .before .before .before .before .before .before .before .before .before)) (wrote-o (c .before .before .before .before .before .before .before .before .before)) (x .0 .taken))) (rw (x .1 .ensures) (slot-o (record { before = (c .before); if5 = x .0 }))) (c .before .before .before .before .before .before .before .before .before .before .before .before .before .before .before .before .before .before .before .before .before .before .before .turn .result .near .deal .row) (x .5 .inv) (x .6 .left))))) (λ x. x .1 ∙ stays deals-keeping dealRow (λ r. refl) (left-o (c .before .before .before .before .before .before .before .before .before .before .before .before .before .before .before .before .before .before .before .before .before .before .before)) (wrote-o (c .before .before .before .before .before .before .before .before .before)) (x .0 .left)) (c .if5 .came)
+stored-o c = ⊎-elim (λ x. grows deals-keeping dealRow (λ r. refl) (left-o (c .before .before .before .before .before .before .before .before .before .before .before .before .before .before .before .before .before .before .before .before .before .before .before)) (wrote-o (c .before .before .before .before .before .before .before .before .before)) (x .0 .taken) (x .7 ∙ deal-let-in (x .1 .inv) (good deals-keeping dealRow (λ r. refl) (left-o (c .before .before .before .before .before .before .before .before .before .before .before .before .before .before .before .before .before .before .before .before .before .before .before)) (wrote-o (c .before .before .before .before .before .before .before .before .before))) (x .6 .result) (c .before .before .before .before .before .before .before .before .before .before .before .before .before .before .before .before .before .before .before .before .before .before .before .turn .result .near .deal .row) (few-o (record { before = (c .before); if5 = x .0 })) (rw (x .6 .ensures) (slot-o (record { before = (c .before); if5 = x .0 }))) (omega (arith, x .2 .left)) ∙ ap (λ z. storedDeals (insert (dealsOf (c .before .before .before .before .before .before .before .before .before .if2 .offers)) z (c .before .before .before .before .before .before .before .before .before .before .before .before .before .before .before .before .before .before .before .before .before .before .before .turn .result .near .deal .row))) (x .6 .ensures))) (λ x. x .1 ∙ stays deals-keeping dealRow (λ r. refl) (left-o (c .before .before .before .before .before .before .before .before .before .before .before .before .before .before .before .before .before .before .before .before .before .before .before)) (wrote-o (c .before .before .before .before .before .before .before .before .before)) (x .0 .left)) (c .if5 .came)
 
 fresh-requires : tie.Need-fresh-requires Inv-loop2 μ-loop2 Inv-loop μ-loop
 fresh-requires c κs = search needs
@@ -286,68 +287,92 @@ id-requires-2 c κs = search needs
 let-in-requires-2 : tie.Need-let-in-requires-2 Inv-loop2 μ-loop2 Inv-loop μ-loop
 let-in-requires-2 c κs = good invoices-keeping invoiceRow (λ r. refl) (left-i (c .before .before .before .before .before .before .before .before .before .before .before .before .before .before .before .before .before .before .before .before .before)) (wrote-i (c .before .before .before .before .before .before .before .before))
 
+loop2-holds : tie.Need-loop2-holds Inv-loop2 μ-loop2 Inv-loop μ-loop
+loop2-holds c = moves (good deals-keeping dealRow (λ r. refl) (left-o (c .before .before .before .before .before .before .before .before .before .before .before .before .before .before .before .before .before .before .before .before .before .before .before)) (wrote-o (c .before .before .before .before .before .before .before .before .before))) (slot-inside _ _ _ _ (slot-o c))
+
+sub-i : tie.Need-sub-i Inv-loop2 μ-loop2 Inv-loop μ-loop
+sub-i c = omega (arith, c .loop2-test .taken)
+
+mul-offers : tie.Need-mul-offers Inv-loop2 μ-loop2 Inv-loop μ-loop
+mul-offers c = omega (arith, c .loop2-test .taken, c .before .loop2 .inv .place .within, few-o (c .before .before))
+
+element-copy-out-offers : tie.Need-element-copy-out-offers Inv-loop2 μ-loop2 Inv-loop μ-loop
+element-copy-out-offers c = omega (arith, c .loop2-test .taken, c .before .loop2 .inv .place .within, few-o (c .before .before))
+
+mul-offers-2 : tie.Need-mul-offers-2 Inv-loop2 μ-loop2 Inv-loop μ-loop
+mul-offers-2 c = omega (arith, c .before .loop2-test .taken, c .before .before .loop2 .inv .place .within, few-o (c .before .before .before))
+
+element-write-offers : tie.Need-element-write-offers Inv-loop2 μ-loop2 Inv-loop μ-loop
+element-write-offers c = omega (arith, c .before .loop2-test .taken, c .before .before .loop2 .inv .place .within, few-o (c .before .before .before))
+
+mul-offers-3 : tie.Need-mul-offers-3 Inv-loop2 μ-loop2 Inv-loop μ-loop
+mul-offers-3 c = omega (arith, c .before .loop2-test .taken, c .before .before .loop2 .inv .place .within, few-o (c .before .before .before))
+
+element-copy-out-offers-2 : tie.Need-element-copy-out-offers-2 Inv-loop2 μ-loop2 Inv-loop μ-loop
+element-copy-out-offers-2 c = omega (arith, c .before .loop2-test .taken, c .before .before .loop2 .inv .place .within, few-o (c .before .before .before))
+
+mul-t130 : tie.Need-mul-t130 Inv-loop2 μ-loop2 Inv-loop μ-loop
+mul-t130 c = omega (arith, c .before .before .loop2-test .taken, c .before .before .before .loop2 .inv .place .within, few-o (c .before .before .before .before))
+
+element-set-from-offers : tie.Need-element-set-from-offers Inv-loop2 μ-loop2 Inv-loop μ-loop
+element-set-from-offers c = omega (arith, c .before .before .loop2-test .taken, c .before .before .before .loop2 .inv .place .within, few-o (c .before .before .before .before))
+
+mul-offers-4 : tie.Need-mul-offers-4 Inv-loop2 μ-loop2 Inv-loop μ-loop
+mul-offers-4 c = omega (arith, c .before .before .loop2-test .taken, c .before .before .before .loop2 .inv .place .within, few-o (c .before .before .before .before))
+
+element-copy-out-offers-3 : tie.Need-element-copy-out-offers-3 Inv-loop2 μ-loop2 Inv-loop μ-loop
+element-copy-out-offers-3 c = omega (arith, c .before .before .loop2-test .taken, c .before .before .before .loop2 .inv .place .within, few-o (c .before .before .before .before))
+
+mul-t130-2 : tie.Need-mul-t130-2 Inv-loop2 μ-loop2 Inv-loop μ-loop
+mul-t130-2 c = omega (arith, c .before .before .before .loop2-test .taken, c .before .before .before .before .loop2 .inv .place .within, few-o (c .before .before .before .before .before))
+
+element-set-from-offers-2 : tie.Need-element-set-from-offers-2 Inv-loop2 μ-loop2 Inv-loop μ-loop
+element-set-from-offers-2 c = omega (arith, c .before .before .before .loop2-test .taken, c .before .before .before .before .loop2 .inv .place .within, few-o (c .before .before .before .before .before))
+
+mul-offers-5 : tie.Need-mul-offers-5 Inv-loop2 μ-loop2 Inv-loop μ-loop
+mul-offers-5 c = omega (arith, c .before .before .before .loop2-test .taken, c .before .before .before .before .loop2 .inv .place .within, few-o (c .before .before .before .before .before))
+
+element-copy-out-offers-4 : tie.Need-element-copy-out-offers-4 Inv-loop2 μ-loop2 Inv-loop μ-loop
+element-copy-out-offers-4 c = omega (arith, c .before .before .before .loop2-test .taken, c .before .before .before .before .loop2 .inv .place .within, few-o (c .before .before .before .before .before))
+
+mul-t130-3 : tie.Need-mul-t130-3 Inv-loop2 μ-loop2 Inv-loop μ-loop
+mul-t130-3 c = omega (arith, c .before .before .before .before .loop2-test .taken, c .before .before .before .before .before .loop2 .inv .place .within, few-o (c .before .before .before .before .before .before))
+
+element-set-from-offers-3 : tie.Need-element-set-from-offers-3 Inv-loop2 μ-loop2 Inv-loop μ-loop
+element-set-from-offers-3 c = omega (arith, c .before .before .before .before .loop2-test .taken, c .before .before .before .before .before .loop2 .inv .place .within, few-o (c .before .before .before .before .before .before))
+
+loop2-less : tie.Need-loop2-less Inv-loop2 μ-loop2 Inv-loop μ-loop
+loop2-less c = omega (arith, c .before .before .before .before .loop2-test .taken)
+
+loop2-again : tie.Need-loop2-again Inv-loop2 μ-loop2 Inv-loop μ-loop
+loop2-again c = moves-on (c .before .before .before .before .before .loop2 .inv) _ _ _ _ (omega (arith, c .before .before .before .before .loop2-test .taken)) (c .before .before .before .before .loop2-test .taken)
+
 id-requires-3 : tie.Need-id-requires-3 Inv-loop2 μ-loop2 Inv-loop μ-loop
 id-requires-3 c κs = search needs
 
-loop2-holds : tie.Need-loop2-holds Inv-loop2 μ-loop2 Inv-loop μ-loop
-loop2-holds c = moves (good deals-keeping dealRow (λ r. refl) (left-o (c .before .before .before .before .before .before .before .before .before .before .before .before .before .before .before .before .before .before .before .before .before .before .before .before .before .before .before)) (wrote-o (c .before .before .before .before .before .before .before .before .before .before .before .before .before))) _ _ _ _ _ (slot-inside _ _ _ _ (slot-o (c .before .before .before .before)))
+mul-offers-6 : tie.Need-mul-offers-6 Inv-loop2 μ-loop2 Inv-loop μ-loop
+mul-offers-6 c = omega (arith, c .before .before .before .before .before .loop2 .inv .place .within, few-o (c .before .before .before .before .before .before))
 
-mul-a1 : tie.Need-mul-a1 Inv-loop2 μ-loop2 Inv-loop μ-loop
-mul-a1 c = omega (arith, c .loop2-test .taken, few-o (c .before .before .before .before .before .before))
+element-write-offers-2 : tie.Need-element-write-offers-2 Inv-loop2 μ-loop2 Inv-loop μ-loop
+element-write-offers-2 c = omega (arith, c .before .before .before .before .before .loop2 .inv .place .within, few-o (c .before .before .before .before .before .before))
 
-element-copy-out-a1 : tie.Need-element-copy-out-a1 Inv-loop2 μ-loop2 Inv-loop μ-loop
-element-copy-out-a1 c = omega (arith, c .loop2-test .taken, few-o (c .before .before .before .before .before .before))
+mul-u1-2 : tie.Need-mul-u1-2 Inv-loop2 μ-loop2 Inv-loop μ-loop
+mul-u1-2 c = omega (arith, c .before .before .before .before .before .loop2 .inv .place .within, few-o (c .before .before .before .before .before .before))
 
-mul-b1 : tie.Need-mul-b1 Inv-loop2 μ-loop2 Inv-loop μ-loop
-mul-b1 c = omega (arith, c .before .loop2-test .taken, few-o (c .before .before .before .before .before .before .before))
+element-set-from-u1-2 : tie.Need-element-set-from-u1-2 Inv-loop2 μ-loop2 Inv-loop μ-loop
+element-set-from-u1-2 c = omega (arith, c .before .before .before .before .before .loop2 .inv .place .within, few-o (c .before .before .before .before .before .before))
 
-element-copy-out-b1 : tie.Need-element-copy-out-b1 Inv-loop2 μ-loop2 Inv-loop μ-loop
-element-copy-out-b1 c = omega (arith, c .before .loop2-test .taken, few-o (c .before .before .before .before .before .before .before))
+mul-u2-2 : tie.Need-mul-u2-2 Inv-loop2 μ-loop2 Inv-loop μ-loop
+mul-u2-2 c = omega (arith, c .before .before .before .before .before .loop2 .inv .place .within, few-o (c .before .before .before .before .before .before))
 
-mul-c1 : tie.Need-mul-c1 Inv-loop2 μ-loop2 Inv-loop μ-loop
-mul-c1 c = omega (arith, c .before .before .loop2-test .taken, few-o (c .before .before .before .before .before .before .before .before))
+element-set-from-u2-2 : tie.Need-element-set-from-u2-2 Inv-loop2 μ-loop2 Inv-loop μ-loop
+element-set-from-u2-2 c = omega (arith, c .before .before .before .before .before .loop2 .inv .place .within, few-o (c .before .before .before .before .before .before))
 
-element-copy-out-c1 : tie.Need-element-copy-out-c1 Inv-loop2 μ-loop2 Inv-loop μ-loop
-element-copy-out-c1 c = omega (arith, c .before .before .loop2-test .taken, few-o (c .before .before .before .before .before .before .before .before))
+mul-u3-2 : tie.Need-mul-u3-2 Inv-loop2 μ-loop2 Inv-loop μ-loop
+mul-u3-2 c = omega (arith, c .before .before .before .before .before .loop2 .inv .place .within, few-o (c .before .before .before .before .before .before))
 
-mul-d1 : tie.Need-mul-d1 Inv-loop2 μ-loop2 Inv-loop μ-loop
-mul-d1 c = omega (arith, c .before .before .before .loop2-test .taken, few-o (c .before .before .before .before .before .before .before .before .before))
-
-element-copy-out-d1 : tie.Need-element-copy-out-d1 Inv-loop2 μ-loop2 Inv-loop μ-loop
-element-copy-out-d1 c = omega (arith, c .before .before .before .loop2-test .taken, few-o (c .before .before .before .before .before .before .before .before .before))
-
-mul-offers : tie.Need-mul-offers Inv-loop2 μ-loop2 Inv-loop μ-loop
-mul-offers c = omega (arith, c .before .before .before .before .loop2-test .taken, few-o (c .before .before .before .before .before .before .before .before .before .before))
-
-element-write-offers : tie.Need-element-write-offers Inv-loop2 μ-loop2 Inv-loop μ-loop
-element-write-offers c = omega (arith, c .before .before .before .before .loop2-test .taken, few-o (c .before .before .before .before .before .before .before .before .before .before))
-
-mul-co : tie.Need-mul-co Inv-loop2 μ-loop2 Inv-loop μ-loop
-mul-co c = omega (arith, c .before .before .before .before .loop2-test .taken, few-o (c .before .before .before .before .before .before .before .before .before .before))
-
-element-set-from-co : tie.Need-element-set-from-co Inv-loop2 μ-loop2 Inv-loop μ-loop
-element-set-from-co c = omega (arith, c .before .before .before .before .loop2-test .taken, few-o (c .before .before .before .before .before .before .before .before .before .before))
-
-mul-cg : tie.Need-mul-cg Inv-loop2 μ-loop2 Inv-loop μ-loop
-mul-cg c = omega (arith, c .before .before .before .before .loop2-test .taken, few-o (c .before .before .before .before .before .before .before .before .before .before))
-
-element-set-from-cg : tie.Need-element-set-from-cg Inv-loop2 μ-loop2 Inv-loop μ-loop
-element-set-from-cg c = omega (arith, c .before .before .before .before .loop2-test .taken, few-o (c .before .before .before .before .before .before .before .before .before .before))
-
-mul-cp : tie.Need-mul-cp Inv-loop2 μ-loop2 Inv-loop μ-loop
-mul-cp c = omega (arith, c .before .before .before .before .loop2-test .taken, few-o (c .before .before .before .before .before .before .before .before .before .before))
-
-element-set-from-cp : tie.Need-element-set-from-cp Inv-loop2 μ-loop2 Inv-loop μ-loop
-element-set-from-cp c = omega (arith, c .before .before .before .before .loop2-test .taken, few-o (c .before .before .before .before .before .before .before .before .before .before))
-
-add-j : tie.Need-add-j Inv-loop2 μ-loop2 Inv-loop μ-loop
-add-j c = omega (arith, c .before .before .before .before .loop2-test .taken, few-o (c .before .before .before .before .before .before .before .before .before .before))
-
-loop2-less : tie.Need-loop2-less Inv-loop2 μ-loop2 Inv-loop μ-loop
-loop2-less c = omega (arith, c .before .before .before .before .loop2-test .taken, few-o (c .before .before .before .before .before .before .before .before .before .before))
-
-loop2-again : tie.Need-loop2-again Inv-loop2 μ-loop2 Inv-loop μ-loop
-loop2-again c = moves-up (c .before .before .before .before .before .loop2 .inv) _ _ _ _ (omega (arith, c .before .before .before .before .loop2-test .taken, few-o (c .before .before .before .before .before .before .before .before .before .before)))
+element-set-from-u3-2 : tie.Need-element-set-from-u3-2 Inv-loop2 μ-loop2 Inv-loop μ-loop
+element-set-from-u3-2 c = omega (arith, c .before .before .before .before .before .loop2 .inv .place .within, few-o (c .before .before .before .before .before .before))
 
 add-offers : tie.Need-add-offers Inv-loop2 μ-loop2 Inv-loop μ-loop
 add-offers c = omega (arith, few-o (c .before .before .before .before .before .before))
@@ -451,27 +476,35 @@ records-spec =
     let-in-requires
     id-requires-2
     let-in-requires-2
-    id-requires-3
     loop2-holds
-    mul-a1
-    element-copy-out-a1
-    mul-b1
-    element-copy-out-b1
-    mul-c1
-    element-copy-out-c1
-    mul-d1
-    element-copy-out-d1
+    sub-i
     mul-offers
+    element-copy-out-offers
+    mul-offers-2
     element-write-offers
-    mul-co
-    element-set-from-co
-    mul-cg
-    element-set-from-cg
-    mul-cp
-    element-set-from-cp
-    add-j
+    mul-offers-3
+    element-copy-out-offers-2
+    mul-t130
+    element-set-from-offers
+    mul-offers-4
+    element-copy-out-offers-3
+    mul-t130-2
+    element-set-from-offers-2
+    mul-offers-5
+    element-copy-out-offers-4
+    mul-t130-3
+    element-set-from-offers-3
     loop2-less
     loop2-again
+    id-requires-3
+    mul-offers-6
+    element-write-offers-2
+    mul-u1-2
+    element-set-from-u1-2
+    mul-u2-2
+    element-set-from-u2-2
+    mul-u3-2
+    element-set-from-u3-2
     add-offers
     add-k
     loop-less
