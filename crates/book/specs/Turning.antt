@@ -37,7 +37,7 @@ use Rattle.rules.specs.Touching.{touched-accounts, touched-invoices, touched-of
 use Rattle.near.specs.declared.Full.{Full}
 use Rattle.near.specs.declared.Near.{Near}
 use Rattle.near.specs.declared.Turn.{Turn}
-use Rattle.near.specs.Near.{viewOf, turnOf, fullOf, TurnsBy}
+use Rattle.near.specs.Near.{fullBy, viewOf, turnOf, fullOf, TurnsBy}
 use Rattle.book.specs.declared.Book.{Book}
 use Rattle.book.specs.declared.Step.{Step}
 use Rattle.book.specs.Stored.{modelOf, stepOf, Shelved}
@@ -75,11 +75,12 @@ module _ {b : Book} {c : Command} {n : Names} {key other : Named} {x : SeenDeal}
       }
 
 -- ── What the turn answers ─────────────────────────────────────────
-abbrev pub fullBy : Bool → Bool → Bool → Full
-fullBy a i o = record { accounts = a; invoices = i; offers = o }
-
-pub full-by : (b : Book) {x y z : Bool} → x ≡ full 64 (accountsOf (b .accounts)) → y ≡ full 64 (invoicesOf (b .invoices)) → z ≡ full 64 (dealsOf (b .offers)) → fullBy x y z ≡ fullOf (modelOf b)
-full-by b {x} {y} {z} p q r = ap (λ w. fullBy w y z) p ∙ ap (λ w. fullBy (full 64 (accountsOf (b .accounts))) w z) q ∙ ap (λ w. fullBy (full 64 (accountsOf (b .accounts))) (full 64 (invoicesOf (b .invoices))) w) r
+pub full-by : {b : Book} → Shelved b → fullBy (leb 64 (b .accounts .count)) (leb 64 (b .invoices .count)) (leb 64 (b .offers .count)) ≡ fullOf (modelOf b)
+full-by {b} s =
+    let none = fullOf (modelOf b) in
+    ap (λ z. fullBy z (leb 64 (b .invoices .count)) (leb 64 (b .offers .count))) (full-is (s .accounts))
+    ∙ ap (λ z. fullBy (none .accounts) z (leb 64 (b .offers .count))) (full-is (s .invoices))
+    ∙ ap (λ z. fullBy (none .accounts) (none .invoices) z) (full-is (s .offers .shelf))
 
 pub record Turned (b : Book) (c : Command) (k : Keys) (r : Turn) : Type 0 where
   pub shelved : Shelved b

@@ -104,11 +104,7 @@ impl Book {
             totals: totals,
             settings: settings,
         };
-        let filled = Full {
-            accounts: accounts.full(),
-            invoices: invoices.full(),
-            offers: offers.full(),
-        };
+        let filled = Full::of(accounts.count, invoices.count, offers.count);
         let t = near.turn(c, filled);
         let after = t.near;
         let both = after.parties;

@@ -9,9 +9,6 @@ ghost use Rattle.lists.specs.Wanted.{paged, wants, known};
 ghost use Rattle.lists.specs.Listing.{offersOf, InUse, numbersOf, inOrder, listing, laid, listRule, listedSays, told};
 ghost use Rattle.lists.specs.Active.{activeIn, activeOf, InRange};
 
-// How many rows the table has room for.
-pub const ROOM: usize = 64;
-
 // How many numbers an offer is.
 pub const NUMBERS: usize = 10;
 
@@ -161,10 +158,10 @@ impl OfferRows {
         ensures { λ r. ⌜ InUse self r ⌝ }
     {
         let n = self.count;
-        if n < ROOM {
+        if n < table::ROOM {
             return n;
         }
-        ROOM
+        table::ROOM
     }
 
     fn count_of(self, w: Wanted) -> usize

@@ -25,8 +25,11 @@ abbrev pub turnOf : Keys → ℕ → Model → Turn
 turnOf k n m = record { answer = n; near = viewOf k m }
 
 -- which tables have no room
+abbrev pub fullBy : Bool → Bool → Bool → Full
+fullBy a i o = record { accounts = a; invoices = i; offers = o }
+
 abbrev pub fullOf : Model → Full
-fullOf m = record { accounts = full 64 (m .accounts); invoices = full 64 (m .invoices); offers = full 64 (m .offers) }
+fullOf m = fullBy (full 64 (m .accounts)) (full 64 (m .invoices)) (full 64 (m .offers))
 
 -- ── A turn: whatever the book m is that shows these rows, r is what the rule u of it answers, seen at the same keys ──
 abbrev pub Turns : Near → Turn → Keys → Model → Rule Model → Type 0

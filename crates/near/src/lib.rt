@@ -15,6 +15,7 @@ use settings::Totals;
 use terms::Terms;
 ghost use mathlib.Core.Path.{_≡_};
 ghost use Prim.Native.Nat.{ℕ};
+ghost use lib.Dec.{leb};
 ghost use Rattle.refusal.specs.Choice.{pick};
 ghost use Rattle.refusal.specs.Refusal.{first};
 ghost use Rattle.refusal.specs.Rule.{Rule, answered};
@@ -35,7 +36,7 @@ ghost use Rattle.rules.specs.Model.{Model, accountIn, invoiceIn, offerIn, paper
 ghost use Rattle.command.specs.Names.{namesOf};
 ghost use Rattle.rules.specs.Rules.{gateBy, opening, registering, creating, settling, accepting, concluding, amending, countering, lenderOf, originatorOf, commanded};
 ghost use Rattle.rules.specs.Keys.{keysBy, keysOf};
-ghost use Rattle.near.specs.Near.{viewOf, Turns, Anywhere, AtFirst, AtSecond, AtPaper, AtDeal, dealKeys, sidesOf, BySides, Concludes, SeesAmendment, SeesCounter, TurnsBy};
+ghost use Rattle.near.specs.Near.{fullBy, viewOf, Turns, Anywhere, AtFirst, AtSecond, AtPaper, AtDeal, dealKeys, sidesOf, BySides, Concludes, SeesAmendment, SeesCounter, TurnsBy};
 
 // The rows at a command's keys, the totals and the settings.
 pub struct Near {
@@ -51,6 +52,19 @@ pub struct Full {
     pub accounts: bool,
     pub invoices: bool,
     pub offers: bool,
+}
+
+impl Full {
+    // By how many rows each table has.
+    pub fn of(accounts: usize, invoices: usize, offers: usize) -> Full
+        ensures { λ r. ⌜ r ≡ fullBy (leb 64 accounts) (leb 64 invoices) (leb 64 offers) ⌝ }
+    {
+        Full {
+            accounts: table::ROOM <= accounts,
+            invoices: table::ROOM <= invoices,
+            offers: table::ROOM <= offers,
+        }
+    }
 }
 
 // A command's answer, 0 where it is accepted, and what it leaves of what it saw.

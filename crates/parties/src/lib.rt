@@ -38,12 +38,12 @@ impl Parties {
         ensures { λ r. ⌜ r ≡ putFirst self row ⌝ }
     {
         let s = self.first;
-        let n = s.put(row);
-        self.first = n;
+        let stored = s.put(row);
+        self.first = stored;
         if !self.one {
             return self;
         }
-        self.second = n;
+        self.second = stored;
         self
     }
 
@@ -51,12 +51,12 @@ impl Parties {
         ensures { λ r. ⌜ r ≡ putSecond self row ⌝ }
     {
         let s = self.second;
-        let n = s.put(row);
-        self.second = n;
+        let kept = s.put(row);
+        self.second = kept;
         if !self.one {
             return self;
         }
-        self.first = n;
+        self.first = kept;
         self
     }
 
@@ -64,15 +64,15 @@ impl Parties {
     pub fn let_in(mut self, row: Account) -> Parties
         ensures { λ r. ⌜ r ≡ letIn self row ⌝ }
     {
-        let n = SeenAccount {
+        let came = SeenAccount {
             here: true,
             row: row,
         };
-        self.first = n;
+        self.first = came;
         if !self.one {
             return self;
         }
-        self.second = n;
+        self.second = came;
         self
     }
 
@@ -81,11 +81,11 @@ impl Parties {
         ensures { λ r. ⌜ r ≡ sideOf self first ⌝ }
     {
         if !first {
-            let s = self.second;
-            return s;
+            let other = self.second;
+            return other;
         }
-        let s = self.first;
-        s
+        let one = self.first;
+        one
     }
 
     // The second as the first, and the first as the second.

@@ -146,11 +146,7 @@ fn records(s: &[u8], out: &mut [u8], ink: bool, first: usize) -> Told
                     totals: totals,
                     settings: settings,
                 };
-                let filled = Full {
-                    accounts: shelves::ROOM <= accounts.count,
-                    invoices: shelves::ROOM <= invoices.count,
-                    offers: shelves::ROOM <= offers.count,
-                };
+                let filled = Full::of(accounts.count, invoices.count, offers.count);
                 let t = near.turn(c, filled);
                 pen = lines::put_answer(out, pen, ink, (k + 1) as u64, t.answer);
                 totals = t.near.totals;

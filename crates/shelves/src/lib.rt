@@ -12,7 +12,7 @@ use table::Named;
 use terms::Schedule;
 ghost use mathlib.Core.Path.{_≡_};
 ghost use mathlib.Core.List.{[]};
-ghost use Rattle.table.specs.Tables.{insert, full, Room};
+ghost use Rattle.table.specs.Tables.{insert, Room};
 ghost use Rattle.table.specs.Named.{findBy};
 ghost use Rattle.account.specs.Seen.{seenAccount};
 ghost use Rattle.invoice.specs.Seen.{seenInvoice};
@@ -22,9 +22,6 @@ ghost use Rattle.shelves.specs.Invoices.{invoicesOf, storedInvoices, Inv
 ghost use Rattle.shelves.specs.Offers.{dealsOf, storedDeals, DealShelf, dealsTest, WholeDeals};
 ghost use Rattle.shelves.specs.Seeing.{StoresAccounts, StoresInvoices, StoresDeals};
 ghost use Rattle.shelves.specs.Sized.{Sized};
-
-// How many rows a table has room for.
-pub const ROOM: usize = 64;
 
 pub struct Accounts {
     pub ids: [u64; 64],
@@ -54,7 +51,7 @@ impl Accounts {
         let t = table::ids_sound(&self.ids, n);
         let mut ok = true;
         let mut i = 0;
-        while i < ROOM {
+        while i < table::ROOM {
             let row = self.rows[i];
             let s = row.sound();
             let z = row.zero();
@@ -72,8 +69,8 @@ impl Accounts {
         let n = self.count;
         let p = table::spot_by(&self.ids, n, key);
         let i = p.at;
-        let row = self.rows[i];
-        SeenAccount::at(p.here, row)
+        let account = self.rows[i];
+        SeenAccount::at(p.here, account)
     }
 
     // The rows left by a turn, put back at their keys, second before first, or the first let in where it came.
@@ -90,22 +87,22 @@ impl Accounts {
         let p = table::spot_by(&self.ids, n, first);
         let i = p.at;
         let old = self.rows[i];
-        let row = x.row;
-        let d = row.over(p.here, old);
-        self.rows[i] = d;
+        let account = x.row;
+        let a = account.over(p.here, old);
+        self.rows[i] = a;
         if !p.here & x.here {
-            return self.let_in(first.id(), row);
+            return self.let_in(first.id(), account);
         }
         self
     }
 
     // A row let in at its id's place: from there on each row in use moves up by one.
-    pub fn let_in(mut self, id: u64, row: Account) -> Accounts
+    pub fn let_in(mut self, id: u64, account: Account) -> Accounts
         requires { ⌜ AccountShelf self ⌝ }
-        ensures { λ r. ⌜ (Room 64 (accountsOf self) id → r ≡ storedAccounts (insert (accountsOf self) id row)) ⌝ }
+        ensures { λ r. ⌜ (Room 64 (accountsOf self) id → r ≡ storedAccounts (insert (accountsOf self) id account)) ⌝ }
     {
         let n = self.count;
-        if ROOM <= n {
+        if table::ROOM <= n {
             return self;
         }
         let f = table::find(&self.ids, n, id);
@@ -120,17 +117,9 @@ impl Accounts {
             i = j;
         }
         self.ids[i] = id;
-        self.rows[i] = row;
+        self.rows[i] = account;
         self.count = n + 1;
         self
-    }
-
-    pub fn full(self) -> bool
-        requires { ⌜ AccountShelf self ⌝ }
-        ensures { λ r. ⌜ r ≡ full 64 (accountsOf self) ⌝ }
-    {
-        let n = self.count;
-        ROOM <= n
     }
 }
 
@@ -162,7 +151,7 @@ impl Invoices {
         let t = table::ids_sound(&self.ids, n);
         let mut ok = true;
         let mut i = 0;
-        while i < ROOM {
+        while i < table::ROOM {
             let row = self.rows[i];
             let s = row.sound();
             let z = row.zero();
@@ -180,8 +169,8 @@ impl Invoices {
         let n = self.count;
         let p = table::spot_by(&self.ids, n, key);
         let i = p.at;
-        let row = self.rows[i];
-        SeenInvoice::at(p.here, row)
+        let paper = self.rows[i];
+        SeenInvoice::at(p.here, paper)
     }
 
     // The row left by a turn, put back at its key, or let in where it came.
@@ -193,22 +182,22 @@ impl Invoices {
         let p = table::spot_by(&self.ids, n, key);
         let i = p.at;
         let old = self.rows[i];
-        let row = x.row;
-        let d = row.over(p.here, old);
-        self.rows[i] = d;
+        let paper = x.row;
+        let kept = paper.over(p.here, old);
+        self.rows[i] = kept;
         if !p.here & x.here {
-            return self.let_in(key.id(), row);
+            return self.let_in(key.id(), paper);
         }
         self
     }
 
     // A row let in at its id's place: from there on each row in use moves up by one.
-    pub fn let_in(mut self, id: u64, row: Invoice) -> Invoices
+    pub fn let_in(mut self, id: u64, paper: Invoice) -> Invoices
         requires { ⌜ InvoiceShelf self ⌝ }
-        ensures { λ r. ⌜ (Room 64 (invoicesOf self) id → r ≡ storedInvoices (insert (invoicesOf self) id row)) ⌝ }
+        ensures { λ r. ⌜ (Room 64 (invoicesOf self) id → r ≡ storedInvoices (insert (invoicesOf self) id paper)) ⌝ }
     {
         let n = self.count;
-        if ROOM <= n {
+        if table::ROOM <= n {
             return self;
         }
         let f = table::find(&self.ids, n, id);
@@ -223,17 +212,9 @@ impl Invoices {
             i = j;
         }
         self.ids[i] = id;
-        self.rows[i] = row;
+        self.rows[i] = paper;
         self.count = n + 1;
         self
-    }
-
-    pub fn full(self) -> bool
-        requires { ⌜ InvoiceShelf self ⌝ }
-        ensures { λ r. ⌜ r ≡ full 64 (invoicesOf self) ⌝ }
-    {
-        let n = self.count;
-        ROOM <= n
     }
 }
 
@@ -275,7 +256,7 @@ impl Offers {
         let t = table::ids_sound(&self.ids, n);
         let mut ok = true;
         let mut i = 0;
-        while i < ROOM {
+        while i < table::ROOM {
             let o = self.rows[i];
             let g = self.negotiations[i];
             let p = self.schedules[i];
@@ -327,8 +308,8 @@ impl Offers {
             negotiation: g,
             schedule: q,
         };
-        let row = x.row;
-        let d = row.over(p.here, old);
+        let deal = x.row;
+        let d = deal.over(p.here, old);
         let e = d.offer;
         let h = d.negotiation;
         let l = d.schedule;
@@ -336,18 +317,18 @@ impl Offers {
         self.negotiations[i] = h;
         self.schedules[i] = l;
         if !p.here & x.here {
-            return self.let_in(key.id(), row);
+            return self.let_in(key.id(), deal);
         }
         self
     }
 
     // A row let in at its id's place: from there on each row in use moves up by one.
-    pub fn let_in(mut self, id: u64, row: Deal) -> Offers
+    pub fn let_in(mut self, id: u64, deal: Deal) -> Offers
         requires { ⌜ DealShelf self ⌝ }
-        ensures { λ r. ⌜ (Room 64 (dealsOf self) id → r ≡ storedDeals (insert (dealsOf self) id row)) ⌝ }
+        ensures { λ r. ⌜ (Room 64 (dealsOf self) id → r ≡ storedDeals (insert (dealsOf self) id deal)) ⌝ }
     {
         let n = self.count;
-        if ROOM <= n {
+        if table::ROOM <= n {
             return self;
         }
         let f = table::find(&self.ids, n, id);
@@ -363,22 +344,14 @@ impl Offers {
             self.schedules[i] = self.schedules[j];
             i = j;
         }
-        let o = row.offer;
-        let g = row.negotiation;
-        let p = row.schedule;
+        let o = deal.offer;
+        let g = deal.negotiation;
+        let p = deal.schedule;
         self.ids[i] = id;
         self.rows[i] = o;
         self.negotiations[i] = g;
         self.schedules[i] = p;
         self.count = n + 1;
         self
-    }
-
-    pub fn full(self) -> bool
-        requires { ⌜ DealShelf self ⌝ }
-        ensures { λ r. ⌜ r ≡ full 64 (dealsOf self) ⌝ }
-    {
-        let n = self.count;
-        ROOM <= n
     }
 }

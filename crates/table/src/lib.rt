@@ -5,6 +5,9 @@ ghost use Rattle.table.specs.Test.{idsTest};
 ghost use Rattle.table.specs.Named.{idOf, same};
 ghost use Rattle.table.specs.Spots.{spotOf, spotBy};
 
+/// How many rows a table has room for.
+pub const ROOM: usize = 64;
+
 /// Where an id stands, or the place at which it would be let in.
 pub enum Found {
     At(usize),

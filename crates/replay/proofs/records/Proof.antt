@@ -12,7 +12,6 @@ use Rattle.table.specs.declared.Found.the-variants.{Absent}
 use Rattle.table.specs.Named.{putBy, idOf}
 use Rattle.table.specs.SpotLaws.{spot-below, spot-found, spot-slot, slot-inside, on-spot, off-spot}
 use Rattle.table.specs.Storing.{Left, good, stays, named, room, grows, once}
-use Rattle.table.specs.ShelfLaws.{full-is}
 use Rattle.account.specs.Seen.{seenAccount}
 use Rattle.invoice.specs.Seen.{seenInvoice}
 use Rattle.offer.specs.Offer.{noDeal}
@@ -89,31 +88,31 @@ below-b c = spot-below (shelved (c .before .before .before .before .before .befo
 seen-b : (c : tie.After-at3 Inv-loop2 μ-loop2 Inv-loop μ-loop) → c .at3 .result ≡ accountBy (modelOf (bookBy (c .before .before .before .before .before .before .before .before .before .before .before .before .before .before .before .before .before .before .before .before .before .before .before .before .before .before .before .before .before .before .before .loop .accounts) (c .before .before .before .before .before .before .before .before .before .before .before .before .before .before .before .before .before .before .before .before .before .before .before .before .before .before .before .before .before .before .before .loop .invoices) (c .before .before .before .before .before .before .before .before .before .before .before .before .before .before .before .before .before .before .before .before .before .before .before .before .before .before .before .before .before .before .before .loop .offers) (c .before .before .before .before .before .before .before .before .before .before .before .before .before .before .before .before .before .before .before .before .before .before .before .before .before .before .before .before .before .before .before .loop .totals) (c .before .before .before .before .before .before .before .before .before .before .before .before .before .before .before .before .before .before .before .before .before .before .before .before .before .before .before .before .before .before .before .loop .settings))) (c .before .before .before .before .before .before .before .before .before .before .before .before .key2 .result)
 seen-b c = c .at3 .ensures ∙ ap seenAccount (sym (spot-found (shelved (c .before .before .before .before .before .before .before .before .before .before .before .before .before .before .before .before .before .before .before .before .before .before .before .before .before .before) .accounts) (omega arith) (c .before .before .before .before .before .before .before .before .before .before .before .before .key2 .result) (c .before .before .spot-by4 .ensures)))
 
-step : (c : tie.After-turn Inv-loop2 μ-loop2 Inv-loop μ-loop) → Turned (bookBy (c .before .before .before .before .before .before .before .before .before .before .before .before .before .before .before .before .before .before .before .before .before .before .before .before .before .before .before .before .before .before .before .before .before .loop .accounts) (c .before .before .before .before .before .before .before .before .before .before .before .before .before .before .before .before .before .before .before .before .before .before .before .before .before .before .before .before .before .before .before .before .before .loop .invoices) (c .before .before .before .before .before .before .before .before .before .before .before .before .before .before .before .before .before .before .before .before .before .before .before .before .before .before .before .before .before .before .before .before .before .loop .offers) (c .before .before .before .before .before .before .before .before .before .before .before .before .before .before .before .before .before .before .before .before .before .before .before .before .before .before .before .before .before .before .before .before .before .loop .totals) (c .before .before .before .before .before .before .before .before .before .before .before .before .before .before .before .before .before .before .before .before .before .before .before .before .before .before .before .before .before .before .before .before .before .loop .settings)) (c .before .before .before .before .before .before .before .before .before .before .before .before .before .before .before .before .before .before .before .before .before .before .before .before .before .before .before .before .before .before .d .given .0 .0) (keysBy (c .before .before .before .before .before .before .before .before .before .before .before .before .before .before .before .before .before .before .before .before .before .before .before .before .before .before .before .before .names .result .first) (c .before .before .before .before .before .before .before .before .before .before .before .before .before .before .key2 .result) (c .before .before .before .before .before .before .before .before .before .before .before .before .before .before .before .before .before .before .before .before .before .key .result) (c .before .before .before .before .before .before .before .before .before .before .before .before .before .before .before .before .before .before .before .before .before .before .before .before .before .before .before .before .names .result .offer)) (c .turn .result)
-step c = turned (shelved (c .before .before .before .before .before .before .before .before .before .before .before .before .before .before .before .before .before .before .before .before .before .before .before .before .before .before .before .before)) (fetched (c .before .before .before .before .before .before .before .before .before .before .before .before .before .before .before .before .before .before .before .before .before .before .before .before .before .before .before .before .names .ensures) (seen-o (c .before .before .before .before .before .before .before .before .before .before .before .before .before .before .before .before .before .before .before .before .before .before)) (c .before .before .before .before .before .before .before .before .before .before .before .before .before .before .before .before .before .before .before .before .before .key .ensures) (seen-i (c .before .before .before .before .before .before .before .before .before .before .before .before .before .before .before)) (c .before .before .before .before .before .before .before .before .before .before .before .before .before .before .key2 .ensures) (seen-a (c .before .before .before .before .before .before .before .before)) (seen-b (c .before .before)) (c .before .same .ensures)) (full-by (bookBy (c .before .before .before .before .before .before .before .before .before .before .before .before .before .before .before .before .before .before .before .before .before .before .before .before .before .before .before .before .before .before .before .before .before .loop .accounts) (c .before .before .before .before .before .before .before .before .before .before .before .before .before .before .before .before .before .before .before .before .before .before .before .before .before .before .before .before .before .before .before .before .before .loop .invoices) (c .before .before .before .before .before .before .before .before .before .before .before .before .before .before .before .before .before .before .before .before .before .before .before .before .before .before .before .before .before .before .before .before .before .loop .offers) (c .before .before .before .before .before .before .before .before .before .before .before .before .before .before .before .before .before .before .before .before .before .before .before .before .before .before .before .before .before .before .before .before .before .loop .totals) (c .before .before .before .before .before .before .before .before .before .before .before .before .before .before .before .before .before .before .before .before .before .before .before .before .before .before .before .before .before .before .before .before .before .loop .settings)) (full-is (shelved (c .before .before .before .before .before .before .before .before .before .before .before .before .before .before .before .before .before .before .before .before .before .before .before .before .before .before .before .before) .accounts)) (full-is (shelved (c .before .before .before .before .before .before .before .before .before .before .before .before .before .before .before .before .before .before .before .before .before .before .before .before .before .before .before .before) .invoices)) (full-is (shelved (c .before .before .before .before .before .before .before .before .before .before .before .before .before .before .before .before .before .before .before .before .before .before .before .before .before .before .before .before) .offers .shelf))) (c .turn .ensures)
+step : (c : tie.After-turn Inv-loop2 μ-loop2 Inv-loop μ-loop) → Turned (bookBy (c .before .before .before .before .before .before .before .before .before .before .before .before .before .before .before .before .before .before .before .before .before .before .before .before .before .before .before .before .before .before .before .before .before .before .loop .accounts) (c .before .before .before .before .before .before .before .before .before .before .before .before .before .before .before .before .before .before .before .before .before .before .before .before .before .before .before .before .before .before .before .before .before .before .loop .invoices) (c .before .before .before .before .before .before .before .before .before .before .before .before .before .before .before .before .before .before .before .before .before .before .before .before .before .before .before .before .before .before .before .before .before .before .loop .offers) (c .before .before .before .before .before .before .before .before .before .before .before .before .before .before .before .before .before .before .before .before .before .before .before .before .before .before .before .before .before .before .before .before .before .before .loop .totals) (c .before .before .before .before .before .before .before .before .before .before .before .before .before .before .before .before .before .before .before .before .before .before .before .before .before .before .before .before .before .before .before .before .before .before .loop .settings)) (c .before .before .before .before .before .before .before .before .before .before .before .before .before .before .before .before .before .before .before .before .before .before .before .before .before .before .before .before .before .before .before .d .given .0 .0) (keysBy (c .before .before .before .before .before .before .before .before .before .before .before .before .before .before .before .before .before .before .before .before .before .before .before .before .before .before .before .before .before .names .result .first) (c .before .before .before .before .before .before .before .before .before .before .before .before .before .before .before .key2 .result) (c .before .before .before .before .before .before .before .before .before .before .before .before .before .before .before .before .before .before .before .before .before .before .key .result) (c .before .before .before .before .before .before .before .before .before .before .before .before .before .before .before .before .before .before .before .before .before .before .before .before .before .before .before .before .before .names .result .offer)) (c .turn .result)
+step c = turned (shelved (c .before .before .before .before .before .before .before .before .before .before .before .before .before .before .before .before .before .before .before .before .before .before .before .before .before .before .before .before .before)) (fetched (c .before .before .before .before .before .before .before .before .before .before .before .before .before .before .before .before .before .before .before .before .before .before .before .before .before .before .before .before .before .names .ensures) (seen-o (c .before .before .before .before .before .before .before .before .before .before .before .before .before .before .before .before .before .before .before .before .before .before .before)) (c .before .before .before .before .before .before .before .before .before .before .before .before .before .before .before .before .before .before .before .before .before .before .key .ensures) (seen-i (c .before .before .before .before .before .before .before .before .before .before .before .before .before .before .before .before)) (c .before .before .before .before .before .before .before .before .before .before .before .before .before .before .before .key2 .ensures) (seen-a (c .before .before .before .before .before .before .before .before .before)) (seen-b (c .before .before .before)) (c .before .before .same .ensures)) (c .before .of .ensures ∙ full-by (shelved (c .before .before .before .before .before .before .before .before .before .before .before .before .before .before .before .before .before .before .before .before .before .before .before .before .before .before .before .before .before))) (c .turn .ensures)
 
-left-a : (c : tie.After-turn Inv-loop2 μ-loop2 Inv-loop μ-loop) → Left 64 accountRow (accountsOf (c .before .before .before .before .before .before .before .before .before .before .before .before .before .before .before .before .before .before .before .before .before .before .before .before .before .before .before .before .before .before .before .before .before .loop .accounts)) (next (step c) .accounts) (c .before .before .before .before .before .before .before .before .before .before .before .before .before .before .before .before .before .before .before .before .before .before .before .before .before .before .before .before .names .result .first) (c .before .before .before .before .before .before .before .before .before .before .before .before .before .before .key2 .result) (c .before .before .before .before .before .before .before .before .before .before .spot-by3 .result .here) (c .turn .result .near .parties .first .here) (c .turn .result .near .parties .first .row) (c .turn .result .near .parties .second .row)
-left-a c = accounts-left (step c) (was-by _ _ (spot-found (shelved (c .before .before .before .before .before .before .before .before .before .before .before .before .before .before .before .before .before .before .before .before .before .before .before .before .before .before .before .before) .accounts) (omega arith) (c .before .before .before .before .before .before .before .before .before .before .before .before .before .before .before .before .before .before .before .before .before .before .before .before .before .before .before .before .names .result .first) (c .before .before .before .before .before .before .before .before .before .before .spot-by3 .ensures)))
+left-a : (c : tie.After-turn Inv-loop2 μ-loop2 Inv-loop μ-loop) → Left 64 accountRow (accountsOf (c .before .before .before .before .before .before .before .before .before .before .before .before .before .before .before .before .before .before .before .before .before .before .before .before .before .before .before .before .before .before .before .before .before .before .loop .accounts)) (next (step c) .accounts) (c .before .before .before .before .before .before .before .before .before .before .before .before .before .before .before .before .before .before .before .before .before .before .before .before .before .before .before .before .before .names .result .first) (c .before .before .before .before .before .before .before .before .before .before .before .before .before .before .before .key2 .result) (c .before .before .before .before .before .before .before .before .before .before .before .spot-by3 .result .here) (c .turn .result .near .parties .first .here) (c .turn .result .near .parties .first .row) (c .turn .result .near .parties .second .row)
+left-a c = accounts-left (step c) (was-by _ _ (spot-found (shelved (c .before .before .before .before .before .before .before .before .before .before .before .before .before .before .before .before .before .before .before .before .before .before .before .before .before .before .before .before .before) .accounts) (omega arith) (c .before .before .before .before .before .before .before .before .before .before .before .before .before .before .before .before .before .before .before .before .before .before .before .before .before .before .before .before .before .names .result .first) (c .before .before .before .before .before .before .before .before .before .before .before .spot-by3 .ensures)))
 
-left-i : (c : tie.After-turn Inv-loop2 μ-loop2 Inv-loop μ-loop) → Left 64 invoiceRow (invoicesOf (c .before .before .before .before .before .before .before .before .before .before .before .before .before .before .before .before .before .before .before .before .before .before .before .before .before .before .before .before .before .before .before .before .before .loop .invoices)) (next (step c) .invoices) (c .before .before .before .before .before .before .before .before .before .before .before .before .before .before .before .before .before .before .before .before .before .key .result) (c .before .before .before .before .before .before .before .before .before .before .before .before .before .before .before .before .before .before .before .before .before .key .result) (c .before .before .before .before .before .before .before .before .before .before .before .before .before .before .before .before .before .spot-by2 .result .here) (c .turn .result .near .paper .here) (c .turn .result .near .paper .row) (c .turn .result .near .paper .row)
-left-i c = invoices-left (step c) (was-by _ _ (spot-found (shelved (c .before .before .before .before .before .before .before .before .before .before .before .before .before .before .before .before .before .before .before .before .before .before .before .before .before .before .before .before) .invoices) (omega arith) (c .before .before .before .before .before .before .before .before .before .before .before .before .before .before .before .before .before .before .before .before .before .key .result) (c .before .before .before .before .before .before .before .before .before .before .before .before .before .before .before .before .before .spot-by2 .ensures)))
+left-i : (c : tie.After-turn Inv-loop2 μ-loop2 Inv-loop μ-loop) → Left 64 invoiceRow (invoicesOf (c .before .before .before .before .before .before .before .before .before .before .before .before .before .before .before .before .before .before .before .before .before .before .before .before .before .before .before .before .before .before .before .before .before .before .loop .invoices)) (next (step c) .invoices) (c .before .before .before .before .before .before .before .before .before .before .before .before .before .before .before .before .before .before .before .before .before .before .key .result) (c .before .before .before .before .before .before .before .before .before .before .before .before .before .before .before .before .before .before .before .before .before .before .key .result) (c .before .before .before .before .before .before .before .before .before .before .before .before .before .before .before .before .before .before .spot-by2 .result .here) (c .turn .result .near .paper .here) (c .turn .result .near .paper .row) (c .turn .result .near .paper .row)
+left-i c = invoices-left (step c) (was-by _ _ (spot-found (shelved (c .before .before .before .before .before .before .before .before .before .before .before .before .before .before .before .before .before .before .before .before .before .before .before .before .before .before .before .before .before) .invoices) (omega arith) (c .before .before .before .before .before .before .before .before .before .before .before .before .before .before .before .before .before .before .before .before .before .before .key .result) (c .before .before .before .before .before .before .before .before .before .before .before .before .before .before .before .before .before .before .spot-by2 .ensures)))
 
-left-o : (c : tie.After-turn Inv-loop2 μ-loop2 Inv-loop μ-loop) → Left 64 dealRow (dealsOf (c .before .before .before .before .before .before .before .before .before .before .before .before .before .before .before .before .before .before .before .before .before .before .before .before .before .before .before .before .before .before .before .before .before .loop .offers)) (next (step c) .offers) (c .before .before .before .before .before .before .before .before .before .before .before .before .before .before .before .before .before .before .before .before .before .before .before .before .before .before .before .before .names .result .offer) (c .before .before .before .before .before .before .before .before .before .before .before .before .before .before .before .before .before .before .before .before .before .before .before .before .before .before .before .before .names .result .offer) (c .before .before .before .before .before .before .before .before .before .before .before .before .before .before .before .before .before .before .before .before .before .before .before .before .spot-by .result .here) (c .turn .result .near .deal .here) (c .turn .result .near .deal .row) (c .turn .result .near .deal .row)
-left-o c = offers-left (step c) (was-by _ _ (deal-read (shelved (c .before .before .before .before .before .before .before .before .before .before .before .before .before .before .before .before .before .before .before .before .before .before .before .before .before .before .before .before) .offers) (noDeal .offer) (noDeal .negotiation) (noDeal .schedule) (c .before .before .before .before .before .before .before .before .before .before .before .before .before .before .before .before .before .before .before .before .before .before .before .before .before .before .before .before .names .result .offer) (c .before .before .before .before .before .before .before .before .before .before .before .before .before .before .before .before .before .before .before .before .before .before .before .before .spot-by .ensures)))
+left-o : (c : tie.After-turn Inv-loop2 μ-loop2 Inv-loop μ-loop) → Left 64 dealRow (dealsOf (c .before .before .before .before .before .before .before .before .before .before .before .before .before .before .before .before .before .before .before .before .before .before .before .before .before .before .before .before .before .before .before .before .before .before .loop .offers)) (next (step c) .offers) (c .before .before .before .before .before .before .before .before .before .before .before .before .before .before .before .before .before .before .before .before .before .before .before .before .before .before .before .before .before .names .result .offer) (c .before .before .before .before .before .before .before .before .before .before .before .before .before .before .before .before .before .before .before .before .before .before .before .before .before .before .before .before .before .names .result .offer) (c .before .before .before .before .before .before .before .before .before .before .before .before .before .before .before .before .before .before .before .before .before .before .before .before .before .spot-by .result .here) (c .turn .result .near .deal .here) (c .turn .result .near .deal .row) (c .turn .result .near .deal .row)
+left-o c = offers-left (step c) (was-by _ _ (deal-read (shelved (c .before .before .before .before .before .before .before .before .before .before .before .before .before .before .before .before .before .before .before .before .before .before .before .before .before .before .before .before .before) .offers) (noDeal .offer) (noDeal .negotiation) (noDeal .schedule) (c .before .before .before .before .before .before .before .before .before .before .before .before .before .before .before .before .before .before .before .before .before .before .before .before .before .before .before .before .before .names .result .offer) (c .before .before .before .before .before .before .before .before .before .before .before .before .before .before .before .before .before .before .before .before .before .before .before .before .before .spot-by .ensures)))
 
-wrote-a : (c : tie.After-over2 Inv-loop2 μ-loop2 Inv-loop μ-loop) → asAccounts (c .before .before .before .before .before .before .before .before .before .before .before .before .before .before .before .before .before .before .before .before .before .before .before .before .before .before .before .before .before .before .before .before .before .before .before .before .before .before .before .before .before .before .before .before .loop .accounts .ids) (set (set (c .before .before .before .before .before .before .before .before .before .before .before .before .before .before .before .before .before .before .before .before .before .before .before .before .before .before .before .before .before .before .before .before .before .before .before .before .before .before .before .before .before .before .before .before .loop .accounts .rows) (c .before .before .before .before .before .before .before .before .before .before .before .before .before .before .before .spot-by4 .result .at) (c .before .before .before .over .result)) (c .before .before .before .before .before .before .before .before .before .before .before .before .before .before .before .before .before .before .before .before .before .spot-by3 .result .at) (c .over2 .result)) (c .before .before .before .before .before .before .before .before .before .before .before .before .before .before .before .before .before .before .before .before .before .before .before .before .before .before .before .before .before .before .before .before .before .before .before .before .before .before .before .before .before .before .before .before .loop .accounts .count) ≡ storedAccounts (putBy (putBy (accountsOf (c .before .before .before .before .before .before .before .before .before .before .before .before .before .before .before .before .before .before .before .before .before .before .before .before .before .before .before .before .before .before .before .before .before .before .before .before .before .before .before .before .before .before .before .before .loop .accounts)) (c .before .before .before .before .before .before .before .before .before .before .before .before .before .before .before .before .before .before .before .before .before .before .before .before .before .key2 .result) (c .before .before .before .before .before .before .before .before .before .before .before .turn .result .near .parties .second .row)) (c .before .before .before .before .before .before .before .before .before .before .before .before .before .before .before .before .before .before .before .before .before .before .before .before .before .before .before .before .before .before .before .before .before .before .before .before .before .before .before .names .result .first) (c .before .before .before .before .before .before .before .before .before .before .before .turn .result .near .parties .first .row))
-wrote-a c = accounts-wrote (shelved (c .before .before .before .before .before .before .before .before .before .before .before .before .before .before .before .before .before .before .before .before .before .before .before .before .before .before .before .before .before .before .before .before .before .before .before .before .before .before .before) .accounts) (c .before .before .before .before .before .before .before .before .before .before .before .before .before .before .before .before .before .before .before .before .before .before .before .before .before .before .before .before .before .before .before .before .before .before .before .before .before .before .before .names .result .first) (c .before .before .before .before .before .before .before .before .before .before .before .before .before .before .before .before .before .before .before .before .before .before .before .before .before .key2 .result) (c .before .before .before .before .before .before .before .before .before .before .before .before .before .before .before .before .before .before .before .before .before .spot-by3 .ensures) (c .before .before .before .before .before .before .before .before .before .before .before .before .before .before .before .spot-by4 .ensures) (c .before .before .before .before .before .before .before .before .before .before .before .turn .result .near .parties .first .row) (c .before .before .before .before .before .before .before .before .before .before .before .turn .result .near .parties .second .row) (c .before .before .before .over .ensures) (c .over2 .ensures)
+wrote-a : (c : tie.After-over2 Inv-loop2 μ-loop2 Inv-loop μ-loop) → asAccounts (c .before .before .before .before .before .before .before .before .before .before .before .before .before .before .before .before .before .before .before .before .before .before .before .before .before .before .before .before .before .before .before .before .before .before .before .before .before .before .before .before .before .before .before .before .before .loop .accounts .ids) (set (set (c .before .before .before .before .before .before .before .before .before .before .before .before .before .before .before .before .before .before .before .before .before .before .before .before .before .before .before .before .before .before .before .before .before .before .before .before .before .before .before .before .before .before .before .before .before .loop .accounts .rows) (c .before .before .before .before .before .before .before .before .before .before .before .before .before .before .before .before .spot-by4 .result .at) (c .before .before .before .over .result)) (c .before .before .before .before .before .before .before .before .before .before .before .before .before .before .before .before .before .before .before .before .before .before .spot-by3 .result .at) (c .over2 .result)) (c .before .before .before .before .before .before .before .before .before .before .before .before .before .before .before .before .before .before .before .before .before .before .before .before .before .before .before .before .before .before .before .before .before .before .before .before .before .before .before .before .before .before .before .before .before .loop .accounts .count) ≡ storedAccounts (putBy (putBy (accountsOf (c .before .before .before .before .before .before .before .before .before .before .before .before .before .before .before .before .before .before .before .before .before .before .before .before .before .before .before .before .before .before .before .before .before .before .before .before .before .before .before .before .before .before .before .before .before .loop .accounts)) (c .before .before .before .before .before .before .before .before .before .before .before .before .before .before .before .before .before .before .before .before .before .before .before .before .before .before .key2 .result) (c .before .before .before .before .before .before .before .before .before .before .before .turn .result .near .parties .second .row)) (c .before .before .before .before .before .before .before .before .before .before .before .before .before .before .before .before .before .before .before .before .before .before .before .before .before .before .before .before .before .before .before .before .before .before .before .before .before .before .before .before .names .result .first) (c .before .before .before .before .before .before .before .before .before .before .before .turn .result .near .parties .first .row))
+wrote-a c = accounts-wrote (shelved (c .before .before .before .before .before .before .before .before .before .before .before .before .before .before .before .before .before .before .before .before .before .before .before .before .before .before .before .before .before .before .before .before .before .before .before .before .before .before .before .before) .accounts) (c .before .before .before .before .before .before .before .before .before .before .before .before .before .before .before .before .before .before .before .before .before .before .before .before .before .before .before .before .before .before .before .before .before .before .before .before .before .before .before .before .names .result .first) (c .before .before .before .before .before .before .before .before .before .before .before .before .before .before .before .before .before .before .before .before .before .before .before .before .before .before .key2 .result) (c .before .before .before .before .before .before .before .before .before .before .before .before .before .before .before .before .before .before .before .before .before .before .spot-by3 .ensures) (c .before .before .before .before .before .before .before .before .before .before .before .before .before .before .before .before .spot-by4 .ensures) (c .before .before .before .before .before .before .before .before .before .before .before .turn .result .near .parties .first .row) (c .before .before .before .before .before .before .before .before .before .before .before .turn .result .near .parties .second .row) (c .before .before .before .over .ensures) (c .over2 .ensures)
 
-wrote-i : (c : tie.After-over3 Inv-loop2 μ-loop2 Inv-loop μ-loop) → asInvoices (c .before .before .before .before .before .before .before .before .before .before .before .before .before .before .before .before .before .before .before .before .before .before .before .before .before .before .before .before .before .before .before .before .before .before .before .before .before .before .before .before .before .before .before .before .before .before .loop .invoices .ids) (set (c .before .before .before .before .before .before .before .before .before .before .before .before .before .before .before .before .before .before .before .before .before .before .before .before .before .before .before .before .before .before .before .before .before .before .before .before .before .before .before .before .before .before .before .before .before .before .loop .invoices .rows) (c .before .before .before .before .before .before .before .before .before .before .before .before .before .before .before .before .before .before .before .before .before .before .before .before .before .before .before .before .before .before .spot-by2 .result .at) (c .over3 .result)) (c .before .before .before .before .before .before .before .before .before .before .before .before .before .before .before .before .before .before .before .before .before .before .before .before .before .before .before .before .before .before .before .before .before .before .before .before .before .before .before .before .before .before .before .before .before .before .loop .invoices .count) ≡ storedInvoices (putBy (putBy (invoicesOf (c .before .before .before .before .before .before .before .before .before .before .before .before .before .before .before .before .before .before .before .before .before .before .before .before .before .before .before .before .before .before .before .before .before .before .before .before .before .before .before .before .before .before .before .before .before .before .loop .invoices)) (c .before .before .before .before .before .before .before .before .before .before .before .before .before .before .before .before .before .before .before .before .before .before .before .before .before .before .before .before .before .before .before .before .before .before .key .result) (c .before .before .before .before .before .before .before .before .before .before .before .before .before .turn .result .near .paper .row)) (c .before .before .before .before .before .before .before .before .before .before .before .before .before .before .before .before .before .before .before .before .before .before .before .before .before .before .before .before .before .before .before .before .before .before .key .result) (c .before .before .before .before .before .before .before .before .before .before .before .before .before .turn .result .near .paper .row))
-wrote-i c = once storedInvoices (invoicesOf (c .before .before .before .before .before .before .before .before .before .before .before .before .before .before .before .before .before .before .before .before .before .before .before .before .before .before .before .before .before .before .before .before .before .before .before .before .before .before .before .before .before .before .before .before .before .before .loop .invoices)) (c .before .before .before .before .before .before .before .before .before .before .before .before .before .before .before .before .before .before .before .before .before .before .before .before .before .before .before .before .before .before .before .before .before .before .key .result) (c .before .before .before .before .before .before .before .before .before .before .before .before .before .turn .result .near .paper .row) (invoice-wrote (shelved (c .before .before .before .before .before .before .before .before .before .before .before .before .before .before .before .before .before .before .before .before .before .before .before .before .before .before .before .before .before .before .before .before .before .before .before .before .before .before .before .before .before) .invoices) (c .before .before .before .before .before .before .before .before .before .before .before .before .before .before .before .before .before .before .before .before .before .before .before .before .before .before .before .before .before .before .before .before .before .before .key .result) (c .before .before .before .before .before .before .before .before .before .before .before .before .before .before .before .before .before .before .before .before .before .before .before .before .before .before .before .before .before .before .spot-by2 .ensures) (c .before .before .before .before .before .before .before .before .before .before .before .before .before .turn .result .near .paper .row) (c .over3 .ensures))
+wrote-i : (c : tie.After-over3 Inv-loop2 μ-loop2 Inv-loop μ-loop) → asInvoices (c .before .before .before .before .before .before .before .before .before .before .before .before .before .before .before .before .before .before .before .before .before .before .before .before .before .before .before .before .before .before .before .before .before .before .before .before .before .before .before .before .before .before .before .before .before .before .before .loop .invoices .ids) (set (c .before .before .before .before .before .before .before .before .before .before .before .before .before .before .before .before .before .before .before .before .before .before .before .before .before .before .before .before .before .before .before .before .before .before .before .before .before .before .before .before .before .before .before .before .before .before .before .loop .invoices .rows) (c .before .before .before .before .before .before .before .before .before .before .before .before .before .before .before .before .before .before .before .before .before .before .before .before .before .before .before .before .before .before .before .spot-by2 .result .at) (c .over3 .result)) (c .before .before .before .before .before .before .before .before .before .before .before .before .before .before .before .before .before .before .before .before .before .before .before .before .before .before .before .before .before .before .before .before .before .before .before .before .before .before .before .before .before .before .before .before .before .before .before .loop .invoices .count) ≡ storedInvoices (putBy (putBy (invoicesOf (c .before .before .before .before .before .before .before .before .before .before .before .before .before .before .before .before .before .before .before .before .before .before .before .before .before .before .before .before .before .before .before .before .before .before .before .before .before .before .before .before .before .before .before .before .before .before .before .loop .invoices)) (c .before .before .before .before .before .before .before .before .before .before .before .before .before .before .before .before .before .before .before .before .before .before .before .before .before .before .before .before .before .before .before .before .before .before .before .key .result) (c .before .before .before .before .before .before .before .before .before .before .before .before .before .turn .result .near .paper .row)) (c .before .before .before .before .before .before .before .before .before .before .before .before .before .before .before .before .before .before .before .before .before .before .before .before .before .before .before .before .before .before .before .before .before .before .before .key .result) (c .before .before .before .before .before .before .before .before .before .before .before .before .before .turn .result .near .paper .row))
+wrote-i c = once storedInvoices (invoicesOf (c .before .before .before .before .before .before .before .before .before .before .before .before .before .before .before .before .before .before .before .before .before .before .before .before .before .before .before .before .before .before .before .before .before .before .before .before .before .before .before .before .before .before .before .before .before .before .before .loop .invoices)) (c .before .before .before .before .before .before .before .before .before .before .before .before .before .before .before .before .before .before .before .before .before .before .before .before .before .before .before .before .before .before .before .before .before .before .before .key .result) (c .before .before .before .before .before .before .before .before .before .before .before .before .before .turn .result .near .paper .row) (invoice-wrote (shelved (c .before .before .before .before .before .before .before .before .before .before .before .before .before .before .before .before .before .before .before .before .before .before .before .before .before .before .before .before .before .before .before .before .before .before .before .before .before .before .before .before .before .before) .invoices) (c .before .before .before .before .before .before .before .before .before .before .before .before .before .before .before .before .before .before .before .before .before .before .before .before .before .before .before .before .before .before .before .before .before .before .before .key .result) (c .before .before .before .before .before .before .before .before .before .before .before .before .before .before .before .before .before .before .before .before .before .before .before .before .before .before .before .before .before .before .before .spot-by2 .ensures) (c .before .before .before .before .before .before .before .before .before .before .before .before .before .turn .result .near .paper .row) (c .over3 .ensures))
 
-wrote-o : (c : tie.Joined2 Inv-loop2 μ-loop2 Inv-loop μ-loop) → c .if2 .offers ≡ storedDeals (putBy (putBy (dealsOf (c .before .before .before .before .before .before .before .before .before .before .before .before .before .before .before .before .before .before .before .before .before .before .before .before .before .before .before .before .before .before .before .before .before .before .before .before .before .before .before .before .before .before .before .before .before .before .before .loop .offers)) (c .before .before .before .before .before .before .before .before .before .before .before .before .before .before .before .before .before .before .before .before .before .before .before .before .before .before .before .before .before .before .before .before .before .before .before .before .before .before .before .before .before .before .names .result .offer) (c .before .before .before .before .before .before .before .before .before .before .before .before .before .before .turn .result .near .deal .row)) (c .before .before .before .before .before .before .before .before .before .before .before .before .before .before .before .before .before .before .before .before .before .before .before .before .before .before .before .before .before .before .before .before .before .before .before .before .before .before .before .before .before .before .names .result .offer) (c .before .before .before .before .before .before .before .before .before .before .before .before .before .before .turn .result .near .deal .row))
-wrote-o c = once storedDeals (dealsOf (c .before .before .before .before .before .before .before .before .before .before .before .before .before .before .before .before .before .before .before .before .before .before .before .before .before .before .before .before .before .before .before .before .before .before .before .before .before .before .before .before .before .before .before .before .before .before .before .loop .offers)) (c .before .before .before .before .before .before .before .before .before .before .before .before .before .before .before .before .before .before .before .before .before .before .before .before .before .before .before .before .before .before .before .before .before .before .before .before .before .before .before .before .before .before .names .result .offer) (c .before .before .before .before .before .before .before .before .before .before .before .before .before .before .turn .result .near .deal .row) (⊎-elim (λ t. t .4 ∙ deal-there (shelved (c .before .before .before .before .before .before .before .before .before .before .before .before .before .before .before .before .before .before .before .before .before .before .before .before .before .before .before .before .before .before .before .before .before .before .before .before .before .before .before .before .before .before) .offers) (noDeal .offer) (noDeal .negotiation) (noDeal .schedule) (c .before .before .before .before .before .before .before .before .before .before .before .before .before .before .before .before .before .before .before .before .before .before .before .before .before .before .before .before .before .before .before .before .before .before .before .before .before .before .before .before .before .before .names .result .offer) (c .before .before .before .before .before .before .before .before .before .before .before .before .before .before .before .before .before .before .before .before .before .before .before .before .before .before .before .before .before .before .before .before .before .before .before .before .before .before .spot-by .ensures) (c .before .before .before .before .before .before .before .before .before .before .before .before .before .before .turn .result .near .deal .row) (t .0 .taken)) (λ l. l .1 ∙ deal-gone (shelved (c .before .before .before .before .before .before .before .before .before .before .before .before .before .before .before .before .before .before .before .before .before .before .before .before .before .before .before .before .before .before .before .before .before .before .before .before .before .before .before .before .before .before) .offers) (noDeal .offer) (noDeal .negotiation) (noDeal .schedule) (c .before .before .before .before .before .before .before .before .before .before .before .before .before .before .before .before .before .before .before .before .before .before .before .before .before .before .before .before .before .before .before .before .before .before .before .before .before .before .before .before .before .before .names .result .offer) (c .before .before .before .before .before .before .before .before .before .before .before .before .before .before .before .before .before .before .before .before .before .before .before .before .before .before .before .before .before .before .before .before .before .before .before .before .before .before .spot-by .ensures) (c .before .before .before .before .before .before .before .before .before .before .before .before .before .before .turn .result .near .deal .row) (l .0 .left)) (c .if2 .came))
+wrote-o : (c : tie.Joined2 Inv-loop2 μ-loop2 Inv-loop μ-loop) → c .if2 .offers ≡ storedDeals (putBy (putBy (dealsOf (c .before .before .before .before .before .before .before .before .before .before .before .before .before .before .before .before .before .before .before .before .before .before .before .before .before .before .before .before .before .before .before .before .before .before .before .before .before .before .before .before .before .before .before .before .before .before .before .before .loop .offers)) (c .before .before .before .before .before .before .before .before .before .before .before .before .before .before .before .before .before .before .before .before .before .before .before .before .before .before .before .before .before .before .before .before .before .before .before .before .before .before .before .before .before .before .before .names .result .offer) (c .before .before .before .before .before .before .before .before .before .before .before .before .before .before .turn .result .near .deal .row)) (c .before .before .before .before .before .before .before .before .before .before .before .before .before .before .before .before .before .before .before .before .before .before .before .before .before .before .before .before .before .before .before .before .before .before .before .before .before .before .before .before .before .before .before .names .result .offer) (c .before .before .before .before .before .before .before .before .before .before .before .before .before .before .turn .result .near .deal .row))
+wrote-o c = once storedDeals (dealsOf (c .before .before .before .before .before .before .before .before .before .before .before .before .before .before .before .before .before .before .before .before .before .before .before .before .before .before .before .before .before .before .before .before .before .before .before .before .before .before .before .before .before .before .before .before .before .before .before .before .loop .offers)) (c .before .before .before .before .before .before .before .before .before .before .before .before .before .before .before .before .before .before .before .before .before .before .before .before .before .before .before .before .before .before .before .before .before .before .before .before .before .before .before .before .before .before .before .names .result .offer) (c .before .before .before .before .before .before .before .before .before .before .before .before .before .before .turn .result .near .deal .row) (⊎-elim (λ t. t .4 ∙ deal-there (shelved (c .before .before .before .before .before .before .before .before .before .before .before .before .before .before .before .before .before .before .before .before .before .before .before .before .before .before .before .before .before .before .before .before .before .before .before .before .before .before .before .before .before .before .before) .offers) (noDeal .offer) (noDeal .negotiation) (noDeal .schedule) (c .before .before .before .before .before .before .before .before .before .before .before .before .before .before .before .before .before .before .before .before .before .before .before .before .before .before .before .before .before .before .before .before .before .before .before .before .before .before .before .before .before .before .before .names .result .offer) (c .before .before .before .before .before .before .before .before .before .before .before .before .before .before .before .before .before .before .before .before .before .before .before .before .before .before .before .before .before .before .before .before .before .before .before .before .before .before .before .spot-by .ensures) (c .before .before .before .before .before .before .before .before .before .before .before .before .before .before .turn .result .near .deal .row) (t .0 .taken)) (λ l. l .1 ∙ deal-gone (shelved (c .before .before .before .before .before .before .before .before .before .before .before .before .before .before .before .before .before .before .before .before .before .before .before .before .before .before .before .before .before .before .before .before .before .before .before .before .before .before .before .before .before .before .before) .offers) (noDeal .offer) (noDeal .negotiation) (noDeal .schedule) (c .before .before .before .before .before .before .before .before .before .before .before .before .before .before .before .before .before .before .before .before .before .before .before .before .before .before .before .before .before .before .before .before .before .before .before .before .before .before .before .before .before .before .before .names .result .offer) (c .before .before .before .before .before .before .before .before .before .before .before .before .before .before .before .before .before .before .before .before .before .before .before .before .before .before .before .before .before .before .before .before .before .before .before .before .before .before .before .spot-by .ensures) (c .before .before .before .before .before .before .before .before .before .before .before .before .before .before .turn .result .near .deal .row) (l .0 .left)) (c .if2 .came))
 
-ids-o : (c : tie.Joined2 Inv-loop2 μ-loop2 Inv-loop μ-loop) → c .if2 .offers .ids ≡ c .before .before .before .before .before .before .before .before .before .before .before .before .before .before .before .before .before .before .before .before .before .before .before .before .before .before .before .before .before .before .before .before .before .before .before .before .before .before .before .before .before .before .before .before .before .before .before .loop .offers .ids
+ids-o : (c : tie.Joined2 Inv-loop2 μ-loop2 Inv-loop μ-loop) → c .if2 .offers .ids ≡ c .before .before .before .before .before .before .before .before .before .before .before .before .before .before .before .before .before .before .before .before .before .before .before .before .before .before .before .before .before .before .before .before .before .before .before .before .before .before .before .before .before .before .before .before .before .before .before .before .loop .offers .ids
 ids-o c = ⊎-elim (λ t. ap (λ z. z .ids) (t .4)) (λ l. ap (λ z. z .ids) (l .1)) (c .if2 .came)
 
-count-o : (c : tie.Joined2 Inv-loop2 μ-loop2 Inv-loop μ-loop) → c .if2 .offers .count ≡ c .before .before .before .before .before .before .before .before .before .before .before .before .before .before .before .before .before .before .before .before .before .before .before .before .before .before .before .before .before .before .before .before .before .before .before .before .before .before .before .before .before .before .before .before .before .before .before .loop .offers .count
+count-o : (c : tie.Joined2 Inv-loop2 μ-loop2 Inv-loop μ-loop) → c .if2 .offers .count ≡ c .before .before .before .before .before .before .before .before .before .before .before .before .before .before .before .before .before .before .before .before .before .before .before .before .before .before .before .before .before .before .before .before .before .before .before .before .before .before .before .before .before .before .before .before .before .before .before .before .loop .offers .count
 count-o c = ⊎-elim (λ t. ap (λ z. z .count) (t .4)) (λ l. ap (λ z. z .count) (l .1)) (c .if2 .came)
 
 stored-a : (c : tie.Joined3 Inv-loop2 μ-loop2 Inv-loop μ-loop) → c .if3 .accounts ≡ storedAccounts (next (step (c .before .before .before .before .before .before .before .before .before .before .before .before .before .before .before .before .before)) .accounts)
@@ -125,8 +124,8 @@ stored-i c = ⊎-elim (λ x. grows invoices-keeping invoiceRow (λ r. refl) (lef
 few-o : (c : tie.Then5 Inv-loop2 μ-loop2 Inv-loop μ-loop) → c .before .before .before .before .before .before .before .before .before .if2 .offers .count < 64
 few-o c = room-count (good deals-keeping dealRow (λ r. refl) (left-o (c .before .before .before .before .before .before .before .before .before .before .before .before .before .before .before .before .before .before .before .before .before .before .before)) (wrote-o (c .before .before .before .before .before .before .before .before .before))) (room deals-keeping dealRow (λ r. refl) (left-o (c .before .before .before .before .before .before .before .before .before .before .before .before .before .before .before .before .before .before .before .before .before .before .before)) (wrote-o (c .before .before .before .before .before .before .before .before .before)) (c .if5 .taken))
 
-slot-o : (c : tie.Then5 Inv-loop2 μ-loop2 Inv-loop μ-loop) → findIn (take (c .before .before .before .before .before .before .before .before .before .if2 .offers .count) (c .before .before .before .before .before .before .before .before .before .if2 .offers .ids)) (idOf (c .before .before .before .before .before .before .before .before .before .before .before .before .before .before .before .before .before .before .before .before .before .before .before .before .before .before .before .before .before .before .before .before .before .before .before .before .before .before .before .before .before .before .before .before .before .before .before .before .before .before .before .names .result .offer)) ≡ Absent (c .before .before .before .before .before .before .before .before .before .before .before .before .before .before .before .before .before .before .before .before .before .before .before .before .before .before .before .before .before .before .before .before .before .before .before .before .before .before .before .before .before .before .before .before .before .before .before .spot-by .result .slot)
-slot-o c = ap (λ n. findIn (take n (c .before .before .before .before .before .before .before .before .before .if2 .offers .ids)) (idOf (c .before .before .before .before .before .before .before .before .before .before .before .before .before .before .before .before .before .before .before .before .before .before .before .before .before .before .before .before .before .before .before .before .before .before .before .before .before .before .before .before .before .before .before .before .before .before .before .before .before .before .before .names .result .offer))) (count-o (c .before .before .before .before .before .before .before .before .before)) ∙ ap (λ l. findIn (take (c .before .before .before .before .before .before .before .before .before .before .before .before .before .before .before .before .before .before .before .before .before .before .before .before .before .before .before .before .before .before .before .before .before .before .before .before .before .before .before .before .before .before .before .before .before .before .before .before .before .before .before .before .before .before .before .before .loop .offers .count) l) (idOf (c .before .before .before .before .before .before .before .before .before .before .before .before .before .before .before .before .before .before .before .before .before .before .before .before .before .before .before .before .before .before .before .before .before .before .before .before .before .before .before .before .before .before .before .before .before .before .before .before .before .before .before .names .result .offer))) (ids-o (c .before .before .before .before .before .before .before .before .before)) ∙ spot-slot _ (c .before .before .before .before .before .before .before .before .before .before .before .before .before .before .before .before .before .before .before .before .before .before .before .before .before .before .before .before .before .before .before .before .before .before .before .before .before .before .before .before .before .before .before .before .before .before .before .before .before .before .before .names .result .offer) (c .before .before .before .before .before .before .before .before .before .before .before .before .before .before .before .before .before .before .before .before .before .before .before .before .before .before .before .before .before .before .before .before .before .before .before .before .before .before .before .before .before .before .before .before .before .before .before .spot-by .ensures) (named deals-keeping dealRow (λ r. refl) (left-o (c .before .before .before .before .before .before .before .before .before .before .before .before .before .before .before .before .before .before .before .before .before .before .before)) (wrote-o (c .before .before .before .before .before .before .before .before .before)) (c .if5 .taken)) (came-new _ _ (c .if5 .taken))
+slot-o : (c : tie.Then5 Inv-loop2 μ-loop2 Inv-loop μ-loop) → findIn (take (c .before .before .before .before .before .before .before .before .before .if2 .offers .count) (c .before .before .before .before .before .before .before .before .before .if2 .offers .ids)) (idOf (c .before .before .before .before .before .before .before .before .before .before .before .before .before .before .before .before .before .before .before .before .before .before .before .before .before .before .before .before .before .before .before .before .before .before .before .before .before .before .before .before .before .before .before .before .before .before .before .before .before .before .before .before .names .result .offer)) ≡ Absent (c .before .before .before .before .before .before .before .before .before .before .before .before .before .before .before .before .before .before .before .before .before .before .before .before .before .before .before .before .before .before .before .before .before .before .before .before .before .before .before .before .before .before .before .before .before .before .before .before .spot-by .result .slot)
+slot-o c = ap (λ n. findIn (take n (c .before .before .before .before .before .before .before .before .before .if2 .offers .ids)) (idOf (c .before .before .before .before .before .before .before .before .before .before .before .before .before .before .before .before .before .before .before .before .before .before .before .before .before .before .before .before .before .before .before .before .before .before .before .before .before .before .before .before .before .before .before .before .before .before .before .before .before .before .before .before .names .result .offer))) (count-o (c .before .before .before .before .before .before .before .before .before)) ∙ ap (λ l. findIn (take (c .before .before .before .before .before .before .before .before .before .before .before .before .before .before .before .before .before .before .before .before .before .before .before .before .before .before .before .before .before .before .before .before .before .before .before .before .before .before .before .before .before .before .before .before .before .before .before .before .before .before .before .before .before .before .before .before .before .loop .offers .count) l) (idOf (c .before .before .before .before .before .before .before .before .before .before .before .before .before .before .before .before .before .before .before .before .before .before .before .before .before .before .before .before .before .before .before .before .before .before .before .before .before .before .before .before .before .before .before .before .before .before .before .before .before .before .before .before .names .result .offer))) (ids-o (c .before .before .before .before .before .before .before .before .before)) ∙ spot-slot _ (c .before .before .before .before .before .before .before .before .before .before .before .before .before .before .before .before .before .before .before .before .before .before .before .before .before .before .before .before .before .before .before .before .before .before .before .before .before .before .before .before .before .before .before .before .before .before .before .before .before .before .before .before .names .result .offer) (c .before .before .before .before .before .before .before .before .before .before .before .before .before .before .before .before .before .before .before .before .before .before .before .before .before .before .before .before .before .before .before .before .before .before .before .before .before .before .before .before .before .before .before .before .before .before .before .before .spot-by .ensures) (named deals-keeping dealRow (λ r. refl) (left-o (c .before .before .before .before .before .before .before .before .before .before .before .before .before .before .before .before .before .before .before .before .before .before .before)) (wrote-o (c .before .before .before .before .before .before .before .before .before)) (c .if5 .taken)) (came-new _ _ (c .if5 .taken))
 
 stored-o : (c : tie.Joined5 Inv-loop2 μ-loop2 Inv-loop μ-loop) → c .if5 .offers ≡ storedDeals (next (step (c .before .before .before .before .before .before .before .before .before .before .before .before .before .before .before .before .before .before .before .before .before .before .before)) .offers)
 stored-o c = ⊎-elim (λ x. grows deals-keeping dealRow (λ r. refl) (left-o (c .before .before .before .before .before .before .before .before .before .before .before .before .before .before .before .before .before .before .before .before .before .before .before)) (wrote-o (c .before .before .before .before .before .before .before .before .before)) (x .0 .taken) (x .7 ∙ deal-let-in (x .1 .inv) (good deals-keeping dealRow (λ r. refl) (left-o (c .before .before .before .before .before .before .before .before .before .before .before .before .before .before .before .before .before .before .before .before .before .before .before)) (wrote-o (c .before .before .before .before .before .before .before .before .before))) (x .6 .result) (c .before .before .before .before .before .before .before .before .before .before .before .before .before .before .before .before .before .before .before .before .before .before .before .turn .result .near .deal .row) (few-o (record { before = (c .before); if5 = x .0 })) (rw (x .6 .ensures) (slot-o (record { before = (c .before); if5 = x .0 }))) (omega (arith, x .2 .left)) ∙ ap (λ z. storedDeals (insert (dealsOf (c .before .before .before .before .before .before .before .before .before .if2 .offers)) z (c .before .before .before .before .before .before .before .before .before .before .before .before .before .before .before .before .before .before .before .before .before .before .before .turn .result .near .deal .row))) (x .6 .ensures))) (λ x. x .1 ∙ stays deals-keeping dealRow (λ r. refl) (left-o (c .before .before .before .before .before .before .before .before .before .before .before .before .before .before .before .before .before .before .before .before .before .before .before)) (wrote-o (c .before .before .before .before .before .before .before .before .before)) (x .0 .left)) (c .if5 .came)
@@ -215,11 +214,14 @@ at-requires-3 c κs = search needs
 same-requires : tie.Need-same-requires Inv-loop2 μ-loop2 Inv-loop μ-loop
 same-requires c κs = search needs
 
+of-requires : tie.Need-of-requires Inv-loop2 μ-loop2 Inv-loop μ-loop
+of-requires c κs = search needs
+
 turn-requires : tie.Need-turn-requires Inv-loop2 μ-loop2 Inv-loop μ-loop
 turn-requires c κs = search needs
 
 add-put-answer : tie.Need-add-put-answer Inv-loop2 μ-loop2 Inv-loop μ-loop
-add-put-answer c = more (c .before .before .before .before .before .before .before .before .before .before .before .before .before .before .before .before .before .before .before .before .before .before .before .before .before .before .before .before .before)
+add-put-answer c = more (c .before .before .before .before .before .before .before .before .before .before .before .before .before .before .before .before .before .before .before .before .before .before .before .before .before .before .before .before .before .before)
 
 put-answer-requires : tie.Need-put-answer-requires Inv-loop2 μ-loop2 Inv-loop μ-loop
 put-answer-requires c κs = search needs
@@ -228,52 +230,52 @@ over-requires : tie.Need-over-requires Inv-loop2 μ-loop2 Inv-loop μ-loop
 over-requires c κs = search needs
 
 mul-mb : tie.Need-mul-mb Inv-loop2 μ-loop2 Inv-loop μ-loop
-mul-mb c = omega (arith, below-b (c .before .before .before .before .before .before .before .before .before .before .before .before))
+mul-mb c = omega (arith, below-b (c .before .before .before .before .before .before .before .before .before .before .before .before .before))
 
 element-set-from-mb : tie.Need-element-set-from-mb Inv-loop2 μ-loop2 Inv-loop μ-loop
-element-set-from-mb c = omega (arith, below-b (c .before .before .before .before .before .before .before .before .before .before .before .before))
+element-set-from-mb c = omega (arith, below-b (c .before .before .before .before .before .before .before .before .before .before .before .before .before))
 
 mul-old : tie.Need-mul-old Inv-loop2 μ-loop2 Inv-loop μ-loop
-mul-old c = omega (arith, below-a (c .before .before .before .before .before .before .before .before .before .before .before .before .before .before .before .before .before .before))
+mul-old c = omega (arith, below-a (c .before .before .before .before .before .before .before .before .before .before .before .before .before .before .before .before .before .before .before))
 
 element-copy-out-old : tie.Need-element-copy-out-old Inv-loop2 μ-loop2 Inv-loop μ-loop
-element-copy-out-old c = omega (arith, below-a (c .before .before .before .before .before .before .before .before .before .before .before .before .before .before .before .before .before .before))
+element-copy-out-old c = omega (arith, below-a (c .before .before .before .before .before .before .before .before .before .before .before .before .before .before .before .before .before .before .before))
 
 over-requires-2 : tie.Need-over-requires-2 Inv-loop2 μ-loop2 Inv-loop μ-loop
 over-requires-2 c κs = search needs
 
 mul-ma : tie.Need-mul-ma Inv-loop2 μ-loop2 Inv-loop μ-loop
-mul-ma c = omega (arith, below-a (c .before .before .before .before .before .before .before .before .before .before .before .before .before .before .before .before .before .before .before .before .before))
+mul-ma c = omega (arith, below-a (c .before .before .before .before .before .before .before .before .before .before .before .before .before .before .before .before .before .before .before .before .before .before))
 
 element-set-from-ma : tie.Need-element-set-from-ma Inv-loop2 μ-loop2 Inv-loop μ-loop
-element-set-from-ma c = omega (arith, below-a (c .before .before .before .before .before .before .before .before .before .before .before .before .before .before .before .before .before .before .before .before .before))
+element-set-from-ma c = omega (arith, below-a (c .before .before .before .before .before .before .before .before .before .before .before .before .before .before .before .before .before .before .before .before .before .before))
 
 over-requires-3 : tie.Need-over-requires-3 Inv-loop2 μ-loop2 Inv-loop μ-loop
 over-requires-3 c κs = search needs
 
 mul-mi : tie.Need-mul-mi Inv-loop2 μ-loop2 Inv-loop μ-loop
-mul-mi c = omega (arith, below-i (c .before .before .before .before .before .before .before .before .before .before .before .before .before .before .before .before .before .before .before .before .before .before .before .before .before .before .before .before .before .before))
+mul-mi c = omega (arith, below-i (c .before .before .before .before .before .before .before .before .before .before .before .before .before .before .before .before .before .before .before .before .before .before .before .before .before .before .before .before .before .before .before))
 
 element-set-from-mi : tie.Need-element-set-from-mi Inv-loop2 μ-loop2 Inv-loop μ-loop
-element-set-from-mi c = omega (arith, below-i (c .before .before .before .before .before .before .before .before .before .before .before .before .before .before .before .before .before .before .before .before .before .before .before .before .before .before .before .before .before .before))
+element-set-from-mi c = omega (arith, below-i (c .before .before .before .before .before .before .before .before .before .before .before .before .before .before .before .before .before .before .before .before .before .before .before .before .before .before .before .before .before .before .before))
 
 mul-u1 : tie.Need-mul-u1 Inv-loop2 μ-loop2 Inv-loop μ-loop
-mul-u1 c = omega (arith, below-o (c .before .before .before .before .before .before .before .before .before .before .before .before .before .before .before .before .before .before .before .before .before .before .before .before .before .before .before .before .before .before .before .before .before .before .before .before .before .before .before .before .before))
+mul-u1 c = omega (arith, below-o (c .before .before .before .before .before .before .before .before .before .before .before .before .before .before .before .before .before .before .before .before .before .before .before .before .before .before .before .before .before .before .before .before .before .before .before .before .before .before .before .before .before .before))
 
 element-set-from-u1 : tie.Need-element-set-from-u1 Inv-loop2 μ-loop2 Inv-loop μ-loop
-element-set-from-u1 c = omega (arith, below-o (c .before .before .before .before .before .before .before .before .before .before .before .before .before .before .before .before .before .before .before .before .before .before .before .before .before .before .before .before .before .before .before .before .before .before .before .before .before .before .before .before .before))
+element-set-from-u1 c = omega (arith, below-o (c .before .before .before .before .before .before .before .before .before .before .before .before .before .before .before .before .before .before .before .before .before .before .before .before .before .before .before .before .before .before .before .before .before .before .before .before .before .before .before .before .before .before))
 
 mul-u2 : tie.Need-mul-u2 Inv-loop2 μ-loop2 Inv-loop μ-loop
-mul-u2 c = omega (arith, below-o (c .before .before .before .before .before .before .before .before .before .before .before .before .before .before .before .before .before .before .before .before .before .before .before .before .before .before .before .before .before .before .before .before .before .before .before .before .before .before .before .before .before))
+mul-u2 c = omega (arith, below-o (c .before .before .before .before .before .before .before .before .before .before .before .before .before .before .before .before .before .before .before .before .before .before .before .before .before .before .before .before .before .before .before .before .before .before .before .before .before .before .before .before .before .before))
 
 element-set-from-u2 : tie.Need-element-set-from-u2 Inv-loop2 μ-loop2 Inv-loop μ-loop
-element-set-from-u2 c = omega (arith, below-o (c .before .before .before .before .before .before .before .before .before .before .before .before .before .before .before .before .before .before .before .before .before .before .before .before .before .before .before .before .before .before .before .before .before .before .before .before .before .before .before .before .before))
+element-set-from-u2 c = omega (arith, below-o (c .before .before .before .before .before .before .before .before .before .before .before .before .before .before .before .before .before .before .before .before .before .before .before .before .before .before .before .before .before .before .before .before .before .before .before .before .before .before .before .before .before .before))
 
 mul-u3 : tie.Need-mul-u3 Inv-loop2 μ-loop2 Inv-loop μ-loop
-mul-u3 c = omega (arith, below-o (c .before .before .before .before .before .before .before .before .before .before .before .before .before .before .before .before .before .before .before .before .before .before .before .before .before .before .before .before .before .before .before .before .before .before .before .before .before .before .before .before .before))
+mul-u3 c = omega (arith, below-o (c .before .before .before .before .before .before .before .before .before .before .before .before .before .before .before .before .before .before .before .before .before .before .before .before .before .before .before .before .before .before .before .before .before .before .before .before .before .before .before .before .before .before))
 
 element-set-from-u3 : tie.Need-element-set-from-u3 Inv-loop2 μ-loop2 Inv-loop μ-loop
-element-set-from-u3 c = omega (arith, below-o (c .before .before .before .before .before .before .before .before .before .before .before .before .before .before .before .before .before .before .before .before .before .before .before .before .before .before .before .before .before .before .before .before .before .before .before .before .before .before .before .before .before))
+element-set-from-u3 c = omega (arith, below-o (c .before .before .before .before .before .before .before .before .before .before .before .before .before .before .before .before .before .before .before .before .before .before .before .before .before .before .before .before .before .before .before .before .before .before .before .before .before .before .before .before .before .before))
 
 id-requires : tie.Need-id-requires Inv-loop2 μ-loop2 Inv-loop μ-loop
 id-requires c κs = search needs
@@ -311,8 +313,8 @@ mul-offers-3 c = omega (arith, c .before .loop2-test .taken, c .before .before .
 element-copy-out-offers-2 : tie.Need-element-copy-out-offers-2 Inv-loop2 μ-loop2 Inv-loop μ-loop
 element-copy-out-offers-2 c = omega (arith, c .before .loop2-test .taken, c .before .before .loop2 .inv .place .within, few-o (c .before .before .before))
 
-mul-t130 : tie.Need-mul-t130 Inv-loop2 μ-loop2 Inv-loop μ-loop
-mul-t130 c = omega (arith, c .before .before .loop2-test .taken, c .before .before .before .loop2 .inv .place .within, few-o (c .before .before .before .before))
+mul-t129 : tie.Need-mul-t129 Inv-loop2 μ-loop2 Inv-loop μ-loop
+mul-t129 c = omega (arith, c .before .before .loop2-test .taken, c .before .before .before .loop2 .inv .place .within, few-o (c .before .before .before .before))
 
 element-set-from-offers : tie.Need-element-set-from-offers Inv-loop2 μ-loop2 Inv-loop μ-loop
 element-set-from-offers c = omega (arith, c .before .before .loop2-test .taken, c .before .before .before .loop2 .inv .place .within, few-o (c .before .before .before .before))
@@ -323,8 +325,8 @@ mul-offers-4 c = omega (arith, c .before .before .loop2-test .taken, c .before .
 element-copy-out-offers-3 : tie.Need-element-copy-out-offers-3 Inv-loop2 μ-loop2 Inv-loop μ-loop
 element-copy-out-offers-3 c = omega (arith, c .before .before .loop2-test .taken, c .before .before .before .loop2 .inv .place .within, few-o (c .before .before .before .before))
 
-mul-t130-2 : tie.Need-mul-t130-2 Inv-loop2 μ-loop2 Inv-loop μ-loop
-mul-t130-2 c = omega (arith, c .before .before .before .loop2-test .taken, c .before .before .before .before .loop2 .inv .place .within, few-o (c .before .before .before .before .before))
+mul-t129-2 : tie.Need-mul-t129-2 Inv-loop2 μ-loop2 Inv-loop μ-loop
+mul-t129-2 c = omega (arith, c .before .before .before .loop2-test .taken, c .before .before .before .before .loop2 .inv .place .within, few-o (c .before .before .before .before .before))
 
 element-set-from-offers-2 : tie.Need-element-set-from-offers-2 Inv-loop2 μ-loop2 Inv-loop μ-loop
 element-set-from-offers-2 c = omega (arith, c .before .before .before .loop2-test .taken, c .before .before .before .before .loop2 .inv .place .within, few-o (c .before .before .before .before .before))
@@ -335,8 +337,8 @@ mul-offers-5 c = omega (arith, c .before .before .before .loop2-test .taken, c .
 element-copy-out-offers-4 : tie.Need-element-copy-out-offers-4 Inv-loop2 μ-loop2 Inv-loop μ-loop
 element-copy-out-offers-4 c = omega (arith, c .before .before .before .loop2-test .taken, c .before .before .before .before .loop2 .inv .place .within, few-o (c .before .before .before .before .before))
 
-mul-t130-3 : tie.Need-mul-t130-3 Inv-loop2 μ-loop2 Inv-loop μ-loop
-mul-t130-3 c = omega (arith, c .before .before .before .before .loop2-test .taken, c .before .before .before .before .before .loop2 .inv .place .within, few-o (c .before .before .before .before .before .before))
+mul-t129-3 : tie.Need-mul-t129-3 Inv-loop2 μ-loop2 Inv-loop μ-loop
+mul-t129-3 c = omega (arith, c .before .before .before .before .loop2-test .taken, c .before .before .before .before .before .loop2 .inv .place .within, few-o (c .before .before .before .before .before .before))
 
 element-set-from-offers-3 : tie.Need-element-set-from-offers-3 Inv-loop2 μ-loop2 Inv-loop μ-loop
 element-set-from-offers-3 c = omega (arith, c .before .before .before .before .loop2-test .taken, c .before .before .before .before .before .loop2 .inv .place .within, few-o (c .before .before .before .before .before .before))
@@ -378,13 +380,13 @@ add-offers : tie.Need-add-offers Inv-loop2 μ-loop2 Inv-loop μ-loop
 add-offers c = omega (arith, few-o (c .before .before .before .before .before .before))
 
 add-k : tie.Need-add-k Inv-loop2 μ-loop2 Inv-loop μ-loop
-add-k c = more (c .before .before .before .before .before .before .before .before .before .before .before .before .before .before .before .before .before .before .before .before .before .before .before .before .before .before .before .before .before .before .before .before .before .before .before .before .before .before .before .before .before .before .before .before .before .before .before .before .before .before .before)
+add-k c = more (c .before .before .before .before .before .before .before .before .before .before .before .before .before .before .before .before .before .before .before .before .before .before .before .before .before .before .before .before .before .before .before .before .before .before .before .before .before .before .before .before .before .before .before .before .before .before .before .before .before .before .before .before)
 
 loop-less : tie.Need-loop-less Inv-loop2 μ-loop2 Inv-loop μ-loop
-loop-less c = omega (arith, ahead _ _ (record-read (c .before .before .before .before .before .before .before .before .before .before .before .before .before .before .before .before .before .before .before .before .before .before .before .before .before .before .before .before .before .before .before .before .before .before .before .before .before .before .before .before .before .before .before .before .before .before .before .before .before .before .before)))
+loop-less c = omega (arith, ahead _ _ (record-read (c .before .before .before .before .before .before .before .before .before .before .before .before .before .before .before .before .before .before .before .before .before .before .before .before .before .before .before .before .before .before .before .before .before .before .before .before .before .before .before .before .before .before .before .before .before .before .before .before .before .before .before .before)))
 
 loop-again : tie.Need-loop-again Inv-loop2 μ-loop2 Inv-loop μ-loop
-loop-again c = going-on (c .before .before .before .before .before .before .before .before .before .before .before .before .before .before .before .before .before .before .before .before .before .before .before .before .before .before .before .before .before .before .before .before .before .before .before .before .before .before .before .before .before .before .before .before .before .before .before .before .before .before .before .before .before .before .before .before .loop .inv) (record-read (c .before .before .before .before .before .before .before .before .before .before .before .before .before .before .before .before .before .before .before .before .before .before .before .before .before .before .before .before .before .before .before .before .before .before .before .before .before .before .before .before .before .before .before .before .before .before .before .before .before .before .before)) (stepped (shelved (c .before .before .before .before .before .before .before .before .before .before .before .before .before .before .before .before .before .before .before .before .before .before .before .before .before .before .before .before .before .before .before .before .before .before .before .before .before .before .before .before .before .before .before .before .before .before .before .before .before .before .before)) (steps (step (c .before .before .before .before .before .before .before .before .before .before .before .before .before .before .before .before .before .before .before .before .before .before .before)) (stored-a (c .before .before .before .before .before .before)) (stored-i (c .before .before .before)) (stored-o c))) (c .before .before .before .before .before .before .before .before .before .before .before .before .before .before .before .before .before .before .before .before .before .put-answer .ensures)
+loop-again c = going-on (c .before .before .before .before .before .before .before .before .before .before .before .before .before .before .before .before .before .before .before .before .before .before .before .before .before .before .before .before .before .before .before .before .before .before .before .before .before .before .before .before .before .before .before .before .before .before .before .before .before .before .before .before .before .before .before .before .before .loop .inv) (record-read (c .before .before .before .before .before .before .before .before .before .before .before .before .before .before .before .before .before .before .before .before .before .before .before .before .before .before .before .before .before .before .before .before .before .before .before .before .before .before .before .before .before .before .before .before .before .before .before .before .before .before .before .before)) (stepped (shelved (c .before .before .before .before .before .before .before .before .before .before .before .before .before .before .before .before .before .before .before .before .before .before .before .before .before .before .before .before .before .before .before .before .before .before .before .before .before .before .before .before .before .before .before .before .before .before .before .before .before .before .before .before)) (steps (step (c .before .before .before .before .before .before .before .before .before .before .before .before .before .before .before .before .before .before .before .before .before .before .before)) (stored-a (c .before .before .before .before .before .before)) (stored-i (c .before .before .before)) (stored-o c))) (c .before .before .before .before .before .before .before .before .before .before .before .before .before .before .before .before .before .before .before .before .before .put-answer .ensures)
 
 enum-known-d-2 : tie.Need-enum-known-d-2 Inv-loop2 μ-loop2 Inv-loop μ-loop
 enum-known-d-2 c = search needs
@@ -452,6 +454,7 @@ records-spec =
     element-copy-out-vb
     at-requires-3
     same-requires
+    of-requires
     turn-requires
     add-put-answer
     put-answer-requires
@@ -484,15 +487,15 @@ records-spec =
     element-write-offers
     mul-offers-3
     element-copy-out-offers-2
-    mul-t130
+    mul-t129
     element-set-from-offers
     mul-offers-4
     element-copy-out-offers-3
-    mul-t130-2
+    mul-t129-2
     element-set-from-offers-2
     mul-offers-5
     element-copy-out-offers-4
-    mul-t130-3
+    mul-t129-3
     element-set-from-offers-3
     loop2-less
     loop2-again

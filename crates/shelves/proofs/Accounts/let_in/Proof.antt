@@ -10,10 +10,10 @@ use Rattle.shelves.proofs.Accounts.let_in.Statement.{statement}
 use Rattle.shelves.proofs.Accounts.let_in.Tie as tie
 
 abbrev Inv-loop : tie.InvT-loop
-Inv-loop id row self₀ n k i₀ self i = Raised 64 n (self₀ .ids) (self₀ .rows) k (self .ids) (self .rows) i
+Inv-loop id account self₀ n k i₀ self i = Raised 64 n (self₀ .ids) (self₀ .rows) k (self .ids) (self .rows) i
 
 abbrev μ-loop : tie.MeasureT-loop
-μ-loop id row self₀ n k i₀ self i = i
+μ-loop id account self₀ n k i₀ self i = i
 
 returns : tie.Need-returns Inv-loop μ-loop
 returns c = λ room. absurd (omega (arith, room .small, c .before .pre .counted, c .if1 .taken))
@@ -72,11 +72,11 @@ mul-self-4 c = omega (arith, c .before .loop .inv .place .within, c .before .bef
 element-write-self-2 : tie.Need-element-write-self-2 Inv-loop μ-loop
 element-write-self-2 c = omega (arith, c .before .loop .inv .place .within, c .before .before .before .before .before .before .before .before .before .if1 .left)
 
-mul-row : tie.Need-mul-row Inv-loop μ-loop
-mul-row c = omega (arith, c .before .loop .inv .place .within, c .before .before .before .before .before .before .before .before .before .if1 .left)
+mul-account : tie.Need-mul-account Inv-loop μ-loop
+mul-account c = omega (arith, c .before .loop .inv .place .within, c .before .before .before .before .before .before .before .before .before .if1 .left)
 
-element-set-from-row : tie.Need-element-set-from-row Inv-loop μ-loop
-element-set-from-row c = omega (arith, c .before .loop .inv .place .within, c .before .before .before .before .before .before .before .before .before .if1 .left)
+element-set-from-account : tie.Need-element-set-from-account Inv-loop μ-loop
+element-set-from-account c = omega (arith, c .before .loop .inv .place .within, c .before .before .before .before .before .before .before .before .before .if1 .left)
 
 add-self : tie.Need-add-self Inv-loop μ-loop
 add-self c = omega (arith, c .before .before .before .before .before .before .before .before .before .if1 .left)
@@ -109,7 +109,7 @@ let-in-spec =
     loop-again
     mul-self-4
     element-write-self-2
-    mul-row
-    element-set-from-row
+    mul-account
+    element-set-from-account
     add-self
     returns-3)

@@ -13,11 +13,11 @@ below c = spot-below (c .before .before .before .before .pre) (omega arith) (c .
 spot-by-requires : tie.Need-spot-by-requires
 spot-by-requires c κs = search needs
 
-mul-row : tie.Need-mul-row
-mul-row c = omega (arith, below c)
+mul-account : tie.Need-mul-account
+mul-account c = omega (arith, below c)
 
-element-copy-out-row : tie.Need-element-copy-out-row
-element-copy-out-row c = omega (arith, below c)
+element-copy-out-account : tie.Need-element-copy-out-account
+element-copy-out-account c = omega (arith, below c)
 
 at-requires : tie.Need-at-requires
 at-requires c κs = search needs
@@ -26,4 +26,4 @@ returns : tie.Need-returns
 returns c = c .at .ensures ∙ ap seenAccount (sym (spot-found (c .before .before .before .before .before .before .pre) (omega arith) (c .before .before .before .before .before .before .args .key) (c .before .before .spot-by .ensures)))
 
 pub see-spec : {M : Type 1} → statement M
-see-spec = tie.close (tie.spec spot-by-requires mul-row element-copy-out-row at-requires returns)
+see-spec = tie.close (tie.spec spot-by-requires mul-account element-copy-out-account at-requires returns)

@@ -67,11 +67,11 @@ element-copy-out-old c = omega (arith, below-a c)
 over-requires-2 : tie.Need-over-requires-2
 over-requires-2 c κs = search needs
 
-mul-d : tie.Need-mul-d
-mul-d c = omega (arith, below-a (c .before .before .before))
+mul-a : tie.Need-mul-a
+mul-a c = omega (arith, below-a (c .before .before .before))
 
-element-set-from-d : tie.Need-element-set-from-d
-element-set-from-d c = omega (arith, below-a (c .before .before .before))
+element-set-from-a : tie.Need-element-set-from-a
+element-set-from-a c = omega (arith, below-a (c .before .before .before))
 
 id-requires : tie.Need-id-requires
 id-requires c κs = search needs
@@ -99,8 +99,8 @@ store-spec =
     mul-old
     element-copy-out-old
     over-requires-2
-    mul-d
-    element-set-from-d
+    mul-a
+    element-set-from-a
     id-requires
     let-in-requires
     returns

@@ -40,11 +40,11 @@ element-copy-out-old c = omega (arith, below c)
 over-requires : tie.Need-over-requires
 over-requires c κs = search needs
 
-mul-d : tie.Need-mul-d
-mul-d c = omega (arith, below (c .before .before .before))
+mul-kept : tie.Need-mul-kept
+mul-kept c = omega (arith, below (c .before .before .before))
 
-element-set-from-d : tie.Need-element-set-from-d
-element-set-from-d c = omega (arith, below (c .before .before .before))
+element-set-from-kept : tie.Need-element-set-from-kept
+element-set-from-kept c = omega (arith, below (c .before .before .before))
 
 id-requires : tie.Need-id-requires
 id-requires c κs = search needs
@@ -66,8 +66,8 @@ store-spec =
     mul-old
     element-copy-out-old
     over-requires
-    mul-d
-    element-set-from-d
+    mul-kept
+    element-set-from-kept
     id-requires
     let-in-requires
     returns

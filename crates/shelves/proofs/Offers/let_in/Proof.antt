@@ -9,10 +9,10 @@ use Rattle.shelves.proofs.Offers.let_in.Statement.{statement}
 use Rattle.shelves.proofs.Offers.let_in.Tie as tie
 
 abbrev Inv-loop : tie.InvT-loop
-Inv-loop id row self₀ n k i₀ self i = Moves self₀ k self i
+Inv-loop id deal self₀ n k i₀ self i = Moves self₀ k self i
 
 abbrev μ-loop : tie.MeasureT-loop
-μ-loop id row self₀ n k i₀ self i = i
+μ-loop id deal self₀ n k i₀ self i = i
 
 returns : tie.Need-returns Inv-loop μ-loop
 returns c = λ room. absurd (omega (arith, room .small, c .before .pre .shelf .counted, c .if1 .taken))
@@ -117,7 +117,7 @@ add-self : tie.Need-add-self Inv-loop μ-loop
 add-self c = omega (arith, c .before .before .before .before .before .before .before .before .before .before .before .before .if1 .left)
 
 returns-3 : tie.Need-returns-3 Inv-loop μ-loop
-returns-3 c = λ room. deal-let-in (c .before .before .before .before .loop .inv) (c .before .before .before .before .before .before .before .before .before .before .before .before .before .pre) _ (c .before .before .before .before .before .before .before .before .before .before .before .before .before .args .row) (omega (arith, c .before .before .before .before .before .before .before .before .before .before .before .before .if1 .left)) (sym (c .before .before .before .before .before .before .before .before .find .ensures) ∙ c .before .before .before .before .before .before .f .given .1) (omega (arith, c .before .before .before .loop-test .left))
+returns-3 c = λ room. deal-let-in (c .before .before .before .before .loop .inv) (c .before .before .before .before .before .before .before .before .before .before .before .before .before .pre) _ (c .before .before .before .before .before .before .before .before .before .before .before .before .before .args .deal) (omega (arith, c .before .before .before .before .before .before .before .before .before .before .before .before .if1 .left)) (sym (c .before .before .before .before .before .before .before .before .find .ensures) ∙ c .before .before .before .before .before .before .f .given .1) (omega (arith, c .before .before .before .loop-test .left))
 
 pub let-in-spec : {M : Type 1} → statement M
 let-in-spec =
