@@ -162,12 +162,12 @@ fn records(s: &[u8], out: &mut [u8], ink: bool, first: usize) -> Told
                 let mi = ri.over(pi.here, v);
                 invoices.rows[ii] = mi;
                 if po.here {
-                    let u1 = t.near.deal.row.offer;
-                    let u2 = t.near.deal.row.negotiation;
-                    let u3 = t.near.deal.row.schedule;
-                    offers.rows[io] = u1;
-                    offers.negotiations[io] = u2;
-                    offers.schedules[io] = u3;
+                    let offer = t.near.deal.row.offer;
+                    let talk = t.near.deal.row.negotiation;
+                    let plan = t.near.deal.row.schedule;
+                    offers.rows[io] = offer;
+                    offers.negotiations[io] = talk;
+                    offers.schedules[io] = plan;
                 }
                 if !pa.here & t.near.parties.first.here {
                     let more = accounts.let_in(ka.id(), ra);
@@ -189,13 +189,13 @@ fn records(s: &[u8], out: &mut [u8], ink: bool, first: usize) -> Told
                         offers.schedules[j] = offers.schedules[i];
                         j = i;
                     }
-                    let u1 = t.near.deal.row.offer;
-                    let u2 = t.near.deal.row.negotiation;
-                    let u3 = t.near.deal.row.schedule;
+                    let new_offer = t.near.deal.row.offer;
+                    let new_talk = t.near.deal.row.negotiation;
+                    let new_plan = t.near.deal.row.schedule;
                     offers.ids[j] = id.id();
-                    offers.rows[j] = u1;
-                    offers.negotiations[j] = u2;
-                    offers.schedules[j] = u3;
+                    offers.rows[j] = new_offer;
+                    offers.negotiations[j] = new_talk;
+                    offers.schedules[j] = new_plan;
                     offers.count = n + 1;
                 }
                 k += 1;

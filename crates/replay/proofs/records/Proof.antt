@@ -259,23 +259,23 @@ mul-mi c = omega (arith, below-i (c .before .before .before .before .before .bef
 element-set-from-mi : tie.Need-element-set-from-mi Inv-loop2 μ-loop2 Inv-loop μ-loop
 element-set-from-mi c = omega (arith, below-i (c .before .before .before .before .before .before .before .before .before .before .before .before .before .before .before .before .before .before .before .before .before .before .before .before .before .before .before .before .before .before .before))
 
-mul-u1 : tie.Need-mul-u1 Inv-loop2 μ-loop2 Inv-loop μ-loop
-mul-u1 c = omega (arith, below-o (c .before .before .before .before .before .before .before .before .before .before .before .before .before .before .before .before .before .before .before .before .before .before .before .before .before .before .before .before .before .before .before .before .before .before .before .before .before .before .before .before .before .before))
+mul-offer : tie.Need-mul-offer Inv-loop2 μ-loop2 Inv-loop μ-loop
+mul-offer c = omega (arith, below-o (c .before .before .before .before .before .before .before .before .before .before .before .before .before .before .before .before .before .before .before .before .before .before .before .before .before .before .before .before .before .before .before .before .before .before .before .before .before .before .before .before .before .before))
 
-element-set-from-u1 : tie.Need-element-set-from-u1 Inv-loop2 μ-loop2 Inv-loop μ-loop
-element-set-from-u1 c = omega (arith, below-o (c .before .before .before .before .before .before .before .before .before .before .before .before .before .before .before .before .before .before .before .before .before .before .before .before .before .before .before .before .before .before .before .before .before .before .before .before .before .before .before .before .before .before))
+element-set-from-offer : tie.Need-element-set-from-offer Inv-loop2 μ-loop2 Inv-loop μ-loop
+element-set-from-offer c = omega (arith, below-o (c .before .before .before .before .before .before .before .before .before .before .before .before .before .before .before .before .before .before .before .before .before .before .before .before .before .before .before .before .before .before .before .before .before .before .before .before .before .before .before .before .before .before))
 
-mul-u2 : tie.Need-mul-u2 Inv-loop2 μ-loop2 Inv-loop μ-loop
-mul-u2 c = omega (arith, below-o (c .before .before .before .before .before .before .before .before .before .before .before .before .before .before .before .before .before .before .before .before .before .before .before .before .before .before .before .before .before .before .before .before .before .before .before .before .before .before .before .before .before .before))
+mul-talk : tie.Need-mul-talk Inv-loop2 μ-loop2 Inv-loop μ-loop
+mul-talk c = omega (arith, below-o (c .before .before .before .before .before .before .before .before .before .before .before .before .before .before .before .before .before .before .before .before .before .before .before .before .before .before .before .before .before .before .before .before .before .before .before .before .before .before .before .before .before .before))
 
-element-set-from-u2 : tie.Need-element-set-from-u2 Inv-loop2 μ-loop2 Inv-loop μ-loop
-element-set-from-u2 c = omega (arith, below-o (c .before .before .before .before .before .before .before .before .before .before .before .before .before .before .before .before .before .before .before .before .before .before .before .before .before .before .before .before .before .before .before .before .before .before .before .before .before .before .before .before .before .before))
+element-set-from-talk : tie.Need-element-set-from-talk Inv-loop2 μ-loop2 Inv-loop μ-loop
+element-set-from-talk c = omega (arith, below-o (c .before .before .before .before .before .before .before .before .before .before .before .before .before .before .before .before .before .before .before .before .before .before .before .before .before .before .before .before .before .before .before .before .before .before .before .before .before .before .before .before .before .before))
 
-mul-u3 : tie.Need-mul-u3 Inv-loop2 μ-loop2 Inv-loop μ-loop
-mul-u3 c = omega (arith, below-o (c .before .before .before .before .before .before .before .before .before .before .before .before .before .before .before .before .before .before .before .before .before .before .before .before .before .before .before .before .before .before .before .before .before .before .before .before .before .before .before .before .before .before))
+mul-plan : tie.Need-mul-plan Inv-loop2 μ-loop2 Inv-loop μ-loop
+mul-plan c = omega (arith, below-o (c .before .before .before .before .before .before .before .before .before .before .before .before .before .before .before .before .before .before .before .before .before .before .before .before .before .before .before .before .before .before .before .before .before .before .before .before .before .before .before .before .before .before))
 
-element-set-from-u3 : tie.Need-element-set-from-u3 Inv-loop2 μ-loop2 Inv-loop μ-loop
-element-set-from-u3 c = omega (arith, below-o (c .before .before .before .before .before .before .before .before .before .before .before .before .before .before .before .before .before .before .before .before .before .before .before .before .before .before .before .before .before .before .before .before .before .before .before .before .before .before .before .before .before .before))
+element-set-from-plan : tie.Need-element-set-from-plan Inv-loop2 μ-loop2 Inv-loop μ-loop
+element-set-from-plan c = omega (arith, below-o (c .before .before .before .before .before .before .before .before .before .before .before .before .before .before .before .before .before .before .before .before .before .before .before .before .before .before .before .before .before .before .before .before .before .before .before .before .before .before .before .before .before .before))
 
 id-requires : tie.Need-id-requires Inv-loop2 μ-loop2 Inv-loop μ-loop
 id-requires c κs = search needs
@@ -358,23 +358,23 @@ mul-offers-6 c = omega (arith, c .before .before .before .before .before .loop2 
 element-write-offers-2 : tie.Need-element-write-offers-2 Inv-loop2 μ-loop2 Inv-loop μ-loop
 element-write-offers-2 c = omega (arith, c .before .before .before .before .before .loop2 .inv .place .within, few-o (c .before .before .before .before .before .before))
 
-mul-u1-2 : tie.Need-mul-u1-2 Inv-loop2 μ-loop2 Inv-loop μ-loop
-mul-u1-2 c = omega (arith, c .before .before .before .before .before .loop2 .inv .place .within, few-o (c .before .before .before .before .before .before))
+mul-new-offer : tie.Need-mul-new-offer Inv-loop2 μ-loop2 Inv-loop μ-loop
+mul-new-offer c = omega (arith, c .before .before .before .before .before .loop2 .inv .place .within, few-o (c .before .before .before .before .before .before))
 
-element-set-from-u1-2 : tie.Need-element-set-from-u1-2 Inv-loop2 μ-loop2 Inv-loop μ-loop
-element-set-from-u1-2 c = omega (arith, c .before .before .before .before .before .loop2 .inv .place .within, few-o (c .before .before .before .before .before .before))
+element-set-from-new-offer : tie.Need-element-set-from-new-offer Inv-loop2 μ-loop2 Inv-loop μ-loop
+element-set-from-new-offer c = omega (arith, c .before .before .before .before .before .loop2 .inv .place .within, few-o (c .before .before .before .before .before .before))
 
-mul-u2-2 : tie.Need-mul-u2-2 Inv-loop2 μ-loop2 Inv-loop μ-loop
-mul-u2-2 c = omega (arith, c .before .before .before .before .before .loop2 .inv .place .within, few-o (c .before .before .before .before .before .before))
+mul-new-talk : tie.Need-mul-new-talk Inv-loop2 μ-loop2 Inv-loop μ-loop
+mul-new-talk c = omega (arith, c .before .before .before .before .before .loop2 .inv .place .within, few-o (c .before .before .before .before .before .before))
 
-element-set-from-u2-2 : tie.Need-element-set-from-u2-2 Inv-loop2 μ-loop2 Inv-loop μ-loop
-element-set-from-u2-2 c = omega (arith, c .before .before .before .before .before .loop2 .inv .place .within, few-o (c .before .before .before .before .before .before))
+element-set-from-new-talk : tie.Need-element-set-from-new-talk Inv-loop2 μ-loop2 Inv-loop μ-loop
+element-set-from-new-talk c = omega (arith, c .before .before .before .before .before .loop2 .inv .place .within, few-o (c .before .before .before .before .before .before))
 
-mul-u3-2 : tie.Need-mul-u3-2 Inv-loop2 μ-loop2 Inv-loop μ-loop
-mul-u3-2 c = omega (arith, c .before .before .before .before .before .loop2 .inv .place .within, few-o (c .before .before .before .before .before .before))
+mul-new-plan : tie.Need-mul-new-plan Inv-loop2 μ-loop2 Inv-loop μ-loop
+mul-new-plan c = omega (arith, c .before .before .before .before .before .loop2 .inv .place .within, few-o (c .before .before .before .before .before .before))
 
-element-set-from-u3-2 : tie.Need-element-set-from-u3-2 Inv-loop2 μ-loop2 Inv-loop μ-loop
-element-set-from-u3-2 c = omega (arith, c .before .before .before .before .before .loop2 .inv .place .within, few-o (c .before .before .before .before .before .before))
+element-set-from-new-plan : tie.Need-element-set-from-new-plan Inv-loop2 μ-loop2 Inv-loop μ-loop
+element-set-from-new-plan c = omega (arith, c .before .before .before .before .before .loop2 .inv .place .within, few-o (c .before .before .before .before .before .before))
 
 add-offers : tie.Need-add-offers Inv-loop2 μ-loop2 Inv-loop μ-loop
 add-offers c = omega (arith, few-o (c .before .before .before .before .before .before))
@@ -469,12 +469,12 @@ records-spec =
     over-requires-3
     mul-mi
     element-set-from-mi
-    mul-u1
-    element-set-from-u1
-    mul-u2
-    element-set-from-u2
-    mul-u3
-    element-set-from-u3
+    mul-offer
+    element-set-from-offer
+    mul-talk
+    element-set-from-talk
+    mul-plan
+    element-set-from-plan
     id-requires
     let-in-requires
     id-requires-2
@@ -502,12 +502,12 @@ records-spec =
     id-requires-3
     mul-offers-6
     element-write-offers-2
-    mul-u1-2
-    element-set-from-u1-2
-    mul-u2-2
-    element-set-from-u2-2
-    mul-u3-2
-    element-set-from-u3-2
+    mul-new-offer
+    element-set-from-new-offer
+    mul-new-talk
+    element-set-from-new-talk
+    mul-new-plan
+    element-set-from-new-plan
     add-offers
     add-k
     loop-less
