@@ -2,11 +2,9 @@
 use Prim.Native.Nat.{ℕ}
 use mathlib.Core.Path.{_≡_, refl, sym, ap, _∙_}
 use mathlib.Core.Bool.{Bool}
-use lib.Dec.{leb}
 use Rattle.refusal.specs.Rule.{after, answered}
 use Rattle.table.specs.Tables.{Found, absent, here, full, has}
 use Rattle.table.specs.Named.{same, findBy}
-use Rattle.table.specs.ShelfLaws.{full-is}
 use Rattle.table.specs.Storing.{Left}
 use Rattle.table.specs.declared.Named.{Named}
 use Rattle.account.specs.Seen.{seenAccount}
@@ -34,10 +32,10 @@ use Rattle.rules.specs.Model.{Model, accountBy, invoiceBy, offerBy}
 use Rattle.rules.specs.Rules.{commanded}
 use Rattle.rules.specs.Keys.{Keys, keysBy, keysIn, keysOf}
 use Rattle.rules.specs.Touching.{touched-accounts, touched-invoices, touched-offers}
-use Rattle.near.specs.declared.Full.{Full}
+use Rattle.near.specs.declared.Counts.{Counts}
 use Rattle.near.specs.declared.Near.{Near}
 use Rattle.near.specs.declared.Turn.{Turn}
-use Rattle.near.specs.Near.{fullBy, viewOf, turnOf, fullOf, TurnsBy}
+use Rattle.near.specs.Near.{countsBy, viewOf, turnOf, countsOf, TurnsBy}
 use Rattle.book.specs.declared.Book.{Book}
 use Rattle.book.specs.declared.Step.{Step}
 use Rattle.book.specs.Stored.{modelOf, stepOf, Shelved}
@@ -75,19 +73,19 @@ module _ {b : Book} {c : Command} {n : Names} {key other : Named} {x : SeenDeal}
       }
 
 -- ── What the turn answers ─────────────────────────────────────────
-pub full-by : {b : Book} → Shelved b → fullBy (leb 64 (b .accounts .count)) (leb 64 (b .invoices .count)) (leb 64 (b .offers .count)) ≡ fullOf (modelOf b)
-full-by {b} s =
-    let none = fullOf (modelOf b) in
-    ap (λ z. fullBy z (leb 64 (b .invoices .count)) (leb 64 (b .offers .count))) (full-is (s .accounts))
-    ∙ ap (λ z. fullBy (none .accounts) z (leb 64 (b .offers .count))) (full-is (s .invoices))
-    ∙ ap (λ z. fullBy (none .accounts) (none .invoices) z) (full-is (s .offers .shelf))
+pub counts-by : {b : Book} → Shelved b → countsBy (b .accounts .count) (b .invoices .count) (b .offers .count) ≡ countsOf (modelOf b)
+counts-by {b} s =
+    let n = countsOf (modelOf b) in
+    ap (λ z. countsBy z (b .invoices .count) (b .offers .count)) (sym (s .accounts .counted))
+    ∙ ap (λ z. countsBy (n .accounts) z (b .offers .count)) (sym (s .invoices .counted))
+    ∙ ap (λ z. countsBy (n .accounts) (n .invoices) z) (sym (s .offers .shelf .counted))
 
 pub record Turned (b : Book) (c : Command) (k : Keys) (r : Turn) : Type 0 where
   pub shelved : Shelved b
   pub keys : k ≡ keysOf (modelOf b) c
   pub is : r ≡ answered (turnOf k) (modelOf b) (commanded (modelOf b) c)
 
-pub turned : {b : Book} {c : Command} {k : Keys} {n : Near} {f : Full} {r : Turn} → Shelved b → Fetched b c k n → f ≡ fullOf (modelOf b) → TurnsBy n r c f (λ m. commanded m c) → Turned b c k r
+pub turned : {b : Book} {c : Command} {k : Keys} {n : Near} {f : Counts} {r : Turn} → Shelved b → Fetched b c k n → f ≡ countsOf (modelOf b) → TurnsBy n r c f (λ m. commanded m c) → Turned b c k r
 turned {b} {c} {k} s f e h = record { shelved = s; keys = f .keys; is = h (modelOf b) e (f .view ∙ ap (λ z. viewOf z (modelOf b)) (f .keys)) ∙ ap (λ z. answered (turnOf z) (modelOf b) (commanded (modelOf b) c)) (sym (f .keys)) }
 
 has-account : (f : Found Account) → seenAccount f .here ≡ has f

@@ -1,6 +1,6 @@
 // The whole book: three tables, the totals and the settings; any command on any book.
 use command::Command;
-use near::Full;
+use near::Counts;
 use near::Near;
 use parties::Parties;
 use settings::Settings;
@@ -104,8 +104,12 @@ impl Book {
             totals: totals,
             settings: settings,
         };
-        let filled = Full::of(accounts.count, invoices.count, offers.count);
-        let t = near.turn(c, filled);
+        let rows = Counts {
+            accounts: accounts.count,
+            invoices: invoices.count,
+            offers: offers.count,
+        };
+        let t = near.turn(c, rows);
         let after = t.near;
         let both = after.parties;
         let x = both.first;

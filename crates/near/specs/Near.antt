@@ -1,10 +1,10 @@
 -- What one command sees of a book: the rows at its keys. A turn on these is the book's own step, seen so.
 use Prim.Native.Nat.{ℕ}
 use mathlib.Core.Path.{_≡_}
+use lib.ListN.{length}
 use mathlib.Core.Bool.{Bool}
 use Rattle.refusal.specs.Choice.{pick}
 use Rattle.refusal.specs.Rule.{Rule, answered}
-use Rattle.table.specs.Tables.{full}
 use Rattle.table.specs.declared.Named.{Named}
 use Rattle.table.specs.declared.Named.the-variants.{Id}
 use Rattle.account.specs.declared.Account.{Account}
@@ -14,7 +14,7 @@ use Rattle.parties.specs.Parties.{partiesBy}
 use Rattle.rules.specs.Model.{Model, invoiceBy, offerBy, offerIn}
 use Rattle.rules.specs.Rules.{lenderOf, originatorOf, settling, concluding, withLenderRound, counteredIn}
 use Rattle.rules.specs.Keys.{Keys, keysBy, keysOf}
-use Rattle.near.specs.declared.Full.{Full}
+use Rattle.near.specs.declared.Counts.{Counts}
 use Rattle.near.specs.declared.Near.{Near}
 use Rattle.near.specs.declared.Turn.{Turn}
 
@@ -24,12 +24,12 @@ viewOf k m = record { parties = partiesBy (k .first) (k .second) (m .accounts); 
 abbrev pub turnOf : Keys → ℕ → Model → Turn
 turnOf k n m = record { answer = n; near = viewOf k m }
 
--- which tables have no room
-abbrev pub fullBy : Bool → Bool → Bool → Full
-fullBy a i o = record { accounts = a; invoices = i; offers = o }
+-- how many rows its tables have
+abbrev pub countsBy : ℕ → ℕ → ℕ → Counts
+countsBy a i o = record { accounts = a; invoices = i; offers = o }
 
-abbrev pub fullOf : Model → Full
-fullOf m = fullBy (full 64 (m .accounts)) (full 64 (m .invoices)) (full 64 (m .offers))
+abbrev pub countsOf : Model → Counts
+countsOf m = countsBy (length (m .accounts)) (length (m .invoices)) (length (m .offers))
 
 -- ── A turn: whatever the book m is that shows these rows, r is what the rule u of it answers, seen at the same keys ──
 abbrev pub Turns : Near → Turn → Keys → Model → Rule Model → Type 0
@@ -73,5 +73,5 @@ abbrev pub SeesCounter : Near → Near → ℕ → Terms → Type 0
 SeesCounter n r now t = (o : ℕ) (a b i : Named) (m : Model) → n ≡ viewOf (keysBy a b i (Id o)) m → r ≡ viewOf (keysBy a b i (Id o)) (counteredIn m now o t)
 
 -- ── The turn of a command ─────────────────────────────────────────
-abbrev pub TurnsBy : Near → Turn → Command → Full → (Model → Rule Model) → Type 0
-TurnsBy n r c f u = (m : Model) → f ≡ fullOf m → Turns n r (keysOf m c) m (u m)
+abbrev pub TurnsBy : Near → Turn → Command → Counts → (Model → Rule Model) → Type 0
+TurnsBy n r c k u = (m : Model) → k ≡ countsOf m → Turns n r (keysOf m c) m (u m)

@@ -15,7 +15,6 @@ use settings::Totals;
 use terms::Terms;
 ghost use mathlib.Core.Path.{_≡_};
 ghost use Prim.Native.Nat.{ℕ};
-ghost use lib.Dec.{leb};
 ghost use Rattle.refusal.specs.Choice.{pick};
 ghost use Rattle.refusal.specs.Refusal.{first};
 ghost use Rattle.refusal.specs.Rule.{Rule, answered};
@@ -36,7 +35,7 @@ ghost use Rattle.rules.specs.Model.{Model, accountIn, invoiceIn, offerIn, paper
 ghost use Rattle.command.specs.Names.{namesOf};
 ghost use Rattle.rules.specs.Rules.{gateBy, opening, registering, creating, settling, accepting, concluding, amending, countering, lenderOf, originatorOf, commanded};
 ghost use Rattle.rules.specs.Keys.{keysBy, keysOf};
-ghost use Rattle.near.specs.Near.{fullBy, viewOf, Turns, Anywhere, AtFirst, AtSecond, AtPaper, AtDeal, dealKeys, sidesOf, BySides, Concludes, SeesAmendment, SeesCounter, TurnsBy};
+ghost use Rattle.near.specs.Near.{viewOf, Turns, Anywhere, AtFirst, AtSecond, AtPaper, AtDeal, dealKeys, sidesOf, BySides, Concludes, SeesAmendment, SeesCounter, TurnsBy};
 
 // The rows at a command's keys, the totals and the settings.
 pub struct Near {
@@ -47,24 +46,11 @@ pub struct Near {
     pub settings: Settings,
 }
 
-// Which tables have no room for one row more.
-pub struct Full {
-    pub accounts: bool,
-    pub invoices: bool,
-    pub offers: bool,
-}
-
-impl Full {
-    // By how many rows each table has.
-    pub fn of(accounts: usize, invoices: usize, offers: usize) -> Full
-        ensures { λ r. ⌜ r ≡ fullBy (leb 64 accounts) (leb 64 invoices) (leb 64 offers) ⌝ }
-    {
-        Full {
-            accounts: table::ROOM <= accounts,
-            invoices: table::ROOM <= invoices,
-            offers: table::ROOM <= offers,
-        }
-    }
+// How many rows each table has.
+pub struct Counts {
+    pub accounts: usize,
+    pub invoices: usize,
+    pub offers: usize,
 }
 
 // A command's answer, 0 where it is accepted, and what it leaves of what it saw.
@@ -602,9 +588,9 @@ fn gate(c: Command, paused: bool, here: bool) -> u64
 
 // ── The turn of a command ──
 impl Near {
-    // The gate, then the command's own rule. `filled`: which tables have no room.
-    pub fn turn(self, c: Command, filled: Full) -> Turn
-        ensures { λ r. ⌜ TurnsBy self r c filled (λ m. commanded m c) ⌝ }
+    // The gate, then the command's own rule. `rows`: how many each table has.
+    pub fn turn(self, c: Command, rows: Counts) -> Turn
+        ensures { λ r. ⌜ TurnsBy self r c rows (λ m. commanded m c) ⌝ }
     {
         let n = gate(c, self.settings.paused, self.parties.first.here);
         if !(n == 0) {
@@ -614,7 +600,7 @@ impl Near {
             };
         }
         match c {
-            Command::OpenAccount { now: _, caller: _ } => self.opened(filled.accounts),
+            Command::OpenAccount { now: _, caller: _ } => self.opened(table::ROOM <= rows.accounts),
             Command::Deposit {
                 now: _,
                 caller: _,
@@ -635,7 +621,7 @@ impl Near {
                 caller,
                 id: _,
                 amount,
-            } => self.registered(caller, amount, filled.invoices),
+            } => self.registered(caller, amount, table::ROOM <= rows.invoices),
             Command::CancelInvoice {
                 now: _,
                 caller,
@@ -648,7 +634,7 @@ impl Near {
                 invoice,
                 terms,
                 expires,
-            } => self.created(caller, invoice, terms, expires, filled.offers),
+            } => self.created(caller, invoice, terms, expires, table::ROOM <= rows.offers),
             Command::WithdrawOffer {
                 now: _,
                 caller,

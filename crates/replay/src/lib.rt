@@ -4,7 +4,7 @@ use book::Book;
 use invoice::SeenInvoice;
 use journal::Decoded;
 use journal::Opened;
-use near::Full;
+use near::Counts;
 use near::Near;
 use offer::Deal;
 use offer::SeenDeal;
@@ -146,8 +146,12 @@ fn records(s: &[u8], out: &mut [u8], ink: bool, first: usize) -> Told
                     totals: totals,
                     settings: settings,
                 };
-                let filled = Full::of(accounts.count, invoices.count, offers.count);
-                let t = near.turn(c, filled);
+                let rows = Counts {
+                    accounts: accounts.count,
+                    invoices: invoices.count,
+                    offers: offers.count,
+                };
+                let t = near.turn(c, rows);
                 pen = lines::put_answer(out, pen, ink, (k + 1) as u64, t.answer);
                 totals = t.near.totals;
                 settings = t.near.settings;

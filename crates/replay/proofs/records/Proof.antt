@@ -31,7 +31,7 @@ use Rattle.journal.specs.Answers.{reading, found}
 use Rattle.rules.specs.Model.{accountBy, invoiceBy, offerBy}
 use Rattle.rules.specs.Keys.{keysBy}
 use Rattle.book.specs.Stored.{modelOf, Shelved}
-use Rattle.book.specs.Turning.{bookBy, Turned, turned, fetched, full-by, next, accounts-left, invoices-left, offers-left, steps}
+use Rattle.book.specs.Turning.{bookBy, Turned, turned, fetched, counts-by, next, accounts-left, invoices-left, offers-left, steps}
 use Rattle.replay.specs.Standing.{fresh, stepped}
 use Rattle.replay.specs.Ahead.{ahead, inside}
 use Rattle.replay.specs.Going.{Going, going, going-on, gone-bad, gone}
@@ -88,31 +88,31 @@ below-b c = spot-below (shelved (c .before .before .before .before .before .befo
 seen-b : (c : tie.After-at3 Inv-loop2 μ-loop2 Inv-loop μ-loop) → c .at3 .result ≡ accountBy (modelOf (bookBy (c .before .before .before .before .before .before .before .before .before .before .before .before .before .before .before .before .before .before .before .before .before .before .before .before .before .before .before .before .before .before .before .loop .accounts) (c .before .before .before .before .before .before .before .before .before .before .before .before .before .before .before .before .before .before .before .before .before .before .before .before .before .before .before .before .before .before .before .loop .invoices) (c .before .before .before .before .before .before .before .before .before .before .before .before .before .before .before .before .before .before .before .before .before .before .before .before .before .before .before .before .before .before .before .loop .offers) (c .before .before .before .before .before .before .before .before .before .before .before .before .before .before .before .before .before .before .before .before .before .before .before .before .before .before .before .before .before .before .before .loop .totals) (c .before .before .before .before .before .before .before .before .before .before .before .before .before .before .before .before .before .before .before .before .before .before .before .before .before .before .before .before .before .before .before .loop .settings))) (c .before .before .before .before .before .before .before .before .before .before .before .before .key2 .result)
 seen-b c = c .at3 .ensures ∙ ap seenAccount (sym (spot-found (shelved (c .before .before .before .before .before .before .before .before .before .before .before .before .before .before .before .before .before .before .before .before .before .before .before .before .before .before) .accounts) (omega arith) (c .before .before .before .before .before .before .before .before .before .before .before .before .key2 .result) (c .before .before .spot-by4 .ensures)))
 
-step : (c : tie.After-turn Inv-loop2 μ-loop2 Inv-loop μ-loop) → Turned (bookBy (c .before .before .before .before .before .before .before .before .before .before .before .before .before .before .before .before .before .before .before .before .before .before .before .before .before .before .before .before .before .before .before .before .before .before .loop .accounts) (c .before .before .before .before .before .before .before .before .before .before .before .before .before .before .before .before .before .before .before .before .before .before .before .before .before .before .before .before .before .before .before .before .before .before .loop .invoices) (c .before .before .before .before .before .before .before .before .before .before .before .before .before .before .before .before .before .before .before .before .before .before .before .before .before .before .before .before .before .before .before .before .before .before .loop .offers) (c .before .before .before .before .before .before .before .before .before .before .before .before .before .before .before .before .before .before .before .before .before .before .before .before .before .before .before .before .before .before .before .before .before .before .loop .totals) (c .before .before .before .before .before .before .before .before .before .before .before .before .before .before .before .before .before .before .before .before .before .before .before .before .before .before .before .before .before .before .before .before .before .before .loop .settings)) (c .before .before .before .before .before .before .before .before .before .before .before .before .before .before .before .before .before .before .before .before .before .before .before .before .before .before .before .before .before .before .before .d .given .0 .0) (keysBy (c .before .before .before .before .before .before .before .before .before .before .before .before .before .before .before .before .before .before .before .before .before .before .before .before .before .before .before .before .before .names .result .first) (c .before .before .before .before .before .before .before .before .before .before .before .before .before .before .before .key2 .result) (c .before .before .before .before .before .before .before .before .before .before .before .before .before .before .before .before .before .before .before .before .before .before .key .result) (c .before .before .before .before .before .before .before .before .before .before .before .before .before .before .before .before .before .before .before .before .before .before .before .before .before .before .before .before .before .names .result .offer)) (c .turn .result)
-step c = turned (shelved (c .before .before .before .before .before .before .before .before .before .before .before .before .before .before .before .before .before .before .before .before .before .before .before .before .before .before .before .before .before)) (fetched (c .before .before .before .before .before .before .before .before .before .before .before .before .before .before .before .before .before .before .before .before .before .before .before .before .before .before .before .before .before .names .ensures) (seen-o (c .before .before .before .before .before .before .before .before .before .before .before .before .before .before .before .before .before .before .before .before .before .before .before)) (c .before .before .before .before .before .before .before .before .before .before .before .before .before .before .before .before .before .before .before .before .before .before .key .ensures) (seen-i (c .before .before .before .before .before .before .before .before .before .before .before .before .before .before .before .before)) (c .before .before .before .before .before .before .before .before .before .before .before .before .before .before .before .key2 .ensures) (seen-a (c .before .before .before .before .before .before .before .before .before)) (seen-b (c .before .before .before)) (c .before .before .same .ensures)) (c .before .of .ensures ∙ full-by (shelved (c .before .before .before .before .before .before .before .before .before .before .before .before .before .before .before .before .before .before .before .before .before .before .before .before .before .before .before .before .before))) (c .turn .ensures)
+step : (c : tie.After-turn Inv-loop2 μ-loop2 Inv-loop μ-loop) → Turned (bookBy (c .before .before .before .before .before .before .before .before .before .before .before .before .before .before .before .before .before .before .before .before .before .before .before .before .before .before .before .before .before .before .before .before .before .loop .accounts) (c .before .before .before .before .before .before .before .before .before .before .before .before .before .before .before .before .before .before .before .before .before .before .before .before .before .before .before .before .before .before .before .before .before .loop .invoices) (c .before .before .before .before .before .before .before .before .before .before .before .before .before .before .before .before .before .before .before .before .before .before .before .before .before .before .before .before .before .before .before .before .before .loop .offers) (c .before .before .before .before .before .before .before .before .before .before .before .before .before .before .before .before .before .before .before .before .before .before .before .before .before .before .before .before .before .before .before .before .before .loop .totals) (c .before .before .before .before .before .before .before .before .before .before .before .before .before .before .before .before .before .before .before .before .before .before .before .before .before .before .before .before .before .before .before .before .before .loop .settings)) (c .before .before .before .before .before .before .before .before .before .before .before .before .before .before .before .before .before .before .before .before .before .before .before .before .before .before .before .before .before .before .d .given .0 .0) (keysBy (c .before .before .before .before .before .before .before .before .before .before .before .before .before .before .before .before .before .before .before .before .before .before .before .before .before .before .before .before .names .result .first) (c .before .before .before .before .before .before .before .before .before .before .before .before .before .before .key2 .result) (c .before .before .before .before .before .before .before .before .before .before .before .before .before .before .before .before .before .before .before .before .before .key .result) (c .before .before .before .before .before .before .before .before .before .before .before .before .before .before .before .before .before .before .before .before .before .before .before .before .before .before .before .before .names .result .offer)) (c .turn .result)
+step c = turned (shelved (c .before .before .before .before .before .before .before .before .before .before .before .before .before .before .before .before .before .before .before .before .before .before .before .before .before .before .before .before)) (fetched (c .before .before .before .before .before .before .before .before .before .before .before .before .before .before .before .before .before .before .before .before .before .before .before .before .before .before .before .before .names .ensures) (seen-o (c .before .before .before .before .before .before .before .before .before .before .before .before .before .before .before .before .before .before .before .before .before .before)) (c .before .before .before .before .before .before .before .before .before .before .before .before .before .before .before .before .before .before .before .before .before .key .ensures) (seen-i (c .before .before .before .before .before .before .before .before .before .before .before .before .before .before .before)) (c .before .before .before .before .before .before .before .before .before .before .before .before .before .before .key2 .ensures) (seen-a (c .before .before .before .before .before .before .before .before)) (seen-b (c .before .before)) (c .before .same .ensures)) (counts-by (shelved (c .before .before .before .before .before .before .before .before .before .before .before .before .before .before .before .before .before .before .before .before .before .before .before .before .before .before .before .before))) (c .turn .ensures)
 
-left-a : (c : tie.After-turn Inv-loop2 μ-loop2 Inv-loop μ-loop) → Left 64 accountRow (accountsOf (c .before .before .before .before .before .before .before .before .before .before .before .before .before .before .before .before .before .before .before .before .before .before .before .before .before .before .before .before .before .before .before .before .before .before .loop .accounts)) (next (step c) .accounts) (c .before .before .before .before .before .before .before .before .before .before .before .before .before .before .before .before .before .before .before .before .before .before .before .before .before .before .before .before .before .names .result .first) (c .before .before .before .before .before .before .before .before .before .before .before .before .before .before .before .key2 .result) (c .before .before .before .before .before .before .before .before .before .before .before .spot-by3 .result .here) (c .turn .result .near .parties .first .here) (c .turn .result .near .parties .first .row) (c .turn .result .near .parties .second .row)
-left-a c = accounts-left (step c) (was-by _ _ (spot-found (shelved (c .before .before .before .before .before .before .before .before .before .before .before .before .before .before .before .before .before .before .before .before .before .before .before .before .before .before .before .before .before) .accounts) (omega arith) (c .before .before .before .before .before .before .before .before .before .before .before .before .before .before .before .before .before .before .before .before .before .before .before .before .before .before .before .before .before .names .result .first) (c .before .before .before .before .before .before .before .before .before .before .before .spot-by3 .ensures)))
+left-a : (c : tie.After-turn Inv-loop2 μ-loop2 Inv-loop μ-loop) → Left 64 accountRow (accountsOf (c .before .before .before .before .before .before .before .before .before .before .before .before .before .before .before .before .before .before .before .before .before .before .before .before .before .before .before .before .before .before .before .before .before .loop .accounts)) (next (step c) .accounts) (c .before .before .before .before .before .before .before .before .before .before .before .before .before .before .before .before .before .before .before .before .before .before .before .before .before .before .before .before .names .result .first) (c .before .before .before .before .before .before .before .before .before .before .before .before .before .before .key2 .result) (c .before .before .before .before .before .before .before .before .before .before .spot-by3 .result .here) (c .turn .result .near .parties .first .here) (c .turn .result .near .parties .first .row) (c .turn .result .near .parties .second .row)
+left-a c = accounts-left (step c) (was-by _ _ (spot-found (shelved (c .before .before .before .before .before .before .before .before .before .before .before .before .before .before .before .before .before .before .before .before .before .before .before .before .before .before .before .before) .accounts) (omega arith) (c .before .before .before .before .before .before .before .before .before .before .before .before .before .before .before .before .before .before .before .before .before .before .before .before .before .before .before .before .names .result .first) (c .before .before .before .before .before .before .before .before .before .before .spot-by3 .ensures)))
 
-left-i : (c : tie.After-turn Inv-loop2 μ-loop2 Inv-loop μ-loop) → Left 64 invoiceRow (invoicesOf (c .before .before .before .before .before .before .before .before .before .before .before .before .before .before .before .before .before .before .before .before .before .before .before .before .before .before .before .before .before .before .before .before .before .before .loop .invoices)) (next (step c) .invoices) (c .before .before .before .before .before .before .before .before .before .before .before .before .before .before .before .before .before .before .before .before .before .before .key .result) (c .before .before .before .before .before .before .before .before .before .before .before .before .before .before .before .before .before .before .before .before .before .before .key .result) (c .before .before .before .before .before .before .before .before .before .before .before .before .before .before .before .before .before .before .spot-by2 .result .here) (c .turn .result .near .paper .here) (c .turn .result .near .paper .row) (c .turn .result .near .paper .row)
-left-i c = invoices-left (step c) (was-by _ _ (spot-found (shelved (c .before .before .before .before .before .before .before .before .before .before .before .before .before .before .before .before .before .before .before .before .before .before .before .before .before .before .before .before .before) .invoices) (omega arith) (c .before .before .before .before .before .before .before .before .before .before .before .before .before .before .before .before .before .before .before .before .before .before .key .result) (c .before .before .before .before .before .before .before .before .before .before .before .before .before .before .before .before .before .before .spot-by2 .ensures)))
+left-i : (c : tie.After-turn Inv-loop2 μ-loop2 Inv-loop μ-loop) → Left 64 invoiceRow (invoicesOf (c .before .before .before .before .before .before .before .before .before .before .before .before .before .before .before .before .before .before .before .before .before .before .before .before .before .before .before .before .before .before .before .before .before .loop .invoices)) (next (step c) .invoices) (c .before .before .before .before .before .before .before .before .before .before .before .before .before .before .before .before .before .before .before .before .before .key .result) (c .before .before .before .before .before .before .before .before .before .before .before .before .before .before .before .before .before .before .before .before .before .key .result) (c .before .before .before .before .before .before .before .before .before .before .before .before .before .before .before .before .before .spot-by2 .result .here) (c .turn .result .near .paper .here) (c .turn .result .near .paper .row) (c .turn .result .near .paper .row)
+left-i c = invoices-left (step c) (was-by _ _ (spot-found (shelved (c .before .before .before .before .before .before .before .before .before .before .before .before .before .before .before .before .before .before .before .before .before .before .before .before .before .before .before .before) .invoices) (omega arith) (c .before .before .before .before .before .before .before .before .before .before .before .before .before .before .before .before .before .before .before .before .before .key .result) (c .before .before .before .before .before .before .before .before .before .before .before .before .before .before .before .before .before .spot-by2 .ensures)))
 
-left-o : (c : tie.After-turn Inv-loop2 μ-loop2 Inv-loop μ-loop) → Left 64 dealRow (dealsOf (c .before .before .before .before .before .before .before .before .before .before .before .before .before .before .before .before .before .before .before .before .before .before .before .before .before .before .before .before .before .before .before .before .before .before .loop .offers)) (next (step c) .offers) (c .before .before .before .before .before .before .before .before .before .before .before .before .before .before .before .before .before .before .before .before .before .before .before .before .before .before .before .before .before .names .result .offer) (c .before .before .before .before .before .before .before .before .before .before .before .before .before .before .before .before .before .before .before .before .before .before .before .before .before .before .before .before .before .names .result .offer) (c .before .before .before .before .before .before .before .before .before .before .before .before .before .before .before .before .before .before .before .before .before .before .before .before .before .spot-by .result .here) (c .turn .result .near .deal .here) (c .turn .result .near .deal .row) (c .turn .result .near .deal .row)
-left-o c = offers-left (step c) (was-by _ _ (deal-read (shelved (c .before .before .before .before .before .before .before .before .before .before .before .before .before .before .before .before .before .before .before .before .before .before .before .before .before .before .before .before .before) .offers) (noDeal .offer) (noDeal .negotiation) (noDeal .schedule) (c .before .before .before .before .before .before .before .before .before .before .before .before .before .before .before .before .before .before .before .before .before .before .before .before .before .before .before .before .before .names .result .offer) (c .before .before .before .before .before .before .before .before .before .before .before .before .before .before .before .before .before .before .before .before .before .before .before .before .before .spot-by .ensures)))
+left-o : (c : tie.After-turn Inv-loop2 μ-loop2 Inv-loop μ-loop) → Left 64 dealRow (dealsOf (c .before .before .before .before .before .before .before .before .before .before .before .before .before .before .before .before .before .before .before .before .before .before .before .before .before .before .before .before .before .before .before .before .before .loop .offers)) (next (step c) .offers) (c .before .before .before .before .before .before .before .before .before .before .before .before .before .before .before .before .before .before .before .before .before .before .before .before .before .before .before .before .names .result .offer) (c .before .before .before .before .before .before .before .before .before .before .before .before .before .before .before .before .before .before .before .before .before .before .before .before .before .before .before .before .names .result .offer) (c .before .before .before .before .before .before .before .before .before .before .before .before .before .before .before .before .before .before .before .before .before .before .before .before .spot-by .result .here) (c .turn .result .near .deal .here) (c .turn .result .near .deal .row) (c .turn .result .near .deal .row)
+left-o c = offers-left (step c) (was-by _ _ (deal-read (shelved (c .before .before .before .before .before .before .before .before .before .before .before .before .before .before .before .before .before .before .before .before .before .before .before .before .before .before .before .before) .offers) (noDeal .offer) (noDeal .negotiation) (noDeal .schedule) (c .before .before .before .before .before .before .before .before .before .before .before .before .before .before .before .before .before .before .before .before .before .before .before .before .before .before .before .before .names .result .offer) (c .before .before .before .before .before .before .before .before .before .before .before .before .before .before .before .before .before .before .before .before .before .before .before .before .spot-by .ensures)))
 
-wrote-a : (c : tie.After-over2 Inv-loop2 μ-loop2 Inv-loop μ-loop) → asAccounts (c .before .before .before .before .before .before .before .before .before .before .before .before .before .before .before .before .before .before .before .before .before .before .before .before .before .before .before .before .before .before .before .before .before .before .before .before .before .before .before .before .before .before .before .before .before .loop .accounts .ids) (set (set (c .before .before .before .before .before .before .before .before .before .before .before .before .before .before .before .before .before .before .before .before .before .before .before .before .before .before .before .before .before .before .before .before .before .before .before .before .before .before .before .before .before .before .before .before .before .loop .accounts .rows) (c .before .before .before .before .before .before .before .before .before .before .before .before .before .before .before .before .spot-by4 .result .at) (c .before .before .before .over .result)) (c .before .before .before .before .before .before .before .before .before .before .before .before .before .before .before .before .before .before .before .before .before .before .spot-by3 .result .at) (c .over2 .result)) (c .before .before .before .before .before .before .before .before .before .before .before .before .before .before .before .before .before .before .before .before .before .before .before .before .before .before .before .before .before .before .before .before .before .before .before .before .before .before .before .before .before .before .before .before .before .loop .accounts .count) ≡ storedAccounts (putBy (putBy (accountsOf (c .before .before .before .before .before .before .before .before .before .before .before .before .before .before .before .before .before .before .before .before .before .before .before .before .before .before .before .before .before .before .before .before .before .before .before .before .before .before .before .before .before .before .before .before .before .loop .accounts)) (c .before .before .before .before .before .before .before .before .before .before .before .before .before .before .before .before .before .before .before .before .before .before .before .before .before .before .key2 .result) (c .before .before .before .before .before .before .before .before .before .before .before .turn .result .near .parties .second .row)) (c .before .before .before .before .before .before .before .before .before .before .before .before .before .before .before .before .before .before .before .before .before .before .before .before .before .before .before .before .before .before .before .before .before .before .before .before .before .before .before .before .names .result .first) (c .before .before .before .before .before .before .before .before .before .before .before .turn .result .near .parties .first .row))
-wrote-a c = accounts-wrote (shelved (c .before .before .before .before .before .before .before .before .before .before .before .before .before .before .before .before .before .before .before .before .before .before .before .before .before .before .before .before .before .before .before .before .before .before .before .before .before .before .before .before) .accounts) (c .before .before .before .before .before .before .before .before .before .before .before .before .before .before .before .before .before .before .before .before .before .before .before .before .before .before .before .before .before .before .before .before .before .before .before .before .before .before .before .before .names .result .first) (c .before .before .before .before .before .before .before .before .before .before .before .before .before .before .before .before .before .before .before .before .before .before .before .before .before .before .key2 .result) (c .before .before .before .before .before .before .before .before .before .before .before .before .before .before .before .before .before .before .before .before .before .before .spot-by3 .ensures) (c .before .before .before .before .before .before .before .before .before .before .before .before .before .before .before .before .spot-by4 .ensures) (c .before .before .before .before .before .before .before .before .before .before .before .turn .result .near .parties .first .row) (c .before .before .before .before .before .before .before .before .before .before .before .turn .result .near .parties .second .row) (c .before .before .before .over .ensures) (c .over2 .ensures)
+wrote-a : (c : tie.After-over2 Inv-loop2 μ-loop2 Inv-loop μ-loop) → asAccounts (c .before .before .before .before .before .before .before .before .before .before .before .before .before .before .before .before .before .before .before .before .before .before .before .before .before .before .before .before .before .before .before .before .before .before .before .before .before .before .before .before .before .before .before .before .loop .accounts .ids) (set (set (c .before .before .before .before .before .before .before .before .before .before .before .before .before .before .before .before .before .before .before .before .before .before .before .before .before .before .before .before .before .before .before .before .before .before .before .before .before .before .before .before .before .before .before .before .loop .accounts .rows) (c .before .before .before .before .before .before .before .before .before .before .before .before .before .before .before .spot-by4 .result .at) (c .before .before .before .over .result)) (c .before .before .before .before .before .before .before .before .before .before .before .before .before .before .before .before .before .before .before .before .before .spot-by3 .result .at) (c .over2 .result)) (c .before .before .before .before .before .before .before .before .before .before .before .before .before .before .before .before .before .before .before .before .before .before .before .before .before .before .before .before .before .before .before .before .before .before .before .before .before .before .before .before .before .before .before .before .loop .accounts .count) ≡ storedAccounts (putBy (putBy (accountsOf (c .before .before .before .before .before .before .before .before .before .before .before .before .before .before .before .before .before .before .before .before .before .before .before .before .before .before .before .before .before .before .before .before .before .before .before .before .before .before .before .before .before .before .before .before .loop .accounts)) (c .before .before .before .before .before .before .before .before .before .before .before .before .before .before .before .before .before .before .before .before .before .before .before .before .before .key2 .result) (c .before .before .before .before .before .before .before .before .before .before .before .turn .result .near .parties .second .row)) (c .before .before .before .before .before .before .before .before .before .before .before .before .before .before .before .before .before .before .before .before .before .before .before .before .before .before .before .before .before .before .before .before .before .before .before .before .before .before .before .names .result .first) (c .before .before .before .before .before .before .before .before .before .before .before .turn .result .near .parties .first .row))
+wrote-a c = accounts-wrote (shelved (c .before .before .before .before .before .before .before .before .before .before .before .before .before .before .before .before .before .before .before .before .before .before .before .before .before .before .before .before .before .before .before .before .before .before .before .before .before .before .before) .accounts) (c .before .before .before .before .before .before .before .before .before .before .before .before .before .before .before .before .before .before .before .before .before .before .before .before .before .before .before .before .before .before .before .before .before .before .before .before .before .before .before .names .result .first) (c .before .before .before .before .before .before .before .before .before .before .before .before .before .before .before .before .before .before .before .before .before .before .before .before .before .key2 .result) (c .before .before .before .before .before .before .before .before .before .before .before .before .before .before .before .before .before .before .before .before .before .spot-by3 .ensures) (c .before .before .before .before .before .before .before .before .before .before .before .before .before .before .before .spot-by4 .ensures) (c .before .before .before .before .before .before .before .before .before .before .before .turn .result .near .parties .first .row) (c .before .before .before .before .before .before .before .before .before .before .before .turn .result .near .parties .second .row) (c .before .before .before .over .ensures) (c .over2 .ensures)
 
-wrote-i : (c : tie.After-over3 Inv-loop2 μ-loop2 Inv-loop μ-loop) → asInvoices (c .before .before .before .before .before .before .before .before .before .before .before .before .before .before .before .before .before .before .before .before .before .before .before .before .before .before .before .before .before .before .before .before .before .before .before .before .before .before .before .before .before .before .before .before .before .before .before .loop .invoices .ids) (set (c .before .before .before .before .before .before .before .before .before .before .before .before .before .before .before .before .before .before .before .before .before .before .before .before .before .before .before .before .before .before .before .before .before .before .before .before .before .before .before .before .before .before .before .before .before .before .before .loop .invoices .rows) (c .before .before .before .before .before .before .before .before .before .before .before .before .before .before .before .before .before .before .before .before .before .before .before .before .before .before .before .before .before .before .before .spot-by2 .result .at) (c .over3 .result)) (c .before .before .before .before .before .before .before .before .before .before .before .before .before .before .before .before .before .before .before .before .before .before .before .before .before .before .before .before .before .before .before .before .before .before .before .before .before .before .before .before .before .before .before .before .before .before .before .loop .invoices .count) ≡ storedInvoices (putBy (putBy (invoicesOf (c .before .before .before .before .before .before .before .before .before .before .before .before .before .before .before .before .before .before .before .before .before .before .before .before .before .before .before .before .before .before .before .before .before .before .before .before .before .before .before .before .before .before .before .before .before .before .before .loop .invoices)) (c .before .before .before .before .before .before .before .before .before .before .before .before .before .before .before .before .before .before .before .before .before .before .before .before .before .before .before .before .before .before .before .before .before .before .before .key .result) (c .before .before .before .before .before .before .before .before .before .before .before .before .before .turn .result .near .paper .row)) (c .before .before .before .before .before .before .before .before .before .before .before .before .before .before .before .before .before .before .before .before .before .before .before .before .before .before .before .before .before .before .before .before .before .before .before .key .result) (c .before .before .before .before .before .before .before .before .before .before .before .before .before .turn .result .near .paper .row))
-wrote-i c = once storedInvoices (invoicesOf (c .before .before .before .before .before .before .before .before .before .before .before .before .before .before .before .before .before .before .before .before .before .before .before .before .before .before .before .before .before .before .before .before .before .before .before .before .before .before .before .before .before .before .before .before .before .before .before .loop .invoices)) (c .before .before .before .before .before .before .before .before .before .before .before .before .before .before .before .before .before .before .before .before .before .before .before .before .before .before .before .before .before .before .before .before .before .before .before .key .result) (c .before .before .before .before .before .before .before .before .before .before .before .before .before .turn .result .near .paper .row) (invoice-wrote (shelved (c .before .before .before .before .before .before .before .before .before .before .before .before .before .before .before .before .before .before .before .before .before .before .before .before .before .before .before .before .before .before .before .before .before .before .before .before .before .before .before .before .before .before) .invoices) (c .before .before .before .before .before .before .before .before .before .before .before .before .before .before .before .before .before .before .before .before .before .before .before .before .before .before .before .before .before .before .before .before .before .before .before .key .result) (c .before .before .before .before .before .before .before .before .before .before .before .before .before .before .before .before .before .before .before .before .before .before .before .before .before .before .before .before .before .before .before .spot-by2 .ensures) (c .before .before .before .before .before .before .before .before .before .before .before .before .before .turn .result .near .paper .row) (c .over3 .ensures))
+wrote-i : (c : tie.After-over3 Inv-loop2 μ-loop2 Inv-loop μ-loop) → asInvoices (c .before .before .before .before .before .before .before .before .before .before .before .before .before .before .before .before .before .before .before .before .before .before .before .before .before .before .before .before .before .before .before .before .before .before .before .before .before .before .before .before .before .before .before .before .before .before .loop .invoices .ids) (set (c .before .before .before .before .before .before .before .before .before .before .before .before .before .before .before .before .before .before .before .before .before .before .before .before .before .before .before .before .before .before .before .before .before .before .before .before .before .before .before .before .before .before .before .before .before .before .loop .invoices .rows) (c .before .before .before .before .before .before .before .before .before .before .before .before .before .before .before .before .before .before .before .before .before .before .before .before .before .before .before .before .before .before .spot-by2 .result .at) (c .over3 .result)) (c .before .before .before .before .before .before .before .before .before .before .before .before .before .before .before .before .before .before .before .before .before .before .before .before .before .before .before .before .before .before .before .before .before .before .before .before .before .before .before .before .before .before .before .before .before .before .loop .invoices .count) ≡ storedInvoices (putBy (putBy (invoicesOf (c .before .before .before .before .before .before .before .before .before .before .before .before .before .before .before .before .before .before .before .before .before .before .before .before .before .before .before .before .before .before .before .before .before .before .before .before .before .before .before .before .before .before .before .before .before .before .loop .invoices)) (c .before .before .before .before .before .before .before .before .before .before .before .before .before .before .before .before .before .before .before .before .before .before .before .before .before .before .before .before .before .before .before .before .before .before .key .result) (c .before .before .before .before .before .before .before .before .before .before .before .before .before .turn .result .near .paper .row)) (c .before .before .before .before .before .before .before .before .before .before .before .before .before .before .before .before .before .before .before .before .before .before .before .before .before .before .before .before .before .before .before .before .before .before .key .result) (c .before .before .before .before .before .before .before .before .before .before .before .before .before .turn .result .near .paper .row))
+wrote-i c = once storedInvoices (invoicesOf (c .before .before .before .before .before .before .before .before .before .before .before .before .before .before .before .before .before .before .before .before .before .before .before .before .before .before .before .before .before .before .before .before .before .before .before .before .before .before .before .before .before .before .before .before .before .before .loop .invoices)) (c .before .before .before .before .before .before .before .before .before .before .before .before .before .before .before .before .before .before .before .before .before .before .before .before .before .before .before .before .before .before .before .before .before .before .key .result) (c .before .before .before .before .before .before .before .before .before .before .before .before .before .turn .result .near .paper .row) (invoice-wrote (shelved (c .before .before .before .before .before .before .before .before .before .before .before .before .before .before .before .before .before .before .before .before .before .before .before .before .before .before .before .before .before .before .before .before .before .before .before .before .before .before .before .before .before) .invoices) (c .before .before .before .before .before .before .before .before .before .before .before .before .before .before .before .before .before .before .before .before .before .before .before .before .before .before .before .before .before .before .before .before .before .before .key .result) (c .before .before .before .before .before .before .before .before .before .before .before .before .before .before .before .before .before .before .before .before .before .before .before .before .before .before .before .before .before .before .spot-by2 .ensures) (c .before .before .before .before .before .before .before .before .before .before .before .before .before .turn .result .near .paper .row) (c .over3 .ensures))
 
-wrote-o : (c : tie.Joined2 Inv-loop2 μ-loop2 Inv-loop μ-loop) → c .if2 .offers ≡ storedDeals (putBy (putBy (dealsOf (c .before .before .before .before .before .before .before .before .before .before .before .before .before .before .before .before .before .before .before .before .before .before .before .before .before .before .before .before .before .before .before .before .before .before .before .before .before .before .before .before .before .before .before .before .before .before .before .before .loop .offers)) (c .before .before .before .before .before .before .before .before .before .before .before .before .before .before .before .before .before .before .before .before .before .before .before .before .before .before .before .before .before .before .before .before .before .before .before .before .before .before .before .before .before .before .before .names .result .offer) (c .before .before .before .before .before .before .before .before .before .before .before .before .before .before .turn .result .near .deal .row)) (c .before .before .before .before .before .before .before .before .before .before .before .before .before .before .before .before .before .before .before .before .before .before .before .before .before .before .before .before .before .before .before .before .before .before .before .before .before .before .before .before .before .before .before .names .result .offer) (c .before .before .before .before .before .before .before .before .before .before .before .before .before .before .turn .result .near .deal .row))
-wrote-o c = once storedDeals (dealsOf (c .before .before .before .before .before .before .before .before .before .before .before .before .before .before .before .before .before .before .before .before .before .before .before .before .before .before .before .before .before .before .before .before .before .before .before .before .before .before .before .before .before .before .before .before .before .before .before .before .loop .offers)) (c .before .before .before .before .before .before .before .before .before .before .before .before .before .before .before .before .before .before .before .before .before .before .before .before .before .before .before .before .before .before .before .before .before .before .before .before .before .before .before .before .before .before .before .names .result .offer) (c .before .before .before .before .before .before .before .before .before .before .before .before .before .before .turn .result .near .deal .row) (⊎-elim (λ t. t .4 ∙ deal-there (shelved (c .before .before .before .before .before .before .before .before .before .before .before .before .before .before .before .before .before .before .before .before .before .before .before .before .before .before .before .before .before .before .before .before .before .before .before .before .before .before .before .before .before .before .before) .offers) (noDeal .offer) (noDeal .negotiation) (noDeal .schedule) (c .before .before .before .before .before .before .before .before .before .before .before .before .before .before .before .before .before .before .before .before .before .before .before .before .before .before .before .before .before .before .before .before .before .before .before .before .before .before .before .before .before .before .before .names .result .offer) (c .before .before .before .before .before .before .before .before .before .before .before .before .before .before .before .before .before .before .before .before .before .before .before .before .before .before .before .before .before .before .before .before .before .before .before .before .before .before .before .spot-by .ensures) (c .before .before .before .before .before .before .before .before .before .before .before .before .before .before .turn .result .near .deal .row) (t .0 .taken)) (λ l. l .1 ∙ deal-gone (shelved (c .before .before .before .before .before .before .before .before .before .before .before .before .before .before .before .before .before .before .before .before .before .before .before .before .before .before .before .before .before .before .before .before .before .before .before .before .before .before .before .before .before .before .before) .offers) (noDeal .offer) (noDeal .negotiation) (noDeal .schedule) (c .before .before .before .before .before .before .before .before .before .before .before .before .before .before .before .before .before .before .before .before .before .before .before .before .before .before .before .before .before .before .before .before .before .before .before .before .before .before .before .before .before .before .before .names .result .offer) (c .before .before .before .before .before .before .before .before .before .before .before .before .before .before .before .before .before .before .before .before .before .before .before .before .before .before .before .before .before .before .before .before .before .before .before .before .before .before .before .spot-by .ensures) (c .before .before .before .before .before .before .before .before .before .before .before .before .before .before .turn .result .near .deal .row) (l .0 .left)) (c .if2 .came))
+wrote-o : (c : tie.Joined2 Inv-loop2 μ-loop2 Inv-loop μ-loop) → c .if2 .offers ≡ storedDeals (putBy (putBy (dealsOf (c .before .before .before .before .before .before .before .before .before .before .before .before .before .before .before .before .before .before .before .before .before .before .before .before .before .before .before .before .before .before .before .before .before .before .before .before .before .before .before .before .before .before .before .before .before .before .before .loop .offers)) (c .before .before .before .before .before .before .before .before .before .before .before .before .before .before .before .before .before .before .before .before .before .before .before .before .before .before .before .before .before .before .before .before .before .before .before .before .before .before .before .before .before .before .names .result .offer) (c .before .before .before .before .before .before .before .before .before .before .before .before .before .before .turn .result .near .deal .row)) (c .before .before .before .before .before .before .before .before .before .before .before .before .before .before .before .before .before .before .before .before .before .before .before .before .before .before .before .before .before .before .before .before .before .before .before .before .before .before .before .before .before .before .names .result .offer) (c .before .before .before .before .before .before .before .before .before .before .before .before .before .before .turn .result .near .deal .row))
+wrote-o c = once storedDeals (dealsOf (c .before .before .before .before .before .before .before .before .before .before .before .before .before .before .before .before .before .before .before .before .before .before .before .before .before .before .before .before .before .before .before .before .before .before .before .before .before .before .before .before .before .before .before .before .before .before .before .loop .offers)) (c .before .before .before .before .before .before .before .before .before .before .before .before .before .before .before .before .before .before .before .before .before .before .before .before .before .before .before .before .before .before .before .before .before .before .before .before .before .before .before .before .before .before .names .result .offer) (c .before .before .before .before .before .before .before .before .before .before .before .before .before .before .turn .result .near .deal .row) (⊎-elim (λ t. t .4 ∙ deal-there (shelved (c .before .before .before .before .before .before .before .before .before .before .before .before .before .before .before .before .before .before .before .before .before .before .before .before .before .before .before .before .before .before .before .before .before .before .before .before .before .before .before .before .before .before) .offers) (noDeal .offer) (noDeal .negotiation) (noDeal .schedule) (c .before .before .before .before .before .before .before .before .before .before .before .before .before .before .before .before .before .before .before .before .before .before .before .before .before .before .before .before .before .before .before .before .before .before .before .before .before .before .before .before .before .before .names .result .offer) (c .before .before .before .before .before .before .before .before .before .before .before .before .before .before .before .before .before .before .before .before .before .before .before .before .before .before .before .before .before .before .before .before .before .before .before .before .before .before .spot-by .ensures) (c .before .before .before .before .before .before .before .before .before .before .before .before .before .before .turn .result .near .deal .row) (t .0 .taken)) (λ l. l .1 ∙ deal-gone (shelved (c .before .before .before .before .before .before .before .before .before .before .before .before .before .before .before .before .before .before .before .before .before .before .before .before .before .before .before .before .before .before .before .before .before .before .before .before .before .before .before .before .before .before) .offers) (noDeal .offer) (noDeal .negotiation) (noDeal .schedule) (c .before .before .before .before .before .before .before .before .before .before .before .before .before .before .before .before .before .before .before .before .before .before .before .before .before .before .before .before .before .before .before .before .before .before .before .before .before .before .before .before .before .before .names .result .offer) (c .before .before .before .before .before .before .before .before .before .before .before .before .before .before .before .before .before .before .before .before .before .before .before .before .before .before .before .before .before .before .before .before .before .before .before .before .before .before .spot-by .ensures) (c .before .before .before .before .before .before .before .before .before .before .before .before .before .before .turn .result .near .deal .row) (l .0 .left)) (c .if2 .came))
 
-ids-o : (c : tie.Joined2 Inv-loop2 μ-loop2 Inv-loop μ-loop) → c .if2 .offers .ids ≡ c .before .before .before .before .before .before .before .before .before .before .before .before .before .before .before .before .before .before .before .before .before .before .before .before .before .before .before .before .before .before .before .before .before .before .before .before .before .before .before .before .before .before .before .before .before .before .before .before .loop .offers .ids
+ids-o : (c : tie.Joined2 Inv-loop2 μ-loop2 Inv-loop μ-loop) → c .if2 .offers .ids ≡ c .before .before .before .before .before .before .before .before .before .before .before .before .before .before .before .before .before .before .before .before .before .before .before .before .before .before .before .before .before .before .before .before .before .before .before .before .before .before .before .before .before .before .before .before .before .before .before .loop .offers .ids
 ids-o c = ⊎-elim (λ t. ap (λ z. z .ids) (t .4)) (λ l. ap (λ z. z .ids) (l .1)) (c .if2 .came)
 
-count-o : (c : tie.Joined2 Inv-loop2 μ-loop2 Inv-loop μ-loop) → c .if2 .offers .count ≡ c .before .before .before .before .before .before .before .before .before .before .before .before .before .before .before .before .before .before .before .before .before .before .before .before .before .before .before .before .before .before .before .before .before .before .before .before .before .before .before .before .before .before .before .before .before .before .before .before .loop .offers .count
+count-o : (c : tie.Joined2 Inv-loop2 μ-loop2 Inv-loop μ-loop) → c .if2 .offers .count ≡ c .before .before .before .before .before .before .before .before .before .before .before .before .before .before .before .before .before .before .before .before .before .before .before .before .before .before .before .before .before .before .before .before .before .before .before .before .before .before .before .before .before .before .before .before .before .before .before .loop .offers .count
 count-o c = ⊎-elim (λ t. ap (λ z. z .count) (t .4)) (λ l. ap (λ z. z .count) (l .1)) (c .if2 .came)
 
 stored-a : (c : tie.Joined3 Inv-loop2 μ-loop2 Inv-loop μ-loop) → c .if3 .accounts ≡ storedAccounts (next (step (c .before .before .before .before .before .before .before .before .before .before .before .before .before .before .before .before .before)) .accounts)
@@ -124,8 +124,8 @@ stored-i c = ⊎-elim (λ x. grows invoices-keeping invoiceRow (λ r. refl) (lef
 few-o : (c : tie.Then5 Inv-loop2 μ-loop2 Inv-loop μ-loop) → c .before .before .before .before .before .before .before .before .before .if2 .offers .count < 64
 few-o c = room-count (good deals-keeping dealRow (λ r. refl) (left-o (c .before .before .before .before .before .before .before .before .before .before .before .before .before .before .before .before .before .before .before .before .before .before .before)) (wrote-o (c .before .before .before .before .before .before .before .before .before))) (room deals-keeping dealRow (λ r. refl) (left-o (c .before .before .before .before .before .before .before .before .before .before .before .before .before .before .before .before .before .before .before .before .before .before .before)) (wrote-o (c .before .before .before .before .before .before .before .before .before)) (c .if5 .taken))
 
-slot-o : (c : tie.Then5 Inv-loop2 μ-loop2 Inv-loop μ-loop) → findIn (take (c .before .before .before .before .before .before .before .before .before .if2 .offers .count) (c .before .before .before .before .before .before .before .before .before .if2 .offers .ids)) (idOf (c .before .before .before .before .before .before .before .before .before .before .before .before .before .before .before .before .before .before .before .before .before .before .before .before .before .before .before .before .before .before .before .before .before .before .before .before .before .before .before .before .before .before .before .before .before .before .before .before .before .before .before .before .names .result .offer)) ≡ Absent (c .before .before .before .before .before .before .before .before .before .before .before .before .before .before .before .before .before .before .before .before .before .before .before .before .before .before .before .before .before .before .before .before .before .before .before .before .before .before .before .before .before .before .before .before .before .before .before .before .spot-by .result .slot)
-slot-o c = ap (λ n. findIn (take n (c .before .before .before .before .before .before .before .before .before .if2 .offers .ids)) (idOf (c .before .before .before .before .before .before .before .before .before .before .before .before .before .before .before .before .before .before .before .before .before .before .before .before .before .before .before .before .before .before .before .before .before .before .before .before .before .before .before .before .before .before .before .before .before .before .before .before .before .before .before .before .names .result .offer))) (count-o (c .before .before .before .before .before .before .before .before .before)) ∙ ap (λ l. findIn (take (c .before .before .before .before .before .before .before .before .before .before .before .before .before .before .before .before .before .before .before .before .before .before .before .before .before .before .before .before .before .before .before .before .before .before .before .before .before .before .before .before .before .before .before .before .before .before .before .before .before .before .before .before .before .before .before .before .before .loop .offers .count) l) (idOf (c .before .before .before .before .before .before .before .before .before .before .before .before .before .before .before .before .before .before .before .before .before .before .before .before .before .before .before .before .before .before .before .before .before .before .before .before .before .before .before .before .before .before .before .before .before .before .before .before .before .before .before .before .names .result .offer))) (ids-o (c .before .before .before .before .before .before .before .before .before)) ∙ spot-slot _ (c .before .before .before .before .before .before .before .before .before .before .before .before .before .before .before .before .before .before .before .before .before .before .before .before .before .before .before .before .before .before .before .before .before .before .before .before .before .before .before .before .before .before .before .before .before .before .before .before .before .before .before .before .names .result .offer) (c .before .before .before .before .before .before .before .before .before .before .before .before .before .before .before .before .before .before .before .before .before .before .before .before .before .before .before .before .before .before .before .before .before .before .before .before .before .before .before .before .before .before .before .before .before .before .before .before .spot-by .ensures) (named deals-keeping dealRow (λ r. refl) (left-o (c .before .before .before .before .before .before .before .before .before .before .before .before .before .before .before .before .before .before .before .before .before .before .before)) (wrote-o (c .before .before .before .before .before .before .before .before .before)) (c .if5 .taken)) (came-new _ _ (c .if5 .taken))
+slot-o : (c : tie.Then5 Inv-loop2 μ-loop2 Inv-loop μ-loop) → findIn (take (c .before .before .before .before .before .before .before .before .before .if2 .offers .count) (c .before .before .before .before .before .before .before .before .before .if2 .offers .ids)) (idOf (c .before .before .before .before .before .before .before .before .before .before .before .before .before .before .before .before .before .before .before .before .before .before .before .before .before .before .before .before .before .before .before .before .before .before .before .before .before .before .before .before .before .before .before .before .before .before .before .before .before .before .before .names .result .offer)) ≡ Absent (c .before .before .before .before .before .before .before .before .before .before .before .before .before .before .before .before .before .before .before .before .before .before .before .before .before .before .before .before .before .before .before .before .before .before .before .before .before .before .before .before .before .before .before .before .before .before .before .spot-by .result .slot)
+slot-o c = ap (λ n. findIn (take n (c .before .before .before .before .before .before .before .before .before .if2 .offers .ids)) (idOf (c .before .before .before .before .before .before .before .before .before .before .before .before .before .before .before .before .before .before .before .before .before .before .before .before .before .before .before .before .before .before .before .before .before .before .before .before .before .before .before .before .before .before .before .before .before .before .before .before .before .before .before .names .result .offer))) (count-o (c .before .before .before .before .before .before .before .before .before)) ∙ ap (λ l. findIn (take (c .before .before .before .before .before .before .before .before .before .before .before .before .before .before .before .before .before .before .before .before .before .before .before .before .before .before .before .before .before .before .before .before .before .before .before .before .before .before .before .before .before .before .before .before .before .before .before .before .before .before .before .before .before .before .before .before .loop .offers .count) l) (idOf (c .before .before .before .before .before .before .before .before .before .before .before .before .before .before .before .before .before .before .before .before .before .before .before .before .before .before .before .before .before .before .before .before .before .before .before .before .before .before .before .before .before .before .before .before .before .before .before .before .before .before .before .names .result .offer))) (ids-o (c .before .before .before .before .before .before .before .before .before)) ∙ spot-slot _ (c .before .before .before .before .before .before .before .before .before .before .before .before .before .before .before .before .before .before .before .before .before .before .before .before .before .before .before .before .before .before .before .before .before .before .before .before .before .before .before .before .before .before .before .before .before .before .before .before .before .before .before .names .result .offer) (c .before .before .before .before .before .before .before .before .before .before .before .before .before .before .before .before .before .before .before .before .before .before .before .before .before .before .before .before .before .before .before .before .before .before .before .before .before .before .before .before .before .before .before .before .before .before .before .spot-by .ensures) (named deals-keeping dealRow (λ r. refl) (left-o (c .before .before .before .before .before .before .before .before .before .before .before .before .before .before .before .before .before .before .before .before .before .before .before)) (wrote-o (c .before .before .before .before .before .before .before .before .before)) (c .if5 .taken)) (came-new _ _ (c .if5 .taken))
 
 stored-o : (c : tie.Joined5 Inv-loop2 μ-loop2 Inv-loop μ-loop) → c .if5 .offers ≡ storedDeals (next (step (c .before .before .before .before .before .before .before .before .before .before .before .before .before .before .before .before .before .before .before .before .before .before .before)) .offers)
 stored-o c = ⊎-elim (λ x. grows deals-keeping dealRow (λ r. refl) (left-o (c .before .before .before .before .before .before .before .before .before .before .before .before .before .before .before .before .before .before .before .before .before .before .before)) (wrote-o (c .before .before .before .before .before .before .before .before .before)) (x .0 .taken) (x .7 ∙ deal-let-in (x .1 .inv) (good deals-keeping dealRow (λ r. refl) (left-o (c .before .before .before .before .before .before .before .before .before .before .before .before .before .before .before .before .before .before .before .before .before .before .before)) (wrote-o (c .before .before .before .before .before .before .before .before .before))) (x .6 .result) (c .before .before .before .before .before .before .before .before .before .before .before .before .before .before .before .before .before .before .before .before .before .before .before .turn .result .near .deal .row) (few-o (record { before = (c .before); if5 = x .0 })) (rw (x .6 .ensures) (slot-o (record { before = (c .before); if5 = x .0 }))) (omega (arith, x .2 .left)) ∙ ap (λ z. storedDeals (insert (dealsOf (c .before .before .before .before .before .before .before .before .before .if2 .offers)) z (c .before .before .before .before .before .before .before .before .before .before .before .before .before .before .before .before .before .before .before .before .before .before .before .turn .result .near .deal .row))) (x .6 .ensures))) (λ x. x .1 ∙ stays deals-keeping dealRow (λ r. refl) (left-o (c .before .before .before .before .before .before .before .before .before .before .before .before .before .before .before .before .before .before .before .before .before .before .before)) (wrote-o (c .before .before .before .before .before .before .before .before .before)) (x .0 .left)) (c .if5 .came)
@@ -214,14 +214,11 @@ at-requires-3 c κs = search needs
 same-requires : tie.Need-same-requires Inv-loop2 μ-loop2 Inv-loop μ-loop
 same-requires c κs = search needs
 
-of-requires : tie.Need-of-requires Inv-loop2 μ-loop2 Inv-loop μ-loop
-of-requires c κs = search needs
-
 turn-requires : tie.Need-turn-requires Inv-loop2 μ-loop2 Inv-loop μ-loop
 turn-requires c κs = search needs
 
 add-put-answer : tie.Need-add-put-answer Inv-loop2 μ-loop2 Inv-loop μ-loop
-add-put-answer c = more (c .before .before .before .before .before .before .before .before .before .before .before .before .before .before .before .before .before .before .before .before .before .before .before .before .before .before .before .before .before .before)
+add-put-answer c = more (c .before .before .before .before .before .before .before .before .before .before .before .before .before .before .before .before .before .before .before .before .before .before .before .before .before .before .before .before .before)
 
 put-answer-requires : tie.Need-put-answer-requires Inv-loop2 μ-loop2 Inv-loop μ-loop
 put-answer-requires c κs = search needs
@@ -230,52 +227,52 @@ over-requires : tie.Need-over-requires Inv-loop2 μ-loop2 Inv-loop μ-loop
 over-requires c κs = search needs
 
 mul-mb : tie.Need-mul-mb Inv-loop2 μ-loop2 Inv-loop μ-loop
-mul-mb c = omega (arith, below-b (c .before .before .before .before .before .before .before .before .before .before .before .before .before))
+mul-mb c = omega (arith, below-b (c .before .before .before .before .before .before .before .before .before .before .before .before))
 
 element-set-from-mb : tie.Need-element-set-from-mb Inv-loop2 μ-loop2 Inv-loop μ-loop
-element-set-from-mb c = omega (arith, below-b (c .before .before .before .before .before .before .before .before .before .before .before .before .before))
+element-set-from-mb c = omega (arith, below-b (c .before .before .before .before .before .before .before .before .before .before .before .before))
 
 mul-old : tie.Need-mul-old Inv-loop2 μ-loop2 Inv-loop μ-loop
-mul-old c = omega (arith, below-a (c .before .before .before .before .before .before .before .before .before .before .before .before .before .before .before .before .before .before .before))
+mul-old c = omega (arith, below-a (c .before .before .before .before .before .before .before .before .before .before .before .before .before .before .before .before .before .before))
 
 element-copy-out-old : tie.Need-element-copy-out-old Inv-loop2 μ-loop2 Inv-loop μ-loop
-element-copy-out-old c = omega (arith, below-a (c .before .before .before .before .before .before .before .before .before .before .before .before .before .before .before .before .before .before .before))
+element-copy-out-old c = omega (arith, below-a (c .before .before .before .before .before .before .before .before .before .before .before .before .before .before .before .before .before .before))
 
 over-requires-2 : tie.Need-over-requires-2 Inv-loop2 μ-loop2 Inv-loop μ-loop
 over-requires-2 c κs = search needs
 
 mul-ma : tie.Need-mul-ma Inv-loop2 μ-loop2 Inv-loop μ-loop
-mul-ma c = omega (arith, below-a (c .before .before .before .before .before .before .before .before .before .before .before .before .before .before .before .before .before .before .before .before .before .before))
+mul-ma c = omega (arith, below-a (c .before .before .before .before .before .before .before .before .before .before .before .before .before .before .before .before .before .before .before .before .before))
 
 element-set-from-ma : tie.Need-element-set-from-ma Inv-loop2 μ-loop2 Inv-loop μ-loop
-element-set-from-ma c = omega (arith, below-a (c .before .before .before .before .before .before .before .before .before .before .before .before .before .before .before .before .before .before .before .before .before .before))
+element-set-from-ma c = omega (arith, below-a (c .before .before .before .before .before .before .before .before .before .before .before .before .before .before .before .before .before .before .before .before .before))
 
 over-requires-3 : tie.Need-over-requires-3 Inv-loop2 μ-loop2 Inv-loop μ-loop
 over-requires-3 c κs = search needs
 
 mul-mi : tie.Need-mul-mi Inv-loop2 μ-loop2 Inv-loop μ-loop
-mul-mi c = omega (arith, below-i (c .before .before .before .before .before .before .before .before .before .before .before .before .before .before .before .before .before .before .before .before .before .before .before .before .before .before .before .before .before .before .before))
+mul-mi c = omega (arith, below-i (c .before .before .before .before .before .before .before .before .before .before .before .before .before .before .before .before .before .before .before .before .before .before .before .before .before .before .before .before .before .before))
 
 element-set-from-mi : tie.Need-element-set-from-mi Inv-loop2 μ-loop2 Inv-loop μ-loop
-element-set-from-mi c = omega (arith, below-i (c .before .before .before .before .before .before .before .before .before .before .before .before .before .before .before .before .before .before .before .before .before .before .before .before .before .before .before .before .before .before .before))
+element-set-from-mi c = omega (arith, below-i (c .before .before .before .before .before .before .before .before .before .before .before .before .before .before .before .before .before .before .before .before .before .before .before .before .before .before .before .before .before .before))
 
 mul-offer : tie.Need-mul-offer Inv-loop2 μ-loop2 Inv-loop μ-loop
-mul-offer c = omega (arith, below-o (c .before .before .before .before .before .before .before .before .before .before .before .before .before .before .before .before .before .before .before .before .before .before .before .before .before .before .before .before .before .before .before .before .before .before .before .before .before .before .before .before .before .before))
+mul-offer c = omega (arith, below-o (c .before .before .before .before .before .before .before .before .before .before .before .before .before .before .before .before .before .before .before .before .before .before .before .before .before .before .before .before .before .before .before .before .before .before .before .before .before .before .before .before .before))
 
 element-set-from-offer : tie.Need-element-set-from-offer Inv-loop2 μ-loop2 Inv-loop μ-loop
-element-set-from-offer c = omega (arith, below-o (c .before .before .before .before .before .before .before .before .before .before .before .before .before .before .before .before .before .before .before .before .before .before .before .before .before .before .before .before .before .before .before .before .before .before .before .before .before .before .before .before .before .before))
+element-set-from-offer c = omega (arith, below-o (c .before .before .before .before .before .before .before .before .before .before .before .before .before .before .before .before .before .before .before .before .before .before .before .before .before .before .before .before .before .before .before .before .before .before .before .before .before .before .before .before .before))
 
 mul-talk : tie.Need-mul-talk Inv-loop2 μ-loop2 Inv-loop μ-loop
-mul-talk c = omega (arith, below-o (c .before .before .before .before .before .before .before .before .before .before .before .before .before .before .before .before .before .before .before .before .before .before .before .before .before .before .before .before .before .before .before .before .before .before .before .before .before .before .before .before .before .before))
+mul-talk c = omega (arith, below-o (c .before .before .before .before .before .before .before .before .before .before .before .before .before .before .before .before .before .before .before .before .before .before .before .before .before .before .before .before .before .before .before .before .before .before .before .before .before .before .before .before .before))
 
 element-set-from-talk : tie.Need-element-set-from-talk Inv-loop2 μ-loop2 Inv-loop μ-loop
-element-set-from-talk c = omega (arith, below-o (c .before .before .before .before .before .before .before .before .before .before .before .before .before .before .before .before .before .before .before .before .before .before .before .before .before .before .before .before .before .before .before .before .before .before .before .before .before .before .before .before .before .before))
+element-set-from-talk c = omega (arith, below-o (c .before .before .before .before .before .before .before .before .before .before .before .before .before .before .before .before .before .before .before .before .before .before .before .before .before .before .before .before .before .before .before .before .before .before .before .before .before .before .before .before .before))
 
 mul-plan : tie.Need-mul-plan Inv-loop2 μ-loop2 Inv-loop μ-loop
-mul-plan c = omega (arith, below-o (c .before .before .before .before .before .before .before .before .before .before .before .before .before .before .before .before .before .before .before .before .before .before .before .before .before .before .before .before .before .before .before .before .before .before .before .before .before .before .before .before .before .before))
+mul-plan c = omega (arith, below-o (c .before .before .before .before .before .before .before .before .before .before .before .before .before .before .before .before .before .before .before .before .before .before .before .before .before .before .before .before .before .before .before .before .before .before .before .before .before .before .before .before .before))
 
 element-set-from-plan : tie.Need-element-set-from-plan Inv-loop2 μ-loop2 Inv-loop μ-loop
-element-set-from-plan c = omega (arith, below-o (c .before .before .before .before .before .before .before .before .before .before .before .before .before .before .before .before .before .before .before .before .before .before .before .before .before .before .before .before .before .before .before .before .before .before .before .before .before .before .before .before .before .before))
+element-set-from-plan c = omega (arith, below-o (c .before .before .before .before .before .before .before .before .before .before .before .before .before .before .before .before .before .before .before .before .before .before .before .before .before .before .before .before .before .before .before .before .before .before .before .before .before .before .before .before .before))
 
 id-requires : tie.Need-id-requires Inv-loop2 μ-loop2 Inv-loop μ-loop
 id-requires c κs = search needs
@@ -380,13 +377,13 @@ add-offers : tie.Need-add-offers Inv-loop2 μ-loop2 Inv-loop μ-loop
 add-offers c = omega (arith, few-o (c .before .before .before .before .before .before))
 
 add-k : tie.Need-add-k Inv-loop2 μ-loop2 Inv-loop μ-loop
-add-k c = more (c .before .before .before .before .before .before .before .before .before .before .before .before .before .before .before .before .before .before .before .before .before .before .before .before .before .before .before .before .before .before .before .before .before .before .before .before .before .before .before .before .before .before .before .before .before .before .before .before .before .before .before .before)
+add-k c = more (c .before .before .before .before .before .before .before .before .before .before .before .before .before .before .before .before .before .before .before .before .before .before .before .before .before .before .before .before .before .before .before .before .before .before .before .before .before .before .before .before .before .before .before .before .before .before .before .before .before .before .before)
 
 loop-less : tie.Need-loop-less Inv-loop2 μ-loop2 Inv-loop μ-loop
-loop-less c = omega (arith, ahead _ _ (record-read (c .before .before .before .before .before .before .before .before .before .before .before .before .before .before .before .before .before .before .before .before .before .before .before .before .before .before .before .before .before .before .before .before .before .before .before .before .before .before .before .before .before .before .before .before .before .before .before .before .before .before .before .before)))
+loop-less c = omega (arith, ahead _ _ (record-read (c .before .before .before .before .before .before .before .before .before .before .before .before .before .before .before .before .before .before .before .before .before .before .before .before .before .before .before .before .before .before .before .before .before .before .before .before .before .before .before .before .before .before .before .before .before .before .before .before .before .before .before)))
 
 loop-again : tie.Need-loop-again Inv-loop2 μ-loop2 Inv-loop μ-loop
-loop-again c = going-on (c .before .before .before .before .before .before .before .before .before .before .before .before .before .before .before .before .before .before .before .before .before .before .before .before .before .before .before .before .before .before .before .before .before .before .before .before .before .before .before .before .before .before .before .before .before .before .before .before .before .before .before .before .before .before .before .before .before .loop .inv) (record-read (c .before .before .before .before .before .before .before .before .before .before .before .before .before .before .before .before .before .before .before .before .before .before .before .before .before .before .before .before .before .before .before .before .before .before .before .before .before .before .before .before .before .before .before .before .before .before .before .before .before .before .before .before)) (stepped (shelved (c .before .before .before .before .before .before .before .before .before .before .before .before .before .before .before .before .before .before .before .before .before .before .before .before .before .before .before .before .before .before .before .before .before .before .before .before .before .before .before .before .before .before .before .before .before .before .before .before .before .before .before .before)) (steps (step (c .before .before .before .before .before .before .before .before .before .before .before .before .before .before .before .before .before .before .before .before .before .before .before)) (stored-a (c .before .before .before .before .before .before)) (stored-i (c .before .before .before)) (stored-o c))) (c .before .before .before .before .before .before .before .before .before .before .before .before .before .before .before .before .before .before .before .before .before .put-answer .ensures)
+loop-again c = going-on (c .before .before .before .before .before .before .before .before .before .before .before .before .before .before .before .before .before .before .before .before .before .before .before .before .before .before .before .before .before .before .before .before .before .before .before .before .before .before .before .before .before .before .before .before .before .before .before .before .before .before .before .before .before .before .before .before .loop .inv) (record-read (c .before .before .before .before .before .before .before .before .before .before .before .before .before .before .before .before .before .before .before .before .before .before .before .before .before .before .before .before .before .before .before .before .before .before .before .before .before .before .before .before .before .before .before .before .before .before .before .before .before .before .before)) (stepped (shelved (c .before .before .before .before .before .before .before .before .before .before .before .before .before .before .before .before .before .before .before .before .before .before .before .before .before .before .before .before .before .before .before .before .before .before .before .before .before .before .before .before .before .before .before .before .before .before .before .before .before .before .before)) (steps (step (c .before .before .before .before .before .before .before .before .before .before .before .before .before .before .before .before .before .before .before .before .before .before .before)) (stored-a (c .before .before .before .before .before .before)) (stored-i (c .before .before .before)) (stored-o c))) (c .before .before .before .before .before .before .before .before .before .before .before .before .before .before .before .before .before .before .before .before .before .put-answer .ensures)
 
 enum-known-d-2 : tie.Need-enum-known-d-2 Inv-loop2 μ-loop2 Inv-loop μ-loop
 enum-known-d-2 c = search needs
@@ -454,7 +451,6 @@ records-spec =
     element-copy-out-vb
     at-requires-3
     same-requires
-    of-requires
     turn-requires
     add-put-answer
     put-answer-requires

@@ -7,11 +7,11 @@ use Rattle.command.specs.Names.{accountNames, offerNames, settingsNames, namesF
 use Rattle.command.specs.declared.Command.{Command}
 use Rattle.rules.specs.Rules.{accountRule, offerRule, settingsRule, ruled, commanded, gateBy, gateChecks}
 use Rattle.rules.specs.Keys.{keysBy, keysOf}
-use Rattle.near.specs.declared.Full.{Full}
+use Rattle.near.specs.declared.Counts.{Counts}
 use Rattle.near.specs.declared.Near.{Near}
 use Rattle.near.specs.declared.Turn.{Turn}
 use Rattle.near.specs.Near.{TurnsBy, viewOf, turnOf}
-use Prim.Native.Nat.{ℕ}
+use lib.Dec.{leb}
 use Rattle.refusal.specs.Refusal.{first}
 use Rattle.rules.specs.Model.{Model}
 use borrow.Author.Tests.{eqb-true, eqb-false, not-true, not-false}
@@ -24,11 +24,11 @@ use Rattle.near.proofs.Near.turn.Tie as tie
 stands : (c : tie.After-gate) (m : Model) → c .before .args .self ≡ viewOf (keysOf m (c .before .args .c)) m → c .gate .result ≡ first (gateChecks m (shapeOf (c .before .args .c)))
 stands c m = λ e. c .gate .ensures ∙ ap (λ z. first (gateBy (z .settings .paused) (z .parties .first .here) (namesOf (c .before .args .c)))) e
 
-passes : (c : tie.Else1) (r : Turn) → TurnsBy (c .before .before .args .self) r (c .before .before .args .c) (c .before .before .args .filled) (λ m. ruled m (shapeOf (c .before .before .args .c))) → TurnsBy (c .before .before .args .self) r (c .before .before .args .c) (c .before .before .args .filled) (λ m. commanded m (c .before .before .args .c))
+passes : (c : tie.Else1) (r : Turn) → TurnsBy (c .before .before .args .self) r (c .before .before .args .c) (c .before .before .args .rows) (λ m. ruled m (shapeOf (c .before .before .args .c))) → TurnsBy (c .before .before .args .self) r (c .before .before .args .c) (c .before .before .args .rows) (λ m. commanded m (c .before .before .args .c))
 passes c r = λ h m f e. h m f e ∙ then-answers (turnOf (keysOf m (c .before .before .args .c))) _ _ (λ n. ruled n (shapeOf (c .before .before .args .c))) _ refl (sym (stands ((c .before)) m e) ∙ eqb-true _ _ (not-false _ (c .if1 .left)))
 
 -- the command is known to be k
-on-it : {n : Near} {r : Turn} {c : Command} (k : Command) {f : Full} → c ≡ k → TurnsBy n r k f (λ m. ruled m (shapeOf k)) → TurnsBy n r c f (λ m. ruled m (shapeOf c))
+on-it : {n : Near} {r : Turn} {c : Command} (k : Command) {f : Counts} → c ≡ k → TurnsBy n r k f (λ m. ruled m (shapeOf k)) → TurnsBy n r c f (λ m. ruled m (shapeOf c))
 on-it k q h = rw q h
 
 gate-requires : tie.Need-gate-requires
@@ -183,7 +183,7 @@ seats-set-requires c κs = search needs
 
 returns-2 : tie.Need-returns-2
 unfolding shapeOf accountNames offerNames settingsNames namesFor accountRule offerRule settingsRule ruled
-returns-2 c = passes ((c .before .before .before)) _ (on-it _ (c .before .enum-told .given .1) (λ m f. c .opened .ensures (c .before .enum-told .given .0 .1 .0) Nothing Nothing Nothing m (ap (λ z. z .accounts) f)))
+returns-2 c = passes ((c .before .before .before .before)) _ (on-it _ (c .before .before .enum-told .given .1) (λ m f. c .opened .ensures (c .before .before .enum-told .given .0 .1 .0) Nothing Nothing Nothing m (ap (λ z. leb 64 (z .accounts)) f)))
 
 returns-3 : tie.Need-returns-3
 unfolding shapeOf accountNames offerNames settingsNames namesFor accountRule offerRule settingsRule ruled
@@ -199,7 +199,7 @@ returns-5 c = passes ((c .before .before .before .before)) _ (on-it _ (c .before
 
 returns-6 : tie.Need-returns-6
 unfolding shapeOf accountNames offerNames settingsNames namesFor accountRule offerRule settingsRule ruled
-returns-6 c = passes ((c .before .before .before .before)) _ (on-it _ (c .before .before .c4 .given .1) (λ m f. simp (back (c .before .before .c4 .given .0 .1 .1 .1 .0) (search needs)) at (c .registered .ensures (c .before .before .c4 .given .0 .1 .1 .0) (Id (c .before .before .c4 .given .0 .1 .0)) Nothing Nothing m (ap (λ z. z .invoices) f))))
+returns-6 c = passes ((c .before .before .before .before .before)) _ (on-it _ (c .before .before .before .c4 .given .1) (λ m f. simp (back (c .before .before .before .c4 .given .0 .1 .1 .1 .0) (search needs)) at (c .registered .ensures (c .before .before .before .c4 .given .0 .1 .1 .0) (Id (c .before .before .before .c4 .given .0 .1 .0)) Nothing Nothing m (ap (λ z. leb 64 (z .invoices)) f))))
 
 returns-7 : tie.Need-returns-7
 unfolding shapeOf accountNames offerNames settingsNames namesFor accountRule offerRule settingsRule ruled
@@ -207,7 +207,7 @@ returns-7 c = passes ((c .before .before .before .before)) _ (on-it _ (c .before
 
 returns-8 : tie.Need-returns-8
 unfolding shapeOf accountNames offerNames settingsNames namesFor accountRule offerRule settingsRule ruled
-returns-8 c = passes ((c .before .before .before .before)) _ (on-it _ (c .before .before .c6 .given .1) (λ m f. c .created .ensures (c .before .before .c6 .given .0 .1 .1 .0) Nothing m (ap (λ z. z .offers) f)))
+returns-8 c = passes ((c .before .before .before .before .before)) _ (on-it _ (c .before .before .before .c6 .given .1) (λ m f. c .created .ensures (c .before .before .before .c6 .given .0 .1 .1 .0) Nothing m (ap (λ z. leb 64 (z .offers)) f)))
 
 returns-9 : tie.Need-returns-9
 unfolding shapeOf accountNames offerNames settingsNames namesFor accountRule offerRule settingsRule ruled
