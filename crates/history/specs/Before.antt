@@ -43,23 +43,23 @@ module _ (i o a j : ℕ) (t : Terms) (rest : List (ℕ × Deed)) where
 pub bargains-before : (t : Table Deal) (o : ℕ) → bargainOf (find t o) ≡ bargainIn (deedsOn o (deedsBefore t))
 unfolding find deedsBefore deedsOn termsOf counterOf lenderOf invoiceOf
 bargains-before [] o = ap (λ z. record { lender = 0; invoice = 0; terms = record { amount = pos 0; rate = 0; duration = 0 }; counter = z }) (none-asked roundLimit)
-bargains-before (e ∷ t) o = go (decide (eqb (e .0) o))
+bargains-before (e ∷ t) o = go (bargains-before t o) (decide (eqb (e .0) o))
   where
-    go : Is (eqb (e .0) o) → bargainOf (cond (eqb (e .0) o) (here (e .1)) (find t o)) ≡ bargainIn (deedsOn o (counteredOn (e .0) (asked roundLimit (e .1 .negotiation)) ((e .0, creates (e .1 .offer .lender) (e .1 .offer .invoice) (e .1 .offer .terms)) ∷ deedsBefore t)))
-    go (is-true q) = ap (λ g. bargainOf (cond g (here (e .1)) (find t o))) q ∙ then-said (e .0) o (e .1 .offer .lender) (e .1 .offer .invoice) (e .1 .offer .terms) (deedsBefore t) (asked roundLimit (e .1 .negotiation)) q
-    go (is-false q) = ap (λ g. bargainOf (cond g (here (e .1)) (find t o))) q ∙ bargains-before t o ∙ elsewhere (e .0) o (e .1 .offer .lender) (e .1 .offer .invoice) (e .1 .offer .terms) (deedsBefore t) (asked roundLimit (e .1 .negotiation)) q
+    go : bargainOf (find t o) ≡ bargainIn (deedsOn o (deedsBefore t)) → Is (eqb (e .0) o) → bargainOf (cond (eqb (e .0) o) (here (e .1)) (find t o)) ≡ bargainIn (deedsOn o (counteredOn (e .0) (asked roundLimit (e .1 .negotiation)) ((e .0, creates (e .1 .offer .lender) (e .1 .offer .invoice) (e .1 .offer .terms)) ∷ deedsBefore t)))
+    go h (is-true q) = ap (λ g. bargainOf (cond g (here (e .1)) (find t o))) q ∙ then-said (e .0) o (e .1 .offer .lender) (e .1 .offer .invoice) (e .1 .offer .terms) (deedsBefore t) (asked roundLimit (e .1 .negotiation)) q
+    go h (is-false q) = ap (λ g. bargainOf (cond g (here (e .1)) (find t o))) q ∙ h ∙ elsewhere (e .0) o (e .1 .offer .lender) (e .1 .offer .invoice) (e .1 .offer .terms) (deedsBefore t) (asked roundLimit (e .1 .negotiation)) q
 
 pub originators-before : (t : Table Invoice) (i : ℕ) → originatorOf (find t i) ≡ row 0 (find (originatorsBefore t) i)
 unfolding find originatorsBefore row
 originators-before [] i = refl
-originators-before (e ∷ t) i = go (eqb (e .0) i)
+originators-before (e ∷ t) i = go (originators-before t i) (eqb (e .0) i)
   where
-    go : (g : Bool) → originatorOf (cond g (here (e .1)) (find t i)) ≡ row 0 (cond g (here (e .1 .originator)) (find (originatorsBefore t) i))
-    go true = refl
-    go false = originators-before t i
+    go : originatorOf (find t i) ≡ row 0 (find (originatorsBefore t) i) → (g : Bool) → originatorOf (cond g (here (e .1)) (find t i)) ≡ row 0 (cond g (here (e .1 .originator)) (find (originatorsBefore t) i))
+    go h true = refl
+    go h false = h
 
 -- ── The figures to which the sums are added ───────────────────────
-pub base : Model → Ledger
+abbrev pub base : Model → Ledger
 base s = record {
   bargains = start s .bargains;
   papers = start s .papers;
@@ -73,7 +73,7 @@ base s = record {
 }
 
 pub reads-before : (s : Model) → Reads (base s) (start s) (saidBefore s)
-unfolding base sum balance accepted received together amountsOf amounts
+unfolding sum balance accepted received together amountsOf amounts
 reads-before s = record {
   bargains = bargains-before (s .offers);
   originators = originators-before (s .invoices);
@@ -88,7 +88,7 @@ no-sum [] = refl
 no-sum (a ∷ l) = +ℤ-idr _ ∙ no-sum l
 
 pub sums-before : (s : Model) → Sums (base s) (start s) (saidBefore s)
-unfolding base financed accepted sum
+unfolding financed accepted sum
 sums-before s = record {
   offereds = λ a. sym (-ℤ-+ℤ-cancel (start s .purses .offereds a) (offered (saidBefore s) a));
   financed = sym (ap (λ z. start s .financed +ℤ z) (no-sum (keys (s .accounts))) ∙ +ℤ-idr (start s .financed));
@@ -108,18 +108,18 @@ still-closed nothing r a z = z
 unlisted : (p i : ℕ) (l : List ℕ) → Above p l → i ≤ p → count i l ≡ 0
 unfolding count hit
 unlisted p i [] r h = refl
-unlisted p i (x ∷ l) r h = go (decide (eqb x i))
+unlisted p i (x ∷ l) r h = go (unlisted x i l (r .1) (omega (arith, r .0))) (decide (eqb x i))
   where
-    go : Is (eqb x i) → cond (eqb x i) 1 0 + count i l ≡ 0
-    go (is-true e) = absurd (omega (arith, eqb-true x i e, r .0))
-    go (is-false e) = simp e (unlisted x i l (r .1) (omega (arith, r .0)))
+    go : count i l ≡ 0 → Is (eqb x i) → cond (eqb x i) 1 0 + count i l ≡ 0
+    go k (is-true e) = absurd (omega (arith, eqb-true x i e, r .0))
+    go k (is-false e) = simp e (omega (arith, k))
 
 module _ {A : Type 0} (v : Found A → Bool) (yes : (r : A) → v (here r) ≡ true) (none : v absent ≡ false) where
   pub keys-once : (t : Table A) → Rises (keys t) → (i : ℕ) → count i (keys t) ≡ one (v (find t i))
   unfolding keys count hit find
   keys-once [] r i = sym (ap one none)
-  keys-once (e ∷ t) r i = go (decide (eqb (e .0) i))
+  keys-once (e ∷ t) r i = go (keys-once t (above-rises (e .0) (keys t) r) i) (decide (eqb (e .0) i))
     where
-      go : Is (eqb (e .0) i) → cond (eqb (e .0) i) 1 0 + count i (keys t) ≡ one (v (cond (eqb (e .0) i) (here (e .1)) (find t i)))
-      go (is-true q) = simp q (omega (arith, unlisted (e .0) i (keys t) r (omega (arith, eqb-true (e .0) i q)), ap one (yes (e .1))))
-      go (is-false q) = simp q (keys-once t (above-rises (e .0) (keys t) r) i)
+      go : count i (keys t) ≡ one (v (find t i)) → Is (eqb (e .0) i) → cond (eqb (e .0) i) 1 0 + count i (keys t) ≡ one (v (cond (eqb (e .0) i) (here (e .1)) (find t i)))
+      go h (is-true q) = simp q (omega (arith, unlisted (e .0) i (keys t) r (omega (arith, eqb-true (e .0) i q)), ap one (yes (e .1))))
+      go h (is-false q) = simp q (omega (arith, h))

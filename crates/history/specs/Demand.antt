@@ -7,7 +7,10 @@ use lib.IntN.{ℤ, pos, _+ℤ_, +ℤ-idl}
 use Rattle.table.specs.Tables.{Found, absent, here, Table, find, keys}
 use Rattle.table.specs.Sound.{All, all-found}
 use Rattle.table.specs.Sums.{count}
+use Rattle.negotiation.specs.Rounds.{roundLimit}
+use Rattle.negotiation.specs.Whole.{Whole}
 use Rattle.negotiation.specs.Laws.{none-whole}
+use Rattle.offer.specs.Seen.{seenDeal}
 use Rattle.offer.specs.Laws.{DealKept}
 use Rattle.offer.specs.declared.Deal.{Deal}
 use Rattle.account.specs.declared.Account.{Account}
@@ -54,16 +57,16 @@ holds-next s h m c H p = record {
 whole-rounds : (t : Table Deal) → All DealKept t → Rounds t
 whole-rounds t k o = go (find t o) refl
   where
-    go : (f : Found Deal) → find t o ≡ f → _
-    go absent e = rw e none-whole
-    go (here d) e = rw e (all-found DealKept t o d k e .whole)
+    go : (f : Found Deal) → find t o ≡ f → Whole roundLimit (seenDeal f .row .negotiation)
+    go absent e = none-whole
+    go (here d) e = all-found DealKept t o d k e .whole
 
 unopened : (f : Found Account) → one (accountHere f) ≡ 0 → acceptedOf f ≡ pos 0
 unopened absent e = refl
 unopened (here r) e = absurd (omega (arith, e))
 
 holds-first : (s : Model) → ModelSound s → HoldsSince s [] s
-unfolding ledger readAfter base
+unfolding ledger readAfter
 holds-first s y = record {
   agrees = begins s (whole-rounds (s .offers) (y .offers));
   reads = reads-before s;
@@ -81,7 +84,6 @@ holds-since s y cs = kept-run (HoldsSince s) (holds-next s) (record { history = 
 
 -- ── From any sound book ───────────────────────────────────────────
 pub since : (s : Model) → ModelSound s → (cs : List Command) → MeetsSince s (from s cs .history) (from s cs .model)
-unfolding base
 since s y cs =
     let H = holds-since s y cs in
     record {
