@@ -3,6 +3,7 @@ use Prim.Native.Nat.{ℕ}
 use mathlib.Core.Path.{_≡_, sym, ap, subst, _∙_}
 use mathlib.Core.Bool.{Bool, true, false, not}
 use lib.Dec.{eqb}
+use lib.IntN.{pos, _+ℤ_, +ℤ-idl}
 use borrow.Author.Tests.{eqb-true, not-false}
 use Rattle.money.specs.Facts.{never}
 use Rattle.refusal.specs.Choice.{pick}
@@ -16,7 +17,7 @@ use Rattle.command.specs.Shape as Shape
 use Rattle.rules.specs.Model.{Model, accountIn, offerIn, paperOf}
 use Rattle.rules.specs.Rules.{termsIn, settling, concluding, agreeing, counteredIn, ruled, shaped}
 use Rattle.rules.specs.Rules as Rules
-use Rattle.history.specs.History.{counters, accountEntry, entryFor, lenderOf, settles, Said, deedsOn}
+use Rattle.history.specs.History.{counters, accountEntry, entryFor, lenderOf, settles, Said, deedsOn, accepted}
 use Rattle.rules.specs.Rooms.{unseen-account}
 use Rattle.history.specs.Passed.{Passes, passes-right, offer-there}
 use Rattle.history.specs.Ledger.{Ledger, Bargain, noted, acceptedOf}
@@ -32,7 +33,11 @@ there b e h = e ∙ ap one (not-false b h)
 new : (b : Bool) {n : ℕ} → n ≡ one b → b ≡ false → n ≡ 0
 new b e h = e ∙ ap one h
 
-module _ {l : Ledger} {r : Said} {m : Model} (A : Agrees l m) (R : Reads l r) (L : Listed r m) where
+-- an account that is not opened yet had no accepted total before
+abbrev pub Late : Ledger → Said → Type 0
+Late b r = (a : ℕ) → count a (r .accounts) ≡ 0 → b .purses .accepteds a ≡ pos 0
+
+module _ {b l : Ledger} {r : Said} {m : Model} (A : Agrees l m) (R : Reads b l r) (L : Listed r m) (N : Late b r) where
   -- the book and the history know one lender
   lender-is : (o : ℕ) → Rules.lenderOf m o ≡ lenderOf (deedsOn o (r .deeds))
   lender-is o = ap (λ (k : Bargain). k .lender) (A .bargains .shown o ∙ R .bargains o)
@@ -61,7 +66,9 @@ module _ {l : Ledger} {r : Said} {m : Model} (A : Agrees l m) (R : Reads l r) (L
 
   pub fair : (c : Shape.Shape) → Passes (shaped m c .checks) → Fair r (entryFor c)
   unfolding ruled entryFor namesFor settles settling lenderOf
-  fair (Shape.opens a) p = sym (R .accepteds a) ∙ sym (A .purses .accepteds a) ∙ ap acceptedOf (unseen-account (find (m .accounts) a) (search))
+  fair (Shape.opens a) p =
+      let z : count a (r .accounts) ≡ 0 = new (accountIn m a .here) (L .accounts a) (search) in
+      sym (ap (λ x. x +ℤ accepted r a) (N a z) ∙ +ℤ-idl (accepted r a)) ∙ sym (R .accepteds a) ∙ sym (A .purses .accepteds a) ∙ ap acceptedOf (unseen-account (find (m .accounts) a) (search))
   fair (Shape.account a u) p = fair-account a u
   fair (Shape.registers a i x) p = tt
   fair (Shape.cancels a i) p = tt

@@ -1,7 +1,7 @@
 -- Nobody is bound to terms that they did not put down, and no invoice is settled twice: from a fresh book, after any commands.
 use Prim.Native.Nat.{ℕ, _+_, _≤_}
 use native.Mathlib.Omega.{arith}
-use mathlib.Core.Path.{_≡_, refl, sym, ap, _∙_}
+use mathlib.Core.Path.{_≡_, refl, sym, ap, subst, _∙_}
 use mathlib.Core.Bool.{Bool, true, false}
 use mathlib.Core.List.{List, [], _∷_}
 use lib.Dec.{eqb}
@@ -16,13 +16,14 @@ use Rattle.command.specs.declared.Command.the-variants.{AmendOffer, CounterOffe
 use Rattle.rules.specs.Model.{Model, freshModel, offerIn, paperOf}
 use Rattle.command.specs.Shape.{shapeOf}
 use Rattle.rules.specs.Rules.{ruled, commanded}
-use Rattle.history.specs.History.{Deed, creates, amends, counters, accepts, Entry, opens, deposits, pays, registers, deals, nothing, entryOf, termsOf, counterOf, lenderOf, invoiceOf, settles, Settlement, Said, grow, deedsOn, settlementOf, settledBy, add, read}
+use Rattle.history.specs.History.{Deed, creates, amends, counters, accepts, Entry, opens, deposits, pays, registers, deals, nothing, entryOf, termsOf, counterOf, lenderOf, invoiceOf, settles, Settlement, Said, grow, deedsOn, settlementOf, settledBy, add, readAfter, read}
 use Rattle.history.specs.Passed.{Passes, all-pass}
 use Rattle.history.specs.Ledger.{Bargain, Ledger, noted, post, ledger, bargainOf, shut}
 use Rattle.history.specs.Papers.{shut-most}
 use Rattle.history.specs.Reads.{bargainIn, Reads, reads-post, at-offer, either-way}
 use Rattle.history.specs.Run.{answerOf, from}
-use Rattle.history.specs.Demand.{fresh, holds, reads-first}
+use Rattle.history.specs.Before.{base, reads-before}
+use Rattle.history.specs.Demand.{fresh, none-before, holds}
 
 -- ── The terms of a settlement ─────────────────────────────────────
 -- an amend or a counter
@@ -88,23 +89,23 @@ unfoldable pub times : ℕ → List Settlement → ℕ
 times i [] = 0
 times i (s ∷ l) = times i l + hit (s .invoice) i 1
 
-sales-post : {l : Ledger} {r : Said} → Reads l r → ((i : ℕ) → l .papers .sales i ≡ times i (r .settlements)) → (e : Entry) (i : ℕ) → post e l .papers .sales i ≡ times i (add e r .settlements)
+sales-post : {b l : Ledger} {r : Said} → Reads b l r → ((i : ℕ) → l .papers .sales i ≡ times i (r .settlements)) → (e : Entry) (i : ℕ) → post e l .papers .sales i ≡ times i (add e r .settlements)
 unfolding post add times grow
 sales-post R h (opens a) i = h i
 sales-post R h (deposits a x) i = h i
 sales-post R h (pays a x) i = h i
 sales-post R h (registers a k) i = h i
-sales-post {l} {r} R h (deals o d) i = either-way R o d (λ k s. k .papers .sales i ≡ times i (grow s (r .settlements)))
+sales-post {b} {l} {r} R h (deals o d) i = either-way R o d (λ k s. k .papers .sales i ≡ times i (grow s (r .settlements)))
     (λ e. ap (λ z. z + hit (noted o d l .bargains o .invoice) i 1) (h i) ∙ ap (λ (z : Bargain). times i (r .settlements) + hit (z .invoice) i 1) (at-offer R o d)) (h i)
 sales-post R h nothing i = h i
 
-all-read : (h : List Command) → Reads (ledger fresh h) (read h)
-unfolding ledger read
-all-read [] = reads-first
+all-read : (h : List Command) → Reads (base freshModel) (ledger fresh h) (read h)
+unfolding ledger readAfter
+all-read [] = subst (λ (z : Said). Reads (base freshModel) fresh z) none-before (reads-before freshModel)
 all-read (c ∷ h) = reads-post (all-read h) (entryOf c)
 
 all-sold : (h : List Command) (i : ℕ) → ledger fresh h .papers .sales i ≡ times i (read h .settlements)
-unfolding ledger read times shut pick find
+unfolding ledger readAfter times shut pick find
 all-sold [] i = refl
 all-sold (c ∷ h) i = sales-post (all-read h) (all-sold h) (entryOf c) i
 

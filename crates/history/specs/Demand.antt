@@ -1,76 +1,110 @@
--- Demand 3: from a fresh book, after any commands, every figure of the book is the history's. And from any book: it agrees with the ledger that starts from it.
+-- Demand 3: from a fresh book, after any commands, every figure of the book is the history's. From any sound book: its figures, and the sums over what is accepted after it.
 use Prim.Native.Nat.{ℕ}
 use native.Mathlib.Omega.{arith}
-use mathlib.Core.Path.{_≡_, refl, ap, _∙_}
+use mathlib.Core.Path.{_≡_, refl, sym, ap, subst, _∙_}
 use mathlib.Core.List.{List, [], _∷_}
-use lib.IntN.{pos}
-use Rattle.table.specs.Tables.{find, row}
+use lib.IntN.{ℤ, pos, _+ℤ_, +ℤ-idl}
+use Rattle.table.specs.Tables.{Found, absent, here, Table, find, keys}
+use Rattle.table.specs.Sound.{All, all-found}
 use Rattle.table.specs.Sums.{count}
 use Rattle.negotiation.specs.Rounds.{roundLimit}
+use Rattle.negotiation.specs.Whole.{Whole}
 use Rattle.negotiation.specs.Laws.{none-whole}
-use Rattle.negotiation.specs.Latest.{none-asked}
+use Rattle.offer.specs.Seen.{seenDeal}
+use Rattle.offer.specs.Laws.{DealKept}
+use Rattle.offer.specs.declared.Deal.{Deal}
+use Rattle.account.specs.declared.Account.{Account}
 use Rattle.command.specs.declared.Command.{Command}
 use Rattle.rules.specs.Model.{Model, freshModel, accountIn}
 use Rattle.rules.specs.Rules.{commanded}
 use Rattle.command.specs.Shape.{shapeOf}
-use Rattle.history.specs.History.{entryOf, termsOf, counterOf, lenderOf, invoiceOf, deedsOn, read, sum, offered, accepted, received, amountsOf, amounts, balance, financed, together}
+use Rattle.soundness.specs.Sound.{ModelSound, fresh-model}
+use Rattle.history.specs.History.{entryOf, Said, silence, readAfter, read, sum, offered, accepted, balance, financed, together}
+use Rattle.history.specs.Since.{deedsBefore, originatorsBefore, saidBefore, readSince, MeetsSince}
 use Rattle.history.specs.Passed.{Passes}
-use Rattle.history.specs.Ledger.{Ledger, start, ledger}
+use Rattle.history.specs.Ledger.{Ledger, acceptedOf, start, ledger}
 use Rattle.history.specs.Agrees.{Agrees, Rounds, begins}
 use Rattle.history.specs.Keeps.{keeps}
 use Rattle.history.specs.Reads.{Reads, reads-post}
 use Rattle.history.specs.Fair.{Sums, sums-post}
-use Rattle.history.specs.Listed.{Listed, listed}
-use Rattle.history.specs.Accepted.{fair}
+use Rattle.history.specs.Listed.{Listed, one, accountHere, offerHere, listed}
+use Rattle.history.specs.Accepted.{Late, fair}
+use Rattle.history.specs.Before.{base, reads-before, sums-before, keys-once, still-closed}
 use Rattle.history.specs.Run.{from, kept-run}
 
--- from any book whose negotiations are whole
-pub any-start : (m : Model) → Rounds (m .offers) → (cs : List Command) → Agrees (ledger (start m) (from m cs .history)) (from m cs .model)
-unfolding ledger
-any-start m w cs = kept-run (λ h n. Agrees (ledger (start m) h) n) (λ h n c A p. keeps A (shapeOf c) p) (record { history = []; model = m }) (begins m w) cs
-
 -- ── The book, the ledger and the history together ─────────────────
+-- after h from s; r is what was said, before s and by h
+pub record Holds (s : Model) (h : List Command) (r : Said) (m : Model) : Type 0 where
+  pub agrees : Agrees (ledger (start s) h) m
+  pub reads : Reads (base s) (ledger (start s) h) r
+  pub sums : Sums (base s) (ledger (start s) h) r
+  pub lists : Listed r m
+  pub late : Late (base s) r
+
+abbrev HoldsSince : Model → List Command → Model → Type 0
+HoldsSince s h m = Holds s h (readSince s h) m
+
+holds-next : (s : Model) (h : List Command) (m : Model) (c : Command) → HoldsSince s h m → Passes (commanded m c .checks) → HoldsSince s (c ∷ h) (commanded m c .done)
+unfolding ledger readAfter
+holds-next s h m c H p = record {
+  agrees = keeps (H .agrees) (shapeOf c) p;
+  reads = reads-post (H .reads) (entryOf c);
+  sums = sums-post (H .reads) (H .sums) (entryOf c) (fair (H .agrees) (H .reads) (H .lists) (H .late) (shapeOf c) p);
+  lists = listed (H .lists) (shapeOf c) p;
+  late = λ a z. H .late a (still-closed (entryOf c) (readSince s h) a z);
+}
+
+whole-rounds : (t : Table Deal) → All DealKept t → Rounds t
+whole-rounds t k o = go (find t o) refl
+  where
+    go : (f : Found Deal) → find t o ≡ f → Whole roundLimit (seenDeal f .row .negotiation)
+    go absent e = none-whole
+    go (here d) e = all-found DealKept t o d k e .whole
+
+unopened : (f : Found Account) → one (accountHere f) ≡ 0 → acceptedOf f ≡ pos 0
+unopened absent e = refl
+unopened (here r) e = absurd (omega (arith, e))
+
+holds-first : (s : Model) → ModelSound s → HoldsSince s [] s
+unfolding ledger readAfter
+holds-first s y = record {
+  agrees = begins s (whole-rounds (s .offers) (y .offers));
+  reads = reads-before s;
+  sums = sums-before s;
+  lists = record {
+    accounts = keys-once accountHere (λ r. refl) refl (s .accounts) (y .fits .accounts .rises);
+    offers = keys-once offerHere (λ d. refl) refl (s .offers) (y .fits .offers .rises);
+    room = y .fits .accounts .fits;
+  };
+  late = λ a z. unopened (find (s .accounts) a) (sym (keys-once accountHere (λ r. refl) refl (s .accounts) (y .fits .accounts .rises) a) ∙ z);
+}
+
+pub holds-since : (s : Model) → ModelSound s → (cs : List Command) → HoldsSince s (from s cs .history) (from s cs .model)
+holds-since s y cs = kept-run (HoldsSince s) (holds-next s) (record { history = []; model = s }) (holds-first s y) cs
+
+-- ── From any sound book ───────────────────────────────────────────
+pub since : (s : Model) → ModelSound s → (cs : List Command) → MeetsSince s (from s cs .history) (from s cs .model)
+since s y cs =
+    let H = holds-since s y cs in
+    record {
+      offereds = λ a. H .agrees .purses .offereds a ∙ H .sums .offereds a;
+      accepteds = λ a. H .agrees .purses .accepteds a ∙ H .reads .accepteds a;
+      balances = λ a. H .agrees .purses .balances a ∙ H .reads .balances a;
+      all-balances = H .agrees .purses .together ∙ H .reads .together;
+      financed-total = H .agrees .financed ∙ H .sums .financed;
+    }
+
+-- ── Demand 3: its case at a fresh book, before which nothing was said ──
 abbrev pub fresh : Ledger
 fresh = start freshModel
 
-pub record Holds (h : List Command) (m : Model) : Type 0 where
-  pub agrees : Agrees (ledger fresh h) m
-  pub reads : Reads (ledger fresh h) (read h)
-  pub sums : Sums (ledger fresh h) (read h)
-  pub lists : Listed (read h) m
+pub none-before : saidBefore freshModel ≡ silence
+unfolding keys deedsBefore originatorsBefore
+none-before = refl
 
-holds-next : (h : List Command) (m : Model) (c : Command) → Holds h m → Passes (commanded m c .checks) → Holds (c ∷ h) (commanded m c .done)
-unfolding ledger read
-holds-next h m c H p = record {
-  agrees = keeps (H .agrees) (shapeOf c) p;
-  reads = reads-post (H .reads) (entryOf c);
-  sums = sums-post (H .reads) (H .sums) (entryOf c) (fair (H .agrees) (H .reads) (H .lists) (shapeOf c) p);
-  lists = listed (H .lists) (shapeOf c) p;
-}
+pub holds : (cs : List Command) → Holds freshModel (from freshModel cs .history) (read (from freshModel cs .history)) (from freshModel cs .model)
+holds cs = subst (λ (z : Said). Holds freshModel (from freshModel cs .history) (readAfter z (from freshModel cs .history)) (from freshModel cs .model)) none-before (holds-since freshModel fresh-model cs)
 
-pub reads-first : Reads (ledger fresh []) (read [])
-unfolding ledger read find row deedsOn termsOf counterOf lenderOf invoiceOf sum balance accepted received together amountsOf amounts
-reads-first = record {
-  bargains = λ o. ap (λ z. record { lender = 0; invoice = 0; terms = record { amount = pos 0; rate = 0; duration = 0 }; counter = z }) (none-asked roundLimit);
-  originators = λ i. refl;
-  balances = λ a. refl;
-  accepteds = λ a. refl;
-  together = refl;
-}
-
-holds-first : Holds [] freshModel
-unfolding ledger read find sum offered financed count
-holds-first = record {
-  agrees = begins freshModel (λ o. none-whole);
-  reads = reads-first;
-  sums = record { offereds = λ a. refl; financed = refl };
-  lists = record { accounts = λ a. refl; offers = λ o. refl; room = omega arith };
-}
-
-pub holds : (cs : List Command) → Holds (from freshModel cs .history) (from freshModel cs .model)
-holds cs = kept-run Holds holds-next (record { history = []; model = freshModel }) holds-first cs
-
--- ── Demand 3 ──────────────────────────────────────────────────────
 -- the figures of a book are the sums of a history
 pub record Meets (h : List Command) (m : Model) : Type 0 where
   pub offereds : (a : ℕ) → accountIn m a .row .offered ≡ offered (read h) a
@@ -79,13 +113,15 @@ pub record Meets (h : List Command) (m : Model) : Type 0 where
   pub all-balances : sum (λ e. e .1 .balance) (m .accounts) ≡ together (read h)
   pub financed-total : m .totals .financed ≡ financed (read h)
 
+fresh-meets : {h : List Command} {m : Model} → MeetsSince freshModel h m → Meets h m
+unfolding keys deedsBefore originatorsBefore find sum offered
+fresh-meets {h} F = record {
+  offereds = λ a. F .offereds a ∙ +ℤ-idl (offered (read h) a);
+  accepteds = λ a. F .accepteds a ∙ +ℤ-idl (accepted (read h) a);
+  balances = λ a. F .balances a ∙ +ℤ-idl (balance (read h) a);
+  all-balances = F .all-balances ∙ +ℤ-idl (together (read h));
+  financed-total = F .financed-total ∙ +ℤ-idl (financed (read h));
+}
+
 pub demand-3 : (cs : List Command) → Meets (from freshModel cs .history) (from freshModel cs .model)
-demand-3 cs =
-    let H = holds cs in
-    record {
-      offereds = λ a. H .agrees .purses .offereds a ∙ H .sums .offereds a;
-      accepteds = λ a. H .agrees .purses .accepteds a ∙ H .reads .accepteds a;
-      balances = λ a. H .agrees .purses .balances a ∙ H .reads .balances a;
-      all-balances = H .agrees .purses .together ∙ H .reads .together;
-      financed-total = H .agrees .financed ∙ H .sums .financed;
-    }
+demand-3 cs = fresh-meets (since freshModel fresh-model cs)

@@ -4,7 +4,7 @@ use mathlib.Core.Path.{_≡_, refl, sym, ap, _∙_}
 use mathlib.Core.Bool.{Bool, true, false}
 use mathlib.Core.List.{List, _∷_}
 use lib.Dec.{eqb}
-use lib.IntN.{ℤ, pos, _+ℤ_, _-ℤ_, +ℤ-comm, +ℤ-idr, -ℤ-+ℤ-cancel}
+use lib.IntN.{ℤ, pos, _+ℤ_, _-ℤ_, +ℤ-assoc, +ℤ-comm, +ℤ-idr, -ℤ-+ℤ-cancel}
 use borrow.Author.Tests.{eq-eqb, eqb-true}
 use Rattle.refusal.specs.Choice.{pick, pick-on, pick-off}
 use Rattle.table.specs.Tables.{absent, here}
@@ -33,9 +33,10 @@ Fair r (registers a i) = Unit {0}
 Fair r (deals o d) = FairDeed r o d
 Fair r nothing = Unit {0}
 
-pub record Sums (l : Ledger) (r : Said) : Type 0 where
-  pub offereds : (a : ℕ) → l .purses .offereds a ≡ offered r a
-  pub financed : l .financed ≡ financed r
+-- b has the figures that were there before
+pub record Sums (b l : Ledger) (r : Said) : Type 0 where
+  pub offereds : (a : ℕ) → l .purses .offereds a ≡ b .purses .offereds a +ℤ offered r a
+  pub financed : l .financed ≡ b .financed +ℤ financed r
 
 -- a figure of what was done on each offer, where one thing more is done on o
 module _ (w : List Deed → ℤ) (o : ℕ) (d : Deed) (all : List (ℕ × Deed)) where
@@ -65,35 +66,37 @@ module _ (w : List Deed → ℤ) (o : ℕ) (d : Deed) (all : List (ℕ × Deed))
 abbrev present : ℕ → List Deed → ℤ
 present a l = share (lenderOf l) a (termsOf l .amount)
 
-module _ {l : Ledger} {r : Said} (R : Reads l r) (S : Sums l r) where
+module _ {b l : Ledger} {r : Said} (R : Reads b l r) (S : Sums b l r) where
   raised-is : (o : ℕ) (d : Deed) → Known r o d → (a : ℕ)
-      → raised d (l .bargains o) (l .purses .offereds) a ≡ sum (λ j. present a (deedsOn j ((o, d) ∷ r .deeds))) (grow (createdBy o d) (r .offers))
+      → raised d (l .bargains o) (l .purses .offereds) a ≡ b .purses .offereds a +ℤ sum (λ j. present a (deedsOn j ((o, d) ∷ r .deeds))) (grow (createdBy o d) (r .offers))
   unfolding raised createdBy grow offered sum lenderOf termsOf
-  raised-is o (creates b i t) k a =
-      let d : Deed = creates b i t in
+  raised-is o (creates c i t) k a =
+      let d : Deed = creates c i t in
       let before : List Deed = deedsOn o (r .deeds) in
       let f : ℕ → ℤ = λ j. present a (deedsOn j (r .deeds)) in
       let g : ℕ → ℤ = λ j. present a (deedsOn j ((o, d) ∷ r .deeds)) in
       let x : ℤ = present a (d ∷ before) -ℤ present a before in
       let e : present a (d ∷ before) ≡ present a before +ℤ x = sym (+ℤ-comm (present a before) x ∙ -ℤ-+ℤ-cancel (present a (d ∷ before)) (present a before)) in
-      ap (λ z. z +ℤ share b a (t .amount)) (S .offereds a ∙ sym (sum-none f g o x (deed-moves (present a) o d (r .deeds) x e) (r .offers) k))
-      ∙ ap (λ z. sum g (r .offers) +ℤ z) (sym (deed-there (present a) o d (r .deeds)))
+      ap (λ z. z +ℤ share c a (t .amount)) (S .offereds a ∙ ap (λ z. b .purses .offereds a +ℤ z) (sym (sum-none f g o x (deed-moves (present a) o d (r .deeds) x e) (r .offers) k)))
+      ∙ +ℤ-assoc (b .purses .offereds a) (sum g (r .offers)) (share c a (t .amount))
+      ∙ ap (λ z. b .purses .offereds a +ℤ (sum g (r .offers) +ℤ z)) (sym (deed-there (present a) o d (r .deeds)))
   raised-is o (amends t) k a =
       let before : List Deed = deedsOn o (r .deeds) in
       let f : ℕ → ℤ = λ j. present a (deedsOn j (r .deeds)) in
       let g : ℕ → ℤ = λ j. present a (deedsOn j ((o, amends t) ∷ r .deeds)) in
       let x : ℤ = share (lenderOf before) a (t .amount -ℤ termsOf before .amount) in
       ap (λ z. z +ℤ share (l .bargains o .lender) a (t .amount -ℤ l .bargains o .terms .amount)) (S .offereds a)
-      ∙ ap (λ (z : Bargain). offered r a +ℤ share (z .lender) a (t .amount -ℤ z .terms .amount)) (R .bargains o)
-      ∙ sym (sum-once f g o x (deed-moves (present a) o (amends t) (r .deeds) x (share-moves (lenderOf before) a (termsOf before .amount) (t .amount))) (r .offers) k)
+      ∙ ap (λ (z : Bargain). b .purses .offereds a +ℤ offered r a +ℤ share (z .lender) a (t .amount -ℤ z .terms .amount)) (R .bargains o)
+      ∙ +ℤ-assoc (b .purses .offereds a) (offered r a) x
+      ∙ ap (λ z. b .purses .offereds a +ℤ z) (sym (sum-once f g o x (deed-moves (present a) o (amends t) (r .deeds) x (share-moves (lenderOf before) a (termsOf before .amount) (t .amount))) (r .offers) k))
   raised-is o (counters t) k a =
       S .offereds a
-      ∙ sym (sum-same (λ j. present a (deedsOn j (r .deeds))) (λ j. present a (deedsOn j ((o, counters t) ∷ r .deeds))) (deed-stays (present a) o (counters t) (r .deeds) (λ z. refl)) (r .offers))
+      ∙ ap (λ z. b .purses .offereds a +ℤ z) (sym (sum-same (λ j. present a (deedsOn j (r .deeds))) (λ j. present a (deedsOn j ((o, counters t) ∷ r .deeds))) (deed-stays (present a) o (counters t) (r .deeds) (λ z. refl)) (r .offers)))
   raised-is o accepts k a =
       S .offereds a
-      ∙ sym (sum-same (λ j. present a (deedsOn j (r .deeds))) (λ j. present a (deedsOn j ((o, accepts) ∷ r .deeds))) (deed-stays (present a) o accepts (r .deeds) (λ z. refl)) (r .offers))
+      ∙ ap (λ z. b .purses .offereds a +ℤ z) (sym (sum-same (λ j. present a (deedsOn j (r .deeds))) (λ j. present a (deedsOn j ((o, accepts) ∷ r .deeds))) (deed-stays (present a) o accepts (r .deeds) (λ z. refl)) (r .offers)))
 
-  settled : (o : ℕ) (d : Deed) → FairDeed r o d → let l₁ = deedsOn o (r .deeds) in settles (termsOf l₁) (counterOf l₁) d ≡ true → Sums (sold o (noted o d l)) (dealt o d (here (settlementOf r (d ∷ l₁))) r)
+  settled : (o : ℕ) (d : Deed) → FairDeed r o d → let l₁ = deedsOn o (r .deeds) in settles (termsOf l₁) (counterOf l₁) d ≡ true → Sums b (sold o (noted o d l)) (dealt o d (here (settlementOf r (d ∷ l₁))) r)
   unfolding offered accepted financed sum grow
   settled o d F e =
       let k : Bargain = bargainIn (d ∷ deedsOn o (r .deeds)) in
@@ -101,18 +104,19 @@ module _ {l : Ledger} {r : Said} (R : Reads l r) (S : Sums l r) where
         offereds = raised-is o d (F .known);
         financed = ap (λ (z : Bargain). l .financed +ℤ z .terms .amount) (at-offer R o d)
             ∙ ap (λ z. z +ℤ k .terms .amount) (S .financed)
-            ∙ sym (sum-once (accepted r) (λ a. accepted r a +ℤ share (k .lender) a (k .terms .amount)) (k .lender) (k .terms .amount) (λ j. refl) (r .accounts) (F .banked e));
+            ∙ +ℤ-assoc (b .financed) (financed r) (k .terms .amount)
+            ∙ ap (λ z. b .financed +ℤ z) (sym (sum-once (accepted r) (λ a. accepted r a +ℤ share (k .lender) a (k .terms .amount)) (k .lender) (k .terms .amount) (λ j. refl) (r .accounts) (F .banked e)));
       }
 
-  unsettled : (o : ℕ) (d : Deed) → FairDeed r o d → Sums (noted o d l) (dealt o d absent r)
+  unsettled : (o : ℕ) (d : Deed) → FairDeed r o d → Sums b (noted o d l) (dealt o d absent r)
   unfolding offered accepted financed grow
   unsettled o d F = record { offereds = raised-is o d (F .known); financed = S .financed }
 
-  pub sums-post : (e : Entry) → Fair r e → Sums (post e l) (add e r)
+  pub sums-post : (e : Entry) → Fair r e → Sums b (post e l) (add e r)
   unfolding post add offered accepted financed sum
-  sums-post (opens a) f = record { offereds = S .offereds; financed = S .financed ∙ sym (ap (λ z. financed r +ℤ z) f ∙ +ℤ-idr (financed r)) }
+  sums-post (opens a) f = record { offereds = S .offereds; financed = S .financed ∙ ap (λ z. b .financed +ℤ z) (sym (ap (λ z. financed r +ℤ z) f ∙ +ℤ-idr (financed r))) }
   sums-post (deposits a x) f = record { offereds = S .offereds; financed = S .financed }
   sums-post (pays a x) f = record { offereds = S .offereds; financed = S .financed }
   sums-post (registers a i) f = record { offereds = S .offereds; financed = S .financed }
-  sums-post (deals o d) f = either-way R o d (λ k s. Sums k (dealt o d s r)) (settled o d f) (unsettled o d f)
+  sums-post (deals o d) f = either-way R o d (λ k s. Sums b k (dealt o d s r)) (settled o d f) (unsettled o d f)
   sums-post nothing f = S

@@ -139,9 +139,16 @@ add (registers a i) r = record { accounts = r .accounts; deposited = r .deposite
 add (deals o d) r = dealt o d (settledBy r (deedsOn o (r .deeds)) d) r
 add nothing r = r
 
-unfoldable pub read : List Command → Said
-read [] = record { accounts = []; deposited = []; paid = []; originators = []; offers = []; deeds = []; settlements = [] }
-read (c ∷ h) = add (entryOf c) (read h)
+abbrev pub silence : Said
+silence = record { accounts = []; deposited = []; paid = []; originators = []; offers = []; deeds = []; settlements = [] }
+
+-- after what was said before
+unfoldable pub readAfter : Said → List Command → Said
+readAfter r [] = r
+readAfter r (c ∷ h) = add (entryOf c) (readAfter r h)
+
+abbrev pub read : List Command → Said
+read h = readAfter silence h
 
 -- ── The sums ──────────────────────────────────────────────────────
 module _ {A : Type 0} where

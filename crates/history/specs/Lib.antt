@@ -11,9 +11,12 @@ pub mod Keeps
 pub mod Shares
 pub mod Reads
 pub mod Fair
+pub mod Since
 pub mod Listed
+pub mod Before
 pub mod Accepted
 pub mod Run
 pub mod Demand
 pub mod Stored
+pub mod Pending
 pub mod Bound

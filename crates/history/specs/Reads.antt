@@ -1,4 +1,4 @@
--- The ledger of a history from a fresh book is what document 01's sums read off the history.
+-- The ledger of a history is what document 01's sums read off the history, added to what was there before.
 use Prim.Native.Nat.{ℕ}
 use mathlib.Core.Path.{_≡_, refl, sym, ap, subst, _∙_}
 use mathlib.Core.Bool.{Bool, true, false, cond}
@@ -10,18 +10,19 @@ use Rattle.refusal.specs.Choice.{pick, pick-on, pick-off}
 use Rattle.table.specs.Tables.{Found, absent, here, find, row}
 use Rattle.history.specs.History.{Deed, creates, amends, counters, accepts, Entry, opens, deposits, pays, registers, deals, nothing, termsOf, counterOf, lenderOf, invoiceOf, settles, Settlement, Said, grow, deedsOn, settlementOf, settledBy, dealt, add, sum, share, accepted, received, amountsOf, amounts, balance, together}
 use Rattle.history.specs.Figures.{swap}
-use Rattle.history.specs.Shares.{first-grows, second-grows, last-two-grow, share-neg}
+use Rattle.history.specs.Shares.{after-three, first-grows, second-grows, last-two-grow, share-neg}
 use Rattle.history.specs.Ledger.{Bargain, said, Ledger, noted, sold, post}
 
 abbrev pub bargainIn : List Deed → Bargain
 bargainIn l = record { lender = lenderOf l; invoice = invoiceOf l; terms = termsOf l; counter = counterOf l }
 
-pub record Reads (l : Ledger) (r : Said) : Type 0 where
+-- b has the figures that were there before
+pub record Reads (b l : Ledger) (r : Said) : Type 0 where
   pub bargains : (o : ℕ) → l .bargains o ≡ bargainIn (deedsOn o (r .deeds))
   pub originators : (i : ℕ) → l .papers .originators i ≡ row 0 (find (r .originators) i)
-  pub balances : (a : ℕ) → l .purses .balances a ≡ balance r a
-  pub accepteds : (a : ℕ) → l .purses .accepteds a ≡ accepted r a
-  pub together : l .purses .together ≡ together r
+  pub balances : (a : ℕ) → l .purses .balances a ≡ b .purses .balances a +ℤ balance r a
+  pub accepteds : (a : ℕ) → l .purses .accepteds a ≡ b .purses .accepteds a +ℤ accepted r a
+  pub together : l .purses .together ≡ b .purses .together +ℤ together r
 
 said-deed : (d : Deed) (l : List Deed) → said d (bargainIn l) ≡ bargainIn (d ∷ l)
 unfolding said lenderOf invoiceOf termsOf counterOf
@@ -30,7 +31,7 @@ said-deed (amends t) l = refl
 said-deed (counters t) l = refl
 said-deed accepts l = refl
 
-module _ {l : Ledger} {r : Said} (R : Reads l r) where
+module _ {b l : Ledger} {r : Said} (R : Reads b l r) where
   reads-bargain : (o : ℕ) (d : Deed) (j : ℕ) → pick (eqb o j) (said d (l .bargains j)) (l .bargains j) ≡ bargainIn (deedsOn j ((o, d) ∷ r .deeds))
   unfolding deedsOn
   reads-bargain o d j = go (eqb o j)
@@ -44,7 +45,7 @@ module _ {l : Ledger} {r : Said} (R : Reads l r) where
     abbrev before : List Deed
     before = deedsOn o (r .deeds)
 
-    unsettled : Reads (noted o d l) (dealt o d absent r)
+    unsettled : Reads b (noted o d l) (dealt o d absent r)
     unfolding balance accepted received together grow
     unsettled = record { bargains = reads-bargain o d; originators = R .originators; balances = R .balances; accepteds = R .accepteds; together = R .together }
 
@@ -52,21 +53,24 @@ module _ {l : Ledger} {r : Said} (R : Reads l r) where
     unfolding deedsOn
     at-offer = reads-bargain o d o ∙ ap bargainIn (pick-on _ _ (eq-eqb o o refl))
 
-    settled : Reads (sold o (noted o d l)) (dealt o d (here (settlementOf r (d ∷ before))) r)
+    settled : Reads b (sold o (noted o d l)) (dealt o d (here (settlementOf r (d ∷ before))) r)
     unfolding balance accepted received together grow sum
     settled =
         let k : Bargain = bargainIn (d ∷ before) in
-        let b : ℕ = row 0 (find (r .originators) (k .invoice)) in
+        let p : ℕ = row 0 (find (r .originators) (k .invoice)) in
         let x : ℤ = k .terms .amount in
         record {
           bargains = reads-bargain o d;
           originators = R .originators;
           balances = λ j. ap (λ (z : Bargain). l .purses .balances j +ℤ share (z .lender) j (negℤ (z .terms .amount)) +ℤ share (l .papers .originators (z .invoice)) j (z .terms .amount)) at-offer
               ∙ ap (λ z. l .purses .balances j +ℤ share (k .lender) j (negℤ x) +ℤ share z j x) (R .originators (k .invoice))
-              ∙ ap (λ z. z +ℤ share (k .lender) j (negℤ x) +ℤ share b j x) (R .balances j)
-              ∙ ap (λ z. balance r j +ℤ z +ℤ share b j x) (share-neg (k .lender) j x)
-              ∙ sym (last-two-grow (amountsOf (r .deposited) j) (negℤ (amountsOf (r .paid) j)) (accepted r j) (received r j) (share (k .lender) j x) (share b j x));
-          accepteds = λ j. ap (λ (z : Bargain). l .purses .accepteds j +ℤ share (z .lender) j (z .terms .amount)) at-offer ∙ ap (λ z. z +ℤ share (k .lender) j x) (R .accepteds j);
+              ∙ ap (λ z. z +ℤ share (k .lender) j (negℤ x) +ℤ share p j x) (R .balances j)
+              ∙ ap (λ z. b .purses .balances j +ℤ balance r j +ℤ z +ℤ share p j x) (share-neg (k .lender) j x)
+              ∙ after-three (b .purses .balances j) (balance r j) (negℤ (share (k .lender) j x)) (share p j x)
+              ∙ ap (λ z. b .purses .balances j +ℤ z) (sym (last-two-grow (amountsOf (r .deposited) j) (negℤ (amountsOf (r .paid) j)) (accepted r j) (received r j) (share (k .lender) j x) (share p j x)));
+          accepteds = λ j. ap (λ (z : Bargain). l .purses .accepteds j +ℤ share (z .lender) j (z .terms .amount)) at-offer
+              ∙ ap (λ z. z +ℤ share (k .lender) j x) (R .accepteds j)
+              ∙ +ℤ-assoc (b .purses .accepteds j) (accepted r j) (share (k .lender) j x);
           together = R .together;
         }
 
@@ -90,28 +94,32 @@ module _ {l : Ledger} {r : Said} (R : Reads l r) where
       go true = refl
       go false = R .originators j
 
-  pub reads-post : (e : Entry) → Reads (post e l) (add e r)
+  pub reads-post : (e : Entry) → Reads b (post e l) (add e r)
   unfolding post add balance accepted received amountsOf amounts together sum
   reads-post (opens a) = record { bargains = R .bargains; originators = R .originators; balances = R .balances; accepteds = R .accepteds; together = R .together }
   reads-post (deposits a x) = record {
     bargains = R .bargains;
     originators = R .originators;
     balances = λ j. ap (λ z. z +ℤ share a j x) (R .balances j)
-        ∙ sym (first-grows (amountsOf (r .deposited) j) (negℤ (amountsOf (r .paid) j)) (negℤ (accepted r j)) (received r j) (share a j x));
+        ∙ +ℤ-assoc (b .purses .balances j) (balance r j) (share a j x)
+        ∙ ap (λ z. b .purses .balances j +ℤ z) (sym (first-grows (amountsOf (r .deposited) j) (negℤ (amountsOf (r .paid) j)) (negℤ (accepted r j)) (received r j) (share a j x)));
     accepteds = R .accepteds;
-    together = ap (λ z. z +ℤ x) (R .together) ∙ sym (swap (amounts (r .deposited)) x (negℤ (amounts (r .paid))));
+    together = ap (λ z. z +ℤ x) (R .together)
+        ∙ +ℤ-assoc (b .purses .together) (together r) x
+        ∙ ap (λ z. b .purses .together +ℤ z) (sym (swap (amounts (r .deposited)) x (negℤ (amounts (r .paid)))));
   }
   reads-post (pays a x) = record {
     bargains = R .bargains;
     originators = R .originators;
     balances = λ j. ap (λ z. z +ℤ share a j (negℤ x)) (R .balances j)
-        ∙ ap (λ z. balance r j +ℤ z) (share-neg a j x)
-        ∙ sym (second-grows (amountsOf (r .deposited) j) (amountsOf (r .paid) j) (negℤ (accepted r j)) (received r j) (share a j x));
+        ∙ ap (λ z. b .purses .balances j +ℤ balance r j +ℤ z) (share-neg a j x)
+        ∙ +ℤ-assoc (b .purses .balances j) (balance r j) (negℤ (share a j x))
+        ∙ ap (λ z. b .purses .balances j +ℤ z) (sym (second-grows (amountsOf (r .deposited) j) (amountsOf (r .paid) j) (negℤ (accepted r j)) (received r j) (share a j x)));
     accepteds = R .accepteds;
     together = ap (λ z. z +ℤ negℤ x) (R .together)
-        ∙ +ℤ-assoc (amounts (r .deposited)) (negℤ (amounts (r .paid))) (negℤ x)
-        ∙ ap (λ z. amounts (r .deposited) +ℤ z) (sym (negℤ-+ℤ (amounts (r .paid)) x));
+        ∙ +ℤ-assoc (b .purses .together) (together r) (negℤ x)
+        ∙ ap (λ z. b .purses .together +ℤ z) (+ℤ-assoc (amounts (r .deposited)) (negℤ (amounts (r .paid))) (negℤ x) ∙ ap (λ z. amounts (r .deposited) +ℤ z) (sym (negℤ-+ℤ (amounts (r .paid)) x)));
   }
   reads-post (registers a i) = record { bargains = R .bargains; originators = reads-originator a i; balances = R .balances; accepteds = R .accepteds; together = R .together }
-  reads-post (deals o d) = either-way o d (λ k s. Reads k (dealt o d s r)) (λ e. settled o d) (unsettled o d)
+  reads-post (deals o d) = either-way o d (λ k s. Reads b k (dealt o d s r)) (λ e. settled o d) (unsettled o d)
   reads-post nothing = R

@@ -9,6 +9,10 @@ use Rattle.refusal.specs.Choice.{pick}
 use Rattle.history.specs.History.{sum, share}
 use Rattle.history.specs.Figures.{swap}
 
+-- three more
+pub after-three : (a b c d : ℤ) → a +ℤ b +ℤ c +ℤ d ≡ a +ℤ (b +ℤ c +ℤ d)
+after-three a b c d = ap (λ z. z +ℤ d) (+ℤ-assoc a b c) ∙ +ℤ-assoc a (b +ℤ c) d
+
 -- the balance's four sums, where one of them, or the last two, grow
 pub first-grows : (d p q r s : ℤ) → d +ℤ s +ℤ p +ℤ q +ℤ r ≡ d +ℤ p +ℤ q +ℤ r +ℤ s
 first-grows d p q r s = ap (λ z. z +ℤ q +ℤ r) (swap d s p) ∙ ap (λ z. z +ℤ r) (swap (d +ℤ p) s q) ∙ swap (d +ℤ p +ℤ q) s r

@@ -8,7 +8,9 @@ use Rattle.command.specs.declared.Command.{Command}
 use Rattle.rules.specs.Model.{Model, freshModel}
 use Rattle.book.specs.Stored.{modelOf, stored}
 use Rattle.book.specs.declared.Book.{Book}
+use Rattle.soundness.specs.Sound.{fresh-model}
 use Rattle.soundness.specs.Played.{played}
+use Rattle.soundness.specs.Calls.{called, called-played}
 use Rattle.history.specs.Figures.{tally}
 use Rattle.history.specs.Ledger.{balanceOf, offeredOf, acceptedOf}
 use Rattle.history.specs.Run.{from, run-played}
@@ -29,3 +31,7 @@ stored-meets cs b e =
     let m : Model = from freshModel cs .model in
     subst (λ (z : Book). Meets (from freshModel cs .history) (modelOf z)) (sym (e ∙ ap (λ n. stored n) (sym (run-played (record { history = []; model = freshModel }) cs))))
     (same-figures {n = modelOf (stored m)} (table-stored noAccount 64 (m .accounts) (holds cs .lists .room)) refl (demand-3 cs))
+
+-- demand 3 of calls: a fresh book, then any commands by `Book::apply`, each on the book that the one before gave back
+pub calls-meet : (cs : List Command) → Meets (from freshModel cs .history) (modelOf (called (stored freshModel) cs))
+calls-meet cs = stored-meets cs (called (stored freshModel) cs) (called-played fresh-model cs)

@@ -4,3 +4,4 @@ pub mod Keeps
 pub mod Session
 pub mod Played
 pub mod Books
+pub mod Calls
