@@ -1,11 +1,11 @@
 -- What a book's rows say was put down before it is what the ledger that starts from it holds.
-use Prim.Native.Nat.{ℕ, _+_, _≤_, _<_}
+use Prim.Native.Nat.{ℕ, _+_, _≤_}
 use native.Mathlib.Omega.{arith}
 use mathlib.Core.Path.{_≡_, refl, sym, ap, _∙_}
 use mathlib.Core.Bool.{Bool, true, false, cond}
 use mathlib.Core.List.{List, [], _∷_}
 use lib.Dec.{eqb}
-use lib.IntN.{ℤ, pos, _+ℤ_, _-ℤ_, +ℤ-idr, -ℤ-+ℤ-cancel}
+use lib.IntN.{pos, _+ℤ_, _-ℤ_, +ℤ-idr, -ℤ-+ℤ-cancel}
 use borrow.Author.Tests.{eqb-true}
 use Rattle.refusal.specs.Choice.{pick}
 use Rattle.table.specs.Tables.{Found, absent, here, Table, find, row, keys, hit, Is, is-true, is-false, decide}
@@ -17,12 +17,12 @@ use Rattle.negotiation.specs.Latest.{none-asked}
 use Rattle.invoice.specs.declared.Invoice.{Invoice}
 use Rattle.offer.specs.declared.Deal.{Deal}
 use Rattle.rules.specs.Model.{Model}
-use Rattle.history.specs.History.{Deed, creates, counters, Entry, opens, deposits, pays, registers, deals, nothing, Said, termsOf, counterOf, lenderOf, invoiceOf, deedsOn, add, sum, offered, accepted, received, amountsOf, amounts, balance, financed, together}
+use Rattle.history.specs.History.{Deed, creates, Entry, opens, deposits, pays, registers, deals, nothing, Said, termsOf, counterOf, lenderOf, invoiceOf, deedsOn, add, sum, offered, accepted, received, amountsOf, amounts, balance, financed, together}
 use Rattle.history.specs.Since.{counteredOn, deedsBefore, originatorsBefore, saidBefore}
-use Rattle.history.specs.Ledger.{Ledger, offeredOf, originatorOf, bargainOf, start}
+use Rattle.history.specs.Ledger.{Ledger, originatorOf, bargainOf, start}
 use Rattle.history.specs.Reads.{bargainIn, Reads}
 use Rattle.history.specs.Fair.{Sums}
-use Rattle.history.specs.Listed.{Listed, one, accountHere, offerHere}
+use Rattle.history.specs.Listed.{one}
 
 -- ── Offers and originators ────────────────────────────────────────
 -- on o there was a create, and the counter k after it

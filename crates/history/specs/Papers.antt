@@ -23,7 +23,7 @@ shut-most s = go (eqb (seenInvoice s .row .status) 0)
     go true = omega arith
     go false = omega arith
 
-open-pending : (s : Found Invoice) → eqb (seenInvoice s .row .status) 0 ≡ true → shut s ≡ 0
+pub open-pending : (s : Found Invoice) → eqb (seenInvoice s .row .status) 0 ≡ true → shut s ≡ 0
 unfolding shut
 open-pending s e = pick-on 0 1 e
 

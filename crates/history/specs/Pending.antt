@@ -1,11 +1,11 @@
 -- An invoice that is not Pending never is again, whatever is commanded.
-use Prim.Native.Nat.{ℕ, _+_, _≤_}
+use Prim.Native.Nat.{ℕ, _≤_}
 use native.Mathlib.Omega.{arith}
-use mathlib.Core.Path.{_≡_, refl, sym, ap, _∙_}
+use mathlib.Core.Path.{_≡_}
 use mathlib.Core.Bool.{Bool, true, false}
 use mathlib.Core.List.{List, [], _∷_}
 use borrow.Author.Tests.{eq-eqb, ne-eqb}
-use Rattle.refusal.specs.Choice.{pick, pick-on, pick-off}
+use Rattle.refusal.specs.Choice.{pick, pick-off}
 use Rattle.table.specs.Tables.{Found, find}
 use Rattle.invoice.specs.declared.Invoice.{Invoice}
 use Rattle.invoice.specs.Seen.{seenInvoice}
@@ -14,7 +14,7 @@ use Rattle.rules.specs.Model.{Model, invoiceIn}
 use Rattle.soundness.specs.Sound.{ModelSound}
 use Rattle.history.specs.History.{Entry, opens, deposits, pays, registers, deals, nothing, entryOf, settles}
 use Rattle.history.specs.Ledger.{Ledger, noted, sold, post, ledger, shut, start}
-use Rattle.history.specs.Papers.{shut-most}
+use Rattle.history.specs.Papers.{open-pending}
 use Rattle.history.specs.Run.{from}
 use Rattle.history.specs.Demand.{holds-since}
 
@@ -41,11 +41,7 @@ shut-is : (f : Found Invoice) → (seenInvoice f .row .status ≡ 0 → ⊥) →
 unfolding shut
 shut-is f h = pick-off 0 1 (ne-eqb _ _ h)
 
-shut-open : (f : Found Invoice) → seenInvoice f .row .status ≡ 0 → shut f ≡ 0
-unfolding shut
-shut-open f e = pick-on 0 1 (eq-eqb _ _ e)
-
 -- from any sound book, after any commands
 pub never-pending : (s : Model) → ModelSound s → (i : ℕ) → (invoiceIn s i .row .status ≡ 0 → ⊥) → (cs : List Command) → invoiceIn (from s cs .model) i .row .status ≡ 0 → ⊥
 never-pending s y i h cs e =
-    omega (arith, shut-is (find (s .invoices) i) h, sales-stay (start s) (from s cs .history) i, holds-since s y cs .agrees .papers .once i, shut-open (find (from s cs .model .invoices) i) e)
+    omega (arith, shut-is (find (s .invoices) i) h, sales-stay (start s) (from s cs .history) i, holds-since s y cs .agrees .papers .once i, open-pending (find (from s cs .model .invoices) i) (eq-eqb _ _ e))
