@@ -1,7 +1,7 @@
 -- Document 01, modules 4 and 5: what is asked of one account's row, in order, and the row after it.
 use Prim.Native.Nat.{ℕ, _+_}
 use mathlib.Core.Bool.{Bool, not}
-use mathlib.Core.List.{List, [], _∷_}
+use mathlib.Core.List.{[], _∷_}
 use lib.Dec.{leb, ltb, eqb}
 use lib.IntN.{ℤ, _-ℤ_, negℤ}
 use Rattle.money.specs.Range.{inAmount, inTotal, movable}

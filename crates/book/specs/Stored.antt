@@ -1,7 +1,6 @@
 -- The book of the code and the model: what its arrays hold, how a model is stored, and what a method answers.
 use Prim.Native.Nat.{ℕ}
 use mathlib.Core.Bool.{Bool, _&&_}
-use mathlib.Core.List.{[]}
 use Rattle.refusal.specs.Choice.{pick}
 use Rattle.refusal.specs.Refusal.{number, bookUnsound}
 use Rattle.refusal.specs.Rule.{answered}

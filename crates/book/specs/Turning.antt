@@ -3,7 +3,7 @@ use Prim.Native.Nat.{ℕ}
 use mathlib.Core.Path.{_≡_, refl, sym, ap, _∙_}
 use mathlib.Core.Bool.{Bool}
 use Rattle.refusal.specs.Rule.{after, answered}
-use Rattle.table.specs.Tables.{Found, absent, here, full, has}
+use Rattle.table.specs.Tables.{Found, absent, here, has}
 use Rattle.table.specs.Named.{same, findBy}
 use Rattle.table.specs.Storing.{Left}
 use Rattle.table.specs.declared.Named.{Named}

@@ -1,6 +1,6 @@
 -- What `replay` leaves, for any bytes: its book's figures are the sums of the accepted commands of the journal, and it is sound. For the journal of
 -- commands these are its commands, all of them answered.
-use mathlib.Core.Path.{_≡_, refl, sym, ap, _∙_}
+use mathlib.Core.Path.{_≡_, refl, ap, _∙_}
 use mathlib.Core.Bool.{Bool, true, false}
 use mathlib.Core.List.{List, [], _∷_, _++_}
 use Prim.Native.Nat.{ℕ, zero, suc, _≤_}
@@ -21,7 +21,7 @@ use Rattle.history.specs.Run.{from}
 use Rattle.history.specs.Demand.{Meets}
 use Rattle.history.specs.Stored.{stored-meets}
 use Rattle.replay.specs.declared.Outcome.{Outcome}
-use Rattle.replay.specs.Replay.{answerTo, obeyed, atEnd, atHeader, atRecord, Replayed, halted, heard, follow, replayBy, replayFrom, replayOf, outcomeOf}
+use Rattle.replay.specs.Replay.{answerTo, obeyed, atEnd, atHeader, Replayed, halted, heard, follow, replayBy, replayFrom, replayOf, outcomeOf}
 use Rattle.corollary.specs.Journals.{taking, commandsBy, commandsIn, recordsOf, journalOf, AllHeld, none-left, leads, enough-bytes, header-length, commands-of-journal}
 
 -- ── Any bytes ─────────────────────────────────────────────────────

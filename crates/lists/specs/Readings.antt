@@ -1,10 +1,10 @@
 -- What the lists are in other words: a page is a part of the table, a list keeps the order of the ids.
-use mathlib.Core.Path.{_≡_, refl, sym, ap, _∙_}
-use mathlib.Core.Bool.{Bool, true, false, cond, _&&_}
+use mathlib.Core.Path.{_≡_, sym, ap, _∙_}
+use mathlib.Core.Bool.{Bool, true, false, cond}
 use mathlib.Core.List.{List, [], _∷_}
-use Prim.Native.Nat.{ℕ, zero, suc, _+_, _-_, _≤_, _<_}
+use Prim.Native.Nat.{ℕ, suc, _-_, _<_}
 use native.Mathlib.Omega.{arith}
-use lib.ListN.{length, take, drop}
+use lib.ListN.{take, drop}
 use lib.Seq.{take-nil, drop-nil}
 use lib.Dec.{leb, ltb}
 use borrow.Author.Tests.{leb-true, leb-false, ltb-true, ltb-false}
@@ -14,7 +14,7 @@ use Rattle.offer.specs.declared.Offer.{Offer}
 use Rattle.lists.specs.declared.Wanted.the-variants.{Page}
 use Rattle.lists.specs.Pick.{pickFrom}
 use Rattle.lists.specs.Wanted.{paged, wants}
-use Rattle.lists.specs.Listing.{taking, listing}
+use Rattle.lists.specs.Listing.{listing}
 
 page-from : {A : Type 0} (o l j : ℕ) (t : List A) → pickFrom (λ k e. paged o l k) j t ≡ take (l - (j - o)) (drop (o - j) t)
 unfolding pickFrom paged

@@ -12,7 +12,7 @@ use Rattle.terms.specs.declared.Terms.{Terms}
 use Rattle.command.specs.declared.Command.{Command}
 use Rattle.parties.specs.Parties.{partiesBy}
 use Rattle.rules.specs.Model.{Model, invoiceBy, offerBy, offerIn}
-use Rattle.rules.specs.Rules.{lenderOf, originatorOf, settling, concluding, withLenderRound, counteredIn}
+use Rattle.rules.specs.Rules.{lenderOf, originatorOf, concluding, withLenderRound, counteredIn}
 use Rattle.rules.specs.Keys.{Keys, keysBy, keysOf}
 use Rattle.near.specs.declared.Counts.{Counts}
 use Rattle.near.specs.declared.Near.{Near}

@@ -2,12 +2,11 @@
 use Prim.Native.Nat.{ℕ}
 use mathlib.Core.Path.{_≡_, refl, sym, ap, _∙_}
 use mathlib.Core.Bool.{Bool, true, false, not}
-use Rattle.refusal.specs.Choice.{pick, pick-on, pick-off}
+use Rattle.refusal.specs.Choice.{pick}
 use Rattle.refusal.specs.Rule.{Rule, answered}
-use Rattle.table.specs.Tables.{Table, find, adjust}
+use Rattle.table.specs.Tables.{Table, adjust}
 use Rattle.table.specs.declared.Named.the-variants.{Id}
 use Rattle.account.specs.declared.Account.{Account}
-use Rattle.account.specs.declared.SeenAccount.{SeenAccount}
 use Rattle.invoice.specs.Invoice.{financed}
 use Rattle.invoice.specs.Seen.{putInvoice}
 use Rattle.offer.specs.Offer.{settledDeal}

@@ -1,6 +1,6 @@
 -- Document 01, module 3: the rounds of an offer, where its negotiation stands, what stands against a round, a round added, agreement. The limit of rounds is a parameter.
 use Prim.Native.Nat.{ℕ, zero, suc, _+_, min}
-use mathlib.Core.Bool.{Bool, true, false, not, _&&_, _||_}
+use mathlib.Core.Bool.{Bool, false, not, _&&_, _||_}
 use mathlib.Core.List.{List, [], _∷_}
 use lib.ListN.{getD, set, replicate}
 use lib.Dec.{leb, ltb, eqb}

@@ -24,7 +24,7 @@ use Rattle.offer.specs.declared.Deal.{Deal}
 use Rattle.offer.specs.declared.SeenDeal.{SeenDeal}
 use Rattle.offer.specs.Offer.{pending, withFunded, withStatus, withRepaid, withTerms, settledDeal, amendedDeal, counteredDeal}
 use Rattle.offer.specs.Rules.{withdrawOf, rejectOf, amendChecks, counterChecks, standing, outcomeAt, closeOf, scheduleOf, statusUpdateOf, repaidUpdateOf}
-use Rattle.offer.specs.Laws.{DealKept, Ranges, kept-ranges, offer-kept, negotiation-kept, schedule-kept}
+use Rattle.offer.specs.Laws.{DealKept, kept-ranges, offer-kept, negotiation-kept, schedule-kept}
 
 -- ── Settlement ────────────────────────────────────────────────────
 pub settled-kept : (now : ℕ) (d : Deal) → DealKept d → DealKept (settledDeal now d)

@@ -1,19 +1,18 @@
 -- What a sound book holds that the queries go by. Assumes nothing.
-use Prim.Native.Nat.{ℕ, zero, suc, _≤_, _<_}
+use Prim.Native.Nat.{ℕ, zero, suc}
 use native.Mathlib.Omega.{arith}
 use mathlib.Core.Path.{_≡_, refl, sym, ap, _∙_}
 use mathlib.Core.Bool.{Bool, true, false, _&&_, _||_}
 use mathlib.Core.List.{List, [], _∷_, map}
 use lib.ListN.{length, getD}
 use lib.Dec.{leb}
-use Rattle.refusal.specs.Choice.{pick, pick-on, pick-off}
+use Rattle.refusal.specs.Choice.{pick-on, pick-off}
 use Rattle.money.specs.Range.{inAmount, inTotal}
 use Rattle.money.specs.Facts.{both}
 use Rattle.terms.specs.Terms.{termsOk}
 use Rattle.terms.specs.Schedule.{scheduleOk, scheduleZero}
 use Rattle.terms.specs.Due.{numberOf, dueOf, dueArguments}
 use Rattle.terms.specs.declared.Terms.{Terms}
-use Rattle.table.specs.Tables.{Table}
 use Rattle.table.specs.Shelf.{tableOf}
 use Rattle.table.specs.Columns.{getD-join}
 use Rattle.table.specs.Parts.{first-column}
@@ -23,7 +22,6 @@ use Rattle.table.specs.TestLaws.{used}
 use Rattle.negotiation.specs.Rounds.{noNegotiation}
 use Rattle.offer.specs.Offer.{noOffer, noSchedule, noDeal, dealSound, dealZero}
 use Rattle.offer.specs.Laws.{DealKept, kept-ranges}
-use Rattle.offer.specs.declared.Offer.{Offer}
 use Rattle.offer.specs.declared.Deal.{Deal}
 use Rattle.settings.specs.Settings.{settingsSound}
 use Rattle.settings.specs.Totals.{totalsSound}

@@ -1,9 +1,9 @@
 -- Document 01's number and values for each case of each answer
 use Prim.Native.Nat.{ℕ}
 use mathlib.Core.Bool.{Bool, not}
-use mathlib.Core.List.{List, [], _∷_}
+use mathlib.Core.List.{[], _∷_}
 use Rattle.refusal.specs.Refusal.{number, _gives_, notFound, bookUnsound}
-use Rattle.refusal.specs.Rule.{Rule, answered}
+use Rattle.refusal.specs.Rule.{answered}
 use Rattle.negotiation.specs.declared.Negotiation.{Negotiation}
 use Rattle.lists.specs.Listing.{Reply, inOrder}
 use Rattle.query.specs.declared.NumberAnswer.{NumberAnswer}

@@ -1,10 +1,10 @@
 -- What the walk over a journal goes by: where its header and its records lead. Assumes nothing.
-use mathlib.Core.Path.{_≡_, refl, sym, ap, _∙_}
+use mathlib.Core.Path.{_≡_, refl, ap}
 use mathlib.Core.Bool.{Bool, true, false, _&&_}
 use mathlib.Core.List.{List}
 use Prim.Native.Nat.{ℕ, _≤_, _<_}
 use native.Mathlib.Omega.{arith}
-use lib.Dec.{eqb, leb}
+use lib.Dec.{eqb}
 use lib.ListN.{length, drop}
 use borrow.Author.Tests.{leb-true}
 use Rattle.refusal.specs.Choice.{pick}
@@ -12,7 +12,7 @@ use Rattle.refusal.specs.Refusal.{number, journalMalformed}
 use Rattle.wire.specs.Field.{begins, numberAt}
 use Rattle.wire.specs.FieldLaws.{and-left}
 use Rattle.command.specs.declared.Command.{Command}
-use Rattle.journal.specs.Answers.{Reading, found, refused, ended}
+use Rattle.journal.specs.Answers.{found, refused}
 use Rattle.journal.specs.Format.{openingOf, readAt}
 use Rattle.journal.specs.Ahead.{Goes, goes}
 

@@ -21,7 +21,7 @@ use Rattle.offer.specs.Rules.{acceptChecks, amendChecks, counterChecks}
 use Rattle.offer.specs.Seen.{seenDeal}
 use Rattle.offer.specs.declared.Deal.{Deal}
 use Rattle.rules.specs.Model.{Model, accountIn, invoiceIn, offerIn, paperOf}
-use Rattle.rules.specs.Rules.{settling, concluding, agreeing, accepting, amending, countering, withLenderRound, amendedIn, counteredIn, lenderOf, originatorOf, termsIn}
+use Rattle.rules.specs.Rules.{concluding, agreeing, amending, countering, withLenderRound, amendedIn, counteredIn, lenderOf, originatorOf, termsIn}
 
 -- agreement or none
 pub agrees-on : {b : Bool} (now o : ℕ) (m : Model) → b ≡ true → agreeing b now o m ≡ concluding now o m

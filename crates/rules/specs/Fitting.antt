@@ -12,7 +12,7 @@ use Rattle.invoice.specs.declared.Invoice.{Invoice}
 use Rattle.offer.specs.declared.Deal.{Deal}
 use Rattle.command.specs.Shape.{Shape, opens, account, registers, cancels, creates, offer, accepts, amends, counters, totals, settings}
 use Rattle.rules.specs.Model.{Model, withAccounts, withInvoices, withOffers}
-use Rattle.rules.specs.Rules.{gateChecks, opening, registering, creating, settling, concluding, agreeing, ruled, shaped}
+use Rattle.rules.specs.Rules.{gateChecks, settling, concluding, agreeing, ruled, shaped}
 use Rattle.rules.specs.Rooms.{open-room, register-room, offer-room}
 
 pub record Fits (m : Model) : Type 0 where

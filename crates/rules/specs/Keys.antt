@@ -1,6 +1,5 @@
 -- The keys of the rows that a command sees. They do not depend on what the rows hold, but for the invoice and the parties of its offer.
 use Prim.Native.Nat.{ℕ}
-use Rattle.table.specs.Tables.{full}
 use Rattle.table.specs.declared.Named.{Named}
 use Rattle.command.specs.Names.{namesOf, paperKey, otherKey}
 use Rattle.command.specs.declared.Command.{Command}

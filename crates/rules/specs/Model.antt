@@ -1,6 +1,6 @@
 -- The book as tables of rows by id with its totals and settings; what is looked up in it, and its parts put anew.
 use Prim.Native.Nat.{ℕ}
-use mathlib.Core.List.{List, []}
+use mathlib.Core.List.{[]}
 use Rattle.refusal.specs.Rule.{Rule}
 use Rattle.table.specs.Tables.{Table, find, adjust}
 use Rattle.table.specs.Named.{findBy}

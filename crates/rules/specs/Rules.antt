@@ -6,7 +6,7 @@ use lib.IntN.{ℤ}
 use Rattle.refusal.specs.Choice.{pick}
 use Rattle.refusal.specs.Refusal.{Check, _gives_, paused, notFound, alreadyExists, noRoom}
 use Rattle.refusal.specs.Rule.{Rule, next, sure}
-use Rattle.table.specs.Tables.{find, adjust, insert, full}
+use Rattle.table.specs.Tables.{adjust, insert, full}
 use Rattle.terms.specs.Terms.{sameTerms}
 use Rattle.terms.specs.declared.Terms.{Terms}
 use Rattle.negotiation.specs.Rounds.{roundLimit, agreesOf}

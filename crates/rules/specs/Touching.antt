@@ -1,6 +1,6 @@
 -- What every command touches: of accounts the rows at its two keys at most, of invoices and offers the row at one, or it lets one in at its first
 use Prim.Native.Nat.{ℕ}
-use mathlib.Core.Path.{_≡_, refl, sym, ap, subst, _∙_}
+use mathlib.Core.Path.{_≡_, refl, sym, subst, _∙_}
 use mathlib.Core.Bool.{Bool, true, false}
 use lib.Dec.{eqb}
 use borrow.Author.Tests.{eqb-true}
@@ -16,11 +16,11 @@ use Rattle.invoice.specs.declared.Invoice.{Invoice}
 use Rattle.offer.specs.declared.Deal.{Deal}
 use Rattle.offer.specs.Rules.{acceptChecks}
 use Rattle.terms.specs.declared.Terms.{Terms}
-use Rattle.command.specs.Shape.{OnAccount, deposits, pays, approves, lenderRepaid, blacklists, OnOffer, withdraws, rejects, closes, schedules, marks, repaid, OnSettings, pauses, waits, appoints, seats, Shape, opens, account, registers, cancels, creates, offer, accepts, amends, counters, totals, settings, shapeOf}
-use Rattle.command.specs.Names.{accountNames, offerNames, settingsNames, namesFor}
+use Rattle.command.specs.Shape.{OnAccount, deposits, pays, approves, lenderRepaid, blacklists, OnOffer, withdraws, rejects, closes, schedules, marks, repaid, Shape, opens, account, registers, cancels, creates, offer, accepts, amends, counters, totals, settings, shapeOf}
+use Rattle.command.specs.Names.{accountNames, offerNames, namesFor}
 use Rattle.command.specs.declared.Command.{Command}
 use Rattle.rules.specs.Model.{Model, accountIn, offerIn, paperOf}
-use Rattle.rules.specs.Rules.{gateChecks, settling, concluding, agreeing, accepting, amending, countering, amendedIn, counteredIn, lenderOf, originatorOf, termsIn, accountRule, offerRule, settingsRule, ruled, commanded}
+use Rattle.rules.specs.Rules.{gateChecks, settling, concluding, agreeing, amending, countering, amendedIn, counteredIn, lenderOf, originatorOf, termsIn, accountRule, ruled, commanded}
 use Rattle.rules.specs.Keys.{keysIn, keysOf}
 use Rattle.rules.specs.Rooms.{open-room, register-room, offer-room}
 use Rattle.rules.specs.Agreeing.{accept-caller, amend-there, amend-first, counter-there, counter-first, amend-lender, amend-invoice, amend-originator, counter-lender, counter-invoice, counter-originator}

@@ -1,6 +1,6 @@
 -- The table of invoices: the rows by id that its arrays hold, how a table is stored in them, and the test of a sound one.
 use Prim.Native.Nat.{ℕ}
-use mathlib.Core.Bool.{Bool, true, false, _&&_}
+use mathlib.Core.Bool.{Bool, _&&_}
 use mathlib.Core.List.{List}
 use Rattle.table.specs.Tables.{Table}
 use Rattle.table.specs.Shelf.{tableOf, shelve, Shelf}

@@ -1,10 +1,10 @@
 -- The loop that lets a row into the table of offers: each column moves up by one, from the count down to the row's place
 use Prim.Native.Nat.{ℕ, suc, _+_, _≤_, _<_}
 use native.Mathlib.Omega.{arith}
-use mathlib.Core.Path.{_≡_, refl, sym, ap, _∙_}
+use mathlib.Core.Path.{_≡_, refl, ap, _∙_}
 use mathlib.Core.List.{List}
 use lib.ListN.{length, getD, set, take, List·getD-map}
-use Rattle.table.specs.Tables.{held, insert, Room}
+use Rattle.table.specs.Tables.{held, insert}
 use Rattle.table.specs.Find.{findIn}
 use Rattle.table.specs.declared.Found.the-variants.{Absent}
 use Rattle.table.specs.Padded.{padded, pad-rest}

@@ -5,9 +5,9 @@ use mathlib.Core.Path.{_≡_, refl, sym, ap, subst, _∙_}
 use mathlib.Core.Bool.{Bool, true, false, cond, not, _&&_}
 use lib.ListN.{take, set, getD}
 use lib.Seq.{set-getD}
-use Rattle.table.specs.Tables.{Found, absent, here, find, has, Room}
+use Rattle.table.specs.Tables.{Found, here, find, has, Room}
 use Rattle.table.specs.Find.{findIn}
-use Rattle.table.specs.Named.{idOf, findBy, putBy}
+use Rattle.table.specs.Named.{findBy, putBy}
 use Rattle.table.specs.Spots.{spotOf, spotBy, atSpot}
 use Rattle.table.specs.SpotLaws.{spot-put, has-spot, on-spot, off-spot, written-new}
 use Rattle.table.specs.NamedLaws.{never, fine-by}

@@ -1,19 +1,13 @@
 -- The book of the code: a book passes the test just where its model is sound, and every command leaves it so
-use Prim.Native.Nat.{ℕ}
-use mathlib.Core.Path.{_≡_, refl, sym, ap, _∙_}
-use mathlib.Core.Bool.{Bool, true, false, _&&_}
+use mathlib.Core.Path.{_≡_, ap, _∙_}
+use mathlib.Core.Bool.{true}
 use mathlib.Core.List.{List, [], _∷_}
-use Rattle.refusal.specs.Choice.{pick, pick-on}
-use Rattle.refusal.specs.Refusal.{first}
+use Rattle.refusal.specs.Choice.{pick-on}
 use Rattle.refusal.specs.Rule.{answered}
-use Rattle.table.specs.Sound.{All}
-use Rattle.account.specs.Account.{accountSound}
-use Rattle.invoice.specs.Invoice.{invoiceSound}
-use Rattle.offer.specs.Laws.{DealKept}
 use Rattle.shelves.specs.Sized.{Sized}
-use Rattle.shelves.specs.Accounts.{accountsOf, storedAccounts, accountsTest}
-use Rattle.shelves.specs.Invoices.{invoicesOf, storedInvoices, invoicesTest}
-use Rattle.shelves.specs.Offers.{dealsOf, storedDeals, dealsTest, WholeDeals}
+use Rattle.shelves.specs.Accounts.{storedAccounts, accountsTest}
+use Rattle.shelves.specs.Invoices.{storedInvoices, invoicesTest}
+use Rattle.shelves.specs.Offers.{storedDeals, dealsTest, WholeDeals}
 use Rattle.shelves.specs.Laws.{accounts-keeping, accounts-sound, accounts-pass, invoices-keeping, invoices-sound, invoices-pass}
 use Rattle.shelves.specs.OfferLaws.{deals-keeping, deals-sound, deals-pass}
 use Rattle.command.specs.declared.Command.{Command}
@@ -23,7 +17,7 @@ use Rattle.rules.specs.Rules.{commanded}
 use Rattle.book.specs.Stored.{modelOf, stored, stepOf, bookTest, answers}
 use Rattle.book.specs.Shelving.{fits-of}
 use Rattle.book.specs.Tested.{tests-of, shelved-of}
-use Rattle.soundness.specs.Sound.{ModelSound, fresh-model}
+use Rattle.soundness.specs.Sound.{ModelSound}
 use Rattle.soundness.specs.Keeps.{stays-sound}
 use Rattle.soundness.specs.Played.{played}
 

@@ -1,48 +1,41 @@
 -- Every accepted command leaves a sound model sound
 use Prim.Native.Nat.{ℕ}
-use mathlib.Core.Path.{_≡_, refl, sym, ap, _∙_}
+use mathlib.Core.Path.{_≡_, refl}
 use mathlib.Core.Bool.{Bool, true, false}
-use mathlib.Core.List.{List, [], _∷_, _++_}
-use lib.IntN.{ℤ}
+use mathlib.Core.List.{_++_}
 use lib.Dec.{eqb}
 use borrow.Author.Tests.{not-false, eqb-true}
 use Rattle.refusal.specs.Choice.{pick, pick-on, pick-off}
 use Rattle.refusal.specs.Refusal.{first}
 use Rattle.refusal.specs.Rule.{Rule, after, passed, both-pass}
 use Rattle.money.specs.Range.{inAmount}
-use Rattle.table.specs.Tables.{Found, absent, here, Table, find, adjust, full}
-use Rattle.table.specs.Sound.{All, all-insert}
+use Rattle.table.specs.Tables.{here, full}
+use Rattle.table.specs.Sound.{all-insert}
 use Rattle.terms.specs.Terms.{termsOk}
 use Rattle.terms.specs.declared.Terms.{Terms}
 use Rattle.account.specs.Account.{noAccount, accountSound}
 use Rattle.account.specs.declared.Account.{Account}
-use Rattle.account.specs.Rules.{debitOf, creditOf, acceptOf, offerOf, reofferOf}
+use Rattle.account.specs.Rules.{offerOf, reofferOf}
 use Rattle.account.specs.Laws as Account
 use Rattle.invoice.specs.Invoice.{invoiceOf, invoiceSound}
 use Rattle.invoice.specs.declared.Invoice.{Invoice}
 use Rattle.invoice.specs.Laws as Invoice
 use Rattle.offer.specs.declared.Deal.{Deal}
 use Rattle.offer.specs.Offer.{newDeal}
-use Rattle.offer.specs.Rules.{createChecks, acceptChecks, amendChecks, counterChecks, agreementChecks}
+use Rattle.offer.specs.Rules.{createChecks, acceptChecks, amendChecks, counterChecks}
 use Rattle.offer.specs.Laws.{DealKept, new-kept}
 use Rattle.offer.specs.Kept as Deal
 use Rattle.settings.specs.declared.Settings.{Settings}
-use Rattle.settings.specs.declared.Totals.{Totals}
 use Rattle.settings.specs.Settings.{settingsSound, adminPasses, isRepayer}
-use Rattle.settings.specs.Totals.{totalsSound}
 use Rattle.settings.specs.Laws as Settings
-use Rattle.parties.specs.Settlement.{seenAt, onRow, settleAccounts}
-use Rattle.account.specs.Seen.{seenAccount}
-use Rattle.invoice.specs.Seen.{seenInvoice}
-use Rattle.offer.specs.Seen.{seenDeal}
 use Rattle.command.specs.declared.Command.{Command}
 use Rattle.command.specs.Shape.{OnAccount, deposits, pays, approves, lenderRepaid, blacklists, OnOffer, withdraws, rejects, closes, schedules, marks, repaid, OnSettings, pauses, waits, appoints, seats, Shape, opens, account, registers, cancels, creates, offer, accepts, amends, counters, totals, settings, shapeOf}
-use Rattle.rules.specs.Model.{Model, withAccounts, withInvoices, withOffers, withTotals, withSettings, accountIn, invoiceIn, offerIn, paperOf, onAccount, onInvoice, onOffer, onTotals, onSettings}
+use Rattle.rules.specs.Model.{Model, accountIn, invoiceIn, offerIn, paperOf, onAccount, onOffer}
 use Rattle.rules.specs.Rules.{gateChecks, creating, termsIn, amendedIn, counteredIn, amending, countering, accountRule, offerRule, settingsRule, ruled, commanded}
 use Rattle.table.specs.Keeping.{fine-adjust}
-use Rattle.rules.specs.Fitting.{Fits, fits-ruled}
-use Rattle.soundness.specs.Sound.{ModelSound, put-sound}
-use Rattle.soundness.specs.Parts.{Good, account-put, invoice-put, deal-put, settled-sound, agreed-sound, with-accounts, with-invoices, with-offers, with-totals, with-settings}
+use Rattle.rules.specs.Fitting.{fits-ruled}
+use Rattle.soundness.specs.Sound.{ModelSound}
+use Rattle.soundness.specs.Parts.{account-put, invoice-put, deal-put, settled-sound, agreed-sound, with-accounts, with-invoices, with-offers, with-totals, with-settings}
 
 -- what an amendment and a counter leave before they agree
 module _ {m : Model} (s : ModelSound m) (now a o : ℕ) (t : Terms) (n : ℕ) where

@@ -1,43 +1,35 @@
 -- Rows put anew and settlement leave a sound model sound
 use Prim.Native.Nat.{ℕ}
-use mathlib.Core.Path.{_≡_, refl, sym, ap, _∙_}
+use mathlib.Core.Path.{_≡_, refl}
 use mathlib.Core.Bool.{Bool, true, false}
-use mathlib.Core.List.{List, [], _∷_, _++_}
-use lib.IntN.{ℤ}
-use lib.Dec.{eqb}
-use borrow.Author.Tests.{not-false, eqb-true}
-use Rattle.refusal.specs.Choice.{pick, pick-on, pick-off}
+use Rattle.refusal.specs.Choice.{pick}
 use Rattle.refusal.specs.Refusal.{first}
-use Rattle.refusal.specs.Rule.{Rule, after, passed, both-pass}
-use Rattle.money.specs.Range.{inAmount}
-use Rattle.table.specs.Tables.{Found, absent, here, Table, find, adjust, full}
-use Rattle.table.specs.Sound.{All, all-insert}
-use Rattle.terms.specs.Terms.{termsOk}
+use Rattle.refusal.specs.Rule.{Rule, passed, both-pass}
+use Rattle.table.specs.Tables.{Table, find, adjust}
+use Rattle.table.specs.Sound.{All}
 use Rattle.terms.specs.declared.Terms.{Terms}
-use Rattle.account.specs.Account.{noAccount, accountSound}
+use Rattle.account.specs.Account.{accountSound}
 use Rattle.account.specs.declared.Account.{Account}
-use Rattle.account.specs.Rules.{debitOf, creditOf, acceptOf, offerOf, reofferOf}
+use Rattle.account.specs.Rules.{debitOf, creditOf, acceptOf}
 use Rattle.account.specs.Laws as Account
-use Rattle.invoice.specs.Invoice.{invoiceOf, invoiceSound}
+use Rattle.invoice.specs.Invoice.{invoiceSound}
 use Rattle.invoice.specs.declared.Invoice.{Invoice}
 use Rattle.invoice.specs.Laws as Invoice
 use Rattle.offer.specs.declared.Deal.{Deal}
-use Rattle.offer.specs.Offer.{newDeal}
-use Rattle.offer.specs.Rules.{createChecks, acceptChecks, amendChecks, counterChecks, agreementChecks}
-use Rattle.offer.specs.Laws.{DealKept, new-kept}
+use Rattle.offer.specs.Rules.{agreementChecks}
+use Rattle.offer.specs.Laws.{DealKept}
 use Rattle.offer.specs.Kept as Deal
 use Rattle.settings.specs.declared.Settings.{Settings}
 use Rattle.settings.specs.declared.Totals.{Totals}
-use Rattle.settings.specs.Settings.{settingsSound, adminPasses, isRepayer}
+use Rattle.settings.specs.Settings.{settingsSound}
 use Rattle.settings.specs.Totals.{totalsSound}
 use Rattle.settings.specs.Laws as Settings
 use Rattle.parties.specs.Settlement.{seenAt, onRow, settleAccounts}
 use Rattle.account.specs.Seen.{seenAccount}
 use Rattle.invoice.specs.Seen.{seenInvoice}
 use Rattle.offer.specs.Seen.{seenDeal}
-use Rattle.rules.specs.Model.{Model, withAccounts, withInvoices, withOffers, withTotals, withSettings, accountIn, invoiceIn, offerIn, paperOf, onAccount, onInvoice, onOffer, onTotals, onSettings}
-use Rattle.rules.specs.Rules.{gateChecks, opening, registering, creating, settling, concluding, agreeing, termsIn, lenderOf, originatorOf, amendedIn, counteredIn, amending, countering, commanded}
-use Rattle.table.specs.Keeping.{fine-adjust}
+use Rattle.rules.specs.Model.{Model, withAccounts, withInvoices, withOffers, withTotals, withSettings, accountIn, offerIn, paperOf}
+use Rattle.rules.specs.Rules.{settling, concluding, agreeing, termsIn, lenderOf, originatorOf}
 use Rattle.rules.specs.Fitting.{Fits, fits-settled}
 use Rattle.soundness.specs.Sound.{ModelSound, put-sound}
 

@@ -6,12 +6,10 @@ use lib.IntN.{ℤ, pos}
 use Rattle.refusal.specs.Choice.{pick}
 use Rattle.refusal.specs.Refusal.{first}
 use Rattle.refusal.specs.Rule.{after}
-use Rattle.money.specs.Range.{inAmount}
 use Rattle.table.specs.Tables.{find, adjust, insert}
 use Rattle.terms.specs.Terms.{termsOk, sameTerms}
 use Rattle.terms.specs.declared.Terms.{Terms}
 use Rattle.negotiation.specs.Rounds.{deadlineOf, statusOf, addedOf, acceptedOf, latestBelow, matches, agreesOf}
-use Rattle.account.specs.declared.Account.{Account}
 use Rattle.offer.specs.Offer.{expired, settledDeal, amendedDeal, counteredDeal}
 use Rattle.command.specs.Shape.{shapeOf}
 use Rattle.command.specs.Names.{accountNames, offerNames, settingsNames, namesFor}

@@ -1,7 +1,7 @@
 -- What a sound book's model is: tables that fit, every row sound, totals and settings in range
 use Prim.Native.Nat.{ℕ}
 use native.Mathlib.Omega.{arith}
-use mathlib.Core.Path.{_≡_, refl, sym, ap, _∙_}
+use mathlib.Core.Path.{_≡_, refl}
 use mathlib.Core.Bool.{true}
 use Rattle.table.specs.Tables.{Found, absent, here, Table, find, adjust, keys}
 use Rattle.table.specs.TableLaws.{adjust-absent}

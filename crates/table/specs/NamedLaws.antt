@@ -1,17 +1,17 @@
 -- What is found after a named row was put. Over any row type.
 use Prim.Native.Nat.{ℕ}
 use native.Mathlib.Omega.{arith}
-use mathlib.Core.Path.{_≡_, refl, sym, ap, _∙_}
+use mathlib.Core.Path.{_≡_, refl, sym, ap}
 use mathlib.Core.Bool.{Bool, true, false, cond}
 use lib.Dec.{eqb}
 use borrow.Author.Tests.{eqb-true, eqb-false, eq-eqb, ne-eqb}
-use Rattle.table.specs.Tables.{Found, absent, here, Table, find, keys, has, fmap}
+use Rattle.table.specs.Tables.{Found, here, Table, find, keys, fmap}
 use Rattle.table.specs.TableLaws.{find-adjust}
 use Rattle.table.specs.SameId.{find-put, put-twice, adjust-back}
 use Rattle.table.specs.Rising.{Rises}
 use Rattle.table.specs.Sound.{rises-adjust}
 use Rattle.table.specs.Keeping.{Fine, fine-adjust}
-use Rattle.table.specs.Named.{idOf, isId, same, findBy, putBy}
+use Rattle.table.specs.Named.{isId, same, findBy, putBy}
 use Rattle.table.specs.declared.Named.{Named}
 use Rattle.table.specs.declared.Named.the-variants.{Nothing, Id}
 

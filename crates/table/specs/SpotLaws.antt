@@ -6,7 +6,7 @@ use mathlib.Core.Bool.{Bool, true, false, cond}
 use mathlib.Core.List.{List, [], _∷_}
 use lib.ListN.{length, getD, set, take}
 use lib.Seq.{set-getD}
-use Rattle.table.specs.Tables.{Found, absent, here, Table, find, has}
+use Rattle.table.specs.Tables.{Found, absent, here, find, has}
 use Rattle.table.specs.Find.{findIn}
 use Rattle.table.specs.Seek.{absent-place}
 use Rattle.table.specs.Shelf.{tableOf, Shelf, shelve}

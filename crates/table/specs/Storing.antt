@@ -1,12 +1,12 @@
 -- What a turn leaves of one table: the rows that it saw are put back, and one is let in where it came. Over any row type and any struct.
 use Prim.Native.Nat.{ℕ}
-use mathlib.Core.Path.{_≡_, refl, sym, ap, _∙_}
+use mathlib.Core.Path.{_≡_, sym, ap, _∙_}
 use mathlib.Core.Bool.{Bool, true, false, not, _&&_}
 use Rattle.table.specs.Tables.{Found, here, Table, insert, has, Room}
 use Rattle.table.specs.Keeping.{Fine, Keeping}
 use Rattle.table.specs.Named.{idOf, findBy, putBy}
 use Rattle.table.specs.NamedLaws.{fine-by, put-again}
-use Rattle.table.specs.Touching.{Touched, Grown, laid, grown}
+use Rattle.table.specs.Touching.{Touched, laid, grown}
 use Rattle.table.specs.declared.Named.{Named}
 use Rattle.table.specs.declared.Named.the-variants.{Id}
 

@@ -12,7 +12,6 @@ use Rattle.table.specs.NamedLaws.{never, same-swap, find-by, rises-by, p
 use Rattle.table.specs.Alike as Alike
 use Rattle.table.specs.declared.Named.{Named}
 use Rattle.table.specs.declared.Named.the-variants.{Nothing, Id}
-use lib.Dec.{eqb}
 
 -- u has t's ids, and t's rows but at a and b
 pub record Puts {A : Type 0} (t u : Table A) (a b : Named) : Type 0 where

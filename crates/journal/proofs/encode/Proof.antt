@@ -1,7 +1,4 @@
-use mathlib.Core.Path.{_≡_, ap, _∙_}
-use mathlib.Core.List.{List}
 use borrow.Author.Needs.{needs}
-use Rattle.journal.specs.Format.{bytesFor}
 use Rattle.journal.specs.WriteLaws.{command-parts}
 use Rattle.journal.proofs.encode.Statement.{statement}
 use Rattle.journal.proofs.encode.Tie as tie

@@ -6,7 +6,7 @@ use lib.ListN.{length}
 use borrow.Author.Needs.{needs}
 use Rattle.wire.specs.Field.{placed, headOf, bytesOf}
 use Rattle.wire.specs.PlaceLaws.{laid-in, length-placed}
-use Rattle.journal.specs.Table.{fieldsOf, listed}
+use Rattle.journal.specs.Table.{fieldsOf}
 use Rattle.journal.specs.TableLaws.{few}
 use Rattle.journal.specs.Format.{recordOf}
 use Rattle.journal.specs.WriteLaws.{stored, parts-placed, length-record, short, fitting}

@@ -1,55 +1,39 @@
-use mathlib.Core.Path.{_≡_, ap, _∙_}
+use mathlib.Core.Path.{ap, _∙_}
 use Rattle.money.specs.Range.{magnitudeOf}
 use Rattle.money.specs.Facts.{back}
 use Rattle.lines.specs.Lines.{accountLine}
 use Rattle.sheet.specs.SheetLaws.{next, retext}
-use Rattle.sheet.specs.Decimal.{numbersOf}
 use borrow.Author.Needs.{needs}
 use Rattle.lines.proofs.put_account.Statement.{statement}
 use Rattle.lines.proofs.put_account.Tie as tie
-use Rattle.lines.proofs.put_account.Reads as reads
-use Rattle.lines.proofs.put_account.Lts as lts
-use Rattle.money.proofs.magnitude.Reads as magnitude-reads
-use Rattle.sheet.proofs.put.Reads as put-reads
-use Rattle.sheet.proofs.put_numbers.Reads as put-numbers-reads
 
--- src/lib.rt:31:39
 slice-aggregate-put : tie.Need-slice-aggregate-put
 slice-aggregate-put c = search needs
 
--- src/lib.rt:31:9
 put-requires : tie.Need-put-requires
 put-requires c κs = search needs
 
--- src/lib.rt:32:9
 magnitude-requires : tie.Need-magnitude-requires
 magnitude-requires c κs = search needs
 
--- src/lib.rt:33:9
 magnitude-requires-2 : tie.Need-magnitude-requires-2
 magnitude-requires-2 c κs = search needs
 
--- src/lib.rt:34:9
 magnitude-requires-3 : tie.Need-magnitude-requires-3
 magnitude-requires-3 c κs = search needs
 
--- src/lib.rt:35:9
 magnitude-requires-4 : tie.Need-magnitude-requires-4
 magnitude-requires-4 c κs = search needs
 
--- src/lib.rt:37:37
 slice-aggregate-put-numbers : tie.Need-slice-aggregate-put-numbers
 slice-aggregate-put-numbers c = search needs
 
--- src/lib.rt:37:5
 put-numbers-requires : tie.Need-put-numbers-requires
 put-numbers-requires c κs = search needs
 
--- src/lib.rt:28:1
 same-length : tie.Need-same-length
 same-length c = search needs
 
--- src/lib.rt:28:1
 returns : tie.Need-returns
 unfolding accountLine
 returns c =

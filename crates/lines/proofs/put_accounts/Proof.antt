@@ -1,8 +1,7 @@
-use mathlib.Core.Path.{_≡_, refl, sym, ap, _∙_}
-use Prim.Native.Nat.{_≤_, _<_, _-_}
+use mathlib.Core.Path.{_≡_, sym, ap}
+use Prim.Native.Nat.{_≤_, _-_}
 use native.Mathlib.Omega.{arith}
 use borrow.Author.Needs.{needs}
-use lib.ListN.{length}
 use Rattle.table.specs.Shelf.{tableOf}
 use Rattle.account.specs.Account.{noAccount}
 use Rattle.sheet.specs.Sheet.{Wrote}
@@ -11,9 +10,6 @@ use Rattle.lines.specs.Lines.{accountLines}
 use Rattle.lines.specs.LineLaws.{lines-none, lines-turn, table-all}
 use Rattle.lines.proofs.put_accounts.Statement.{statement}
 use Rattle.lines.proofs.put_accounts.Tie as tie
-use Rattle.lines.proofs.put_accounts.Reads as reads
-use Rattle.lines.proofs.put_accounts.Lts as lts
-use Rattle.lines.proofs.put_account.Reads as put-account-reads
 
 abbrev Inv-loop : tie.InvT-loop
 Inv-loop out₀ ink n ids rows p₀ i₀ out p i = (i ≤ 64) × (i ≤ n) × Wrote ink (accountLines (tableOf ids rows i)) out₀ p₀ out p
@@ -21,59 +17,46 @@ Inv-loop out₀ ink n ids rows p₀ i₀ out p i = (i ≤ 64) × (i ≤ n) × Wr
 abbrev μ-loop : tie.MeasureT-loop
 μ-loop out₀ ink n ids rows p₀ i₀ out p i = 64 - i
 
--- src/lib.rt:46:5
 loop-holds : tie.Need-loop-holds Inv-loop μ-loop
 loop-holds c = (search needs, search needs, retext (none _ _ _) (sym (lines-none _ _)))
 
--- src/lib.rt:48:13
 same-length : tie.Need-same-length Inv-loop μ-loop
 same-length c = kept (c .before .before .loop .inv .2)
 
--- src/lib.rt:48:13
 returns : tie.Need-returns Inv-loop μ-loop
 returns c =
     let e : c .before .before .loop .i ≡ c .before .before .before .before .args .n = omega arith in
     rw e at (c .before .before .loop .inv .2)
 
--- src/lib.rt:50:38
 mul-put-account : tie.Need-mul-put-account Inv-loop μ-loop
 mul-put-account c = search needs
 
--- src/lib.rt:50:38
 array-read-put-account : tie.Need-array-read-put-account Inv-loop μ-loop
 array-read-put-account c = search needs
 
--- src/lib.rt:50:46
 mul-put-account-2 : tie.Need-mul-put-account-2 Inv-loop μ-loop
 mul-put-account-2 c = search needs
 
--- src/lib.rt:50:46
 array-copy-out-put-account : tie.Need-array-copy-out-put-account Inv-loop μ-loop
 array-copy-out-put-account c = search needs
 
--- src/lib.rt:50:9
 put-account-requires : tie.Need-put-account-requires Inv-loop μ-loop
 put-account-requires c κs = search needs
 
--- src/lib.rt:51:9
 add-i : tie.Need-add-i Inv-loop μ-loop
 add-i c = search needs
 
--- src/lib.rt:46:5
 loop-less : tie.Need-loop-less Inv-loop μ-loop
 loop-less c = search needs
 
--- src/lib.rt:46:5
 loop-again : tie.Need-loop-again Inv-loop μ-loop
 loop-again c =
     let l = c .before .before .before .before .before .before .before .loop in
     (search needs, search needs, retext (next (l .inv .2) (c .before .before .put-account .ensures)) (sym (lines-turn noAccount _ _ (l .i) (search needs) (search needs))))
 
--- src/lib.rt:41:1
 same-length-2 : tie.Need-same-length-2 Inv-loop μ-loop
 same-length-2 c = kept (c .before .loop .inv .2)
 
--- src/lib.rt:41:1
 returns-2 : tie.Need-returns-2 Inv-loop μ-loop
 returns-2 c =
     let l = c .before .loop in

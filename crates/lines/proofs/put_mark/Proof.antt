@@ -3,28 +3,19 @@ use Rattle.sheet.specs.SheetLaws.{next}
 use borrow.Author.Needs.{needs}
 use Rattle.lines.proofs.put_mark.Statement.{statement}
 use Rattle.lines.proofs.put_mark.Tie as tie
-use Rattle.lines.proofs.put_mark.Reads as reads
-use Rattle.lines.proofs.put_mark.Lts as lts
-use Rattle.sheet.proofs.put_decimal.Reads as put-decimal-reads
-use Rattle.sheet.proofs.put_numbers.Reads as put-numbers-reads
 
--- src/lib.rt:23:9
 put-decimal-requires : tie.Need-put-decimal-requires
 put-decimal-requires c κs = search needs
 
--- src/lib.rt:25:37
 slice-aggregate-put-numbers : tie.Need-slice-aggregate-put-numbers
 slice-aggregate-put-numbers c = search needs
 
--- src/lib.rt:25:5
 put-numbers-requires : tie.Need-put-numbers-requires
 put-numbers-requires c κs = search needs
 
--- src/lib.rt:20:1
 same-length : tie.Need-same-length
 same-length c = search needs
 
--- src/lib.rt:20:1
 returns : tie.Need-returns
 unfolding markLine
 returns c = next (c .before .before .before .before .before .before .before .put-decimal .ensures) (c .before .before .put-numbers .ensures)

@@ -1,51 +1,36 @@
-use mathlib.Core.Path.{_≡_, ap, _∙_}
+use mathlib.Core.Path.{ap, _∙_}
 use Rattle.money.specs.Range.{magnitudeOf}
 use Rattle.money.specs.Facts.{back}
 use Rattle.lines.specs.Lines.{totalsLine}
 use Rattle.sheet.specs.SheetLaws.{next, retext}
-use Rattle.sheet.specs.Decimal.{numbersOf}
 use borrow.Author.Needs.{needs}
 use Rattle.lines.proofs.put_totals.Statement.{statement}
 use Rattle.lines.proofs.put_totals.Tie as tie
-use Rattle.lines.proofs.put_totals.Reads as reads
-use Rattle.lines.proofs.put_totals.Lts as lts
-use Rattle.money.proofs.magnitude.Reads as magnitude-reads
-use Rattle.sheet.proofs.put.Reads as put-reads
-use Rattle.sheet.proofs.put_numbers.Reads as put-numbers-reads
 
--- src/lib.rt:59:39
 slice-aggregate-put : tie.Need-slice-aggregate-put
 slice-aggregate-put c = search needs
 
--- src/lib.rt:59:9
 put-requires : tie.Need-put-requires
 put-requires c κs = search needs
 
--- src/lib.rt:60:9
 magnitude-requires : tie.Need-magnitude-requires
 magnitude-requires c κs = search needs
 
--- src/lib.rt:61:9
 magnitude-requires-2 : tie.Need-magnitude-requires-2
 magnitude-requires-2 c κs = search needs
 
--- src/lib.rt:62:9
 magnitude-requires-3 : tie.Need-magnitude-requires-3
 magnitude-requires-3 c κs = search needs
 
--- src/lib.rt:64:37
 slice-aggregate-put-numbers : tie.Need-slice-aggregate-put-numbers
 slice-aggregate-put-numbers c = search needs
 
--- src/lib.rt:64:5
 put-numbers-requires : tie.Need-put-numbers-requires
 put-numbers-requires c κs = search needs
 
--- src/lib.rt:56:1
 same-length : tie.Need-same-length
 same-length c = search needs
 
--- src/lib.rt:56:1
 returns : tie.Need-returns
 unfolding totalsLine
 returns c =

@@ -1,11 +1,11 @@
-use lib.ListN.{length, take, drop, getD, set, length-set}
+use lib.ListN.{length, take, drop, getD, set}
 use Rattle.lists.specs.Placed.{placed}
 use native.Mathlib.Numerals.{add-one}
 use lib.Seq.{paste, paste-zero, paste-suc, length-paste, take-all}
-use Prim.Native.Nat.{ℕ, _+_, _*_, _≤_, _<_, _-_}
-use mathlib.Core.List.{List, [], _∷_, _++_, append-assoc}
+use Prim.Native.Nat.{ℕ, _+_, _≤_, _<_, _-_}
+use mathlib.Core.List.{List, _++_, append-assoc}
 use native.Mathlib.Omega.{arith}
-use mathlib.Core.Path.{_≡_, refl, sym, ap, _∙_}
+use mathlib.Core.Path.{_≡_, sym, ap, _∙_}
 use borrow.Author.Needs.{needs}
 use Rattle.lists.proofs.put.Statement.{statement}
 use Rattle.lists.proofs.put.Tie as tie

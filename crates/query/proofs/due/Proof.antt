@@ -1,5 +1,5 @@
 use Prim.Native.Nat.{ℕ}
-use mathlib.Core.Path.{_≡_, refl, sym, ap, _∙_}
+use mathlib.Core.Path.{refl, sym, ap, _∙_}
 use Rattle.refusal.specs.Choice.{on, off}
 use Rattle.money.specs.Facts.{back}
 use Rattle.terms.specs.Due.{dueSays}

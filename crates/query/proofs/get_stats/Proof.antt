@@ -1,4 +1,4 @@
-use mathlib.Core.Path.{_≡_, refl, sym, ap, _∙_}
+use mathlib.Core.Path.{sym, ap, _∙_}
 use mathlib.Core.Bool.{not}
 use Rattle.refusal.specs.Refusal.{bookUnsound}
 use Rattle.refusal.specs.Rule.{refuses, goes-on, does}

@@ -5,43 +5,33 @@ use borrow.Author.Needs.{needs}
 use Rattle.replay.proofs.listing.Statement.{statement}
 use Rattle.replay.proofs.listing.Tie as tie
 
--- src/lib.rt:195:29
 sub-if2 : tie.Need-sub-if2
 sub-if2 c = search needs
 
--- src/lib.rt:196:13
 walk-requires : tie.Need-walk-requires
 walk-requires c κs = search needs
 
--- src/lib.rt:198:9
 same-length : tie.Need-same-length
 same-length c = search needs
 
--- src/lib.rt:198:9
 returns : tie.Need-returns
 returns c = at-once _ (c .before .before .before .walk .ensures .1) (omega arith) (c .before .before .before .before .before .before .if1 .taken) (c .before .before .before .before .before .if2 .taken) (omega arith)
 
--- src/lib.rt:200:9
 walk-requires-2 : tie.Need-walk-requires-2
 walk-requires-2 c κs = search needs
 
--- src/lib.rt:203:9
 same-length-2 : tie.Need-same-length-2
 same-length-2 c = search needs
 
--- src/lib.rt:203:9
 returns-2 : tie.Need-returns-2
 returns-2 c = no-space (c .before .before .before .before .walk2 .ensures .1) (c .if3 .taken)
 
--- src/lib.rt:205:9
 walk-requires-3 : tie.Need-walk-requires-3
 walk-requires-3 c κs = search needs
 
--- src/lib.rt:192:1
 same-length-3 : tie.Need-same-length-3
 same-length-3 c = search needs
 
--- src/lib.rt:192:1
 returns-3 : tie.Need-returns-3
 returns-3 c = in-space (c .before .before .before .before .before .before .before .before .before .walk2 .ensures .1) (c .before .before .before .before .before .if3 .left) (c .before .before .before .walk3 .ensures .1)
 

@@ -10,12 +10,11 @@ use borrow.Author.Needs.{needs}
 use Rattle.table.specs.Find.{findIn}
 use Rattle.table.specs.declared.Found.the-variants.{Absent}
 use Rattle.table.specs.Named.{putBy, idOf}
-use Rattle.table.specs.SpotLaws.{spot-below, spot-found, spot-slot, slot-inside, on-spot, off-spot}
+use Rattle.table.specs.SpotLaws.{spot-below, spot-found, spot-slot, slot-inside}
 use Rattle.table.specs.Storing.{Left, good, stays, named, room, grows, once}
 use Rattle.account.specs.Seen.{seenAccount}
 use Rattle.invoice.specs.Seen.{seenInvoice}
 use Rattle.offer.specs.Offer.{noDeal}
-use Rattle.offer.specs.Seen.{seenDeal}
 use Rattle.shelves.specs.Accounts.{accountsOf, asAccounts, storedAccounts}
 use Rattle.shelves.specs.Invoices.{invoicesOf, asInvoices, storedInvoices}
 use Rattle.shelves.specs.Offers.{dealsOf, storedDeals}

@@ -11,49 +11,38 @@ use borrow.Author.Needs.{needs}
 use Rattle.replay.proofs.walk.Statement.{statement}
 use Rattle.replay.proofs.walk.Tie as tie
 
--- src/lib.rt:167:9
 header-requires : tie.Need-header-requires
 header-requires c κs = search needs
 
--- src/lib.rt:168:25
 enum-known-h : tie.Need-enum-known-h
 enum-known-h c = search needs
 
--- src/lib.rt:169:13
 enum-told : tie.Need-enum-told
 enum-told c = search needs
 
--- src/lib.rt:173:13
 put-mark-requires : tie.Need-put-mark-requires
 put-mark-requires c κs = search needs
 
--- src/lib.rt:174:13
 fresh-requires : tie.Need-fresh-requires
 fresh-requires c κs = search needs
 
--- src/lib.rt:175:9
 finish-requires : tie.Need-finish-requires
 finish-requires c κs = search needs
 
--- src/lib.rt:175:9
 same-length : tie.Need-same-length
 same-length c = search needs
 
--- src/lib.rt:175:9
 returns : tie.Need-returns
 unfolding listingOf
 returns c = let e = sym (c .before .before .before .before .before .before .before .before .before .before .before .header .ensures) ∙ ap opening (c .before .before .before .before .before .before .before .before .before .enum-told .given .1) in (c .before .before .finish .ensures .0 ∙ play-bare _ e (fresh (c .before .before .before .before .fresh .ensures)), bare _ e (fresh (c .before .before .before .before .fresh .ensures)) (c .before .before .before .before .before .before .before .put-mark .ensures) (c .before .before .finish .ensures .1))
 
--- src/lib.rt:177:5
 records-requires : tie.Need-records-requires
 unfolding listingOf
 records-requires c κs = opened _ (sym (c .before .before .before .before .header .ensures) ∙ ap opening (c .before .before .h .given .1))
 
--- src/lib.rt:163:1
 same-length-2 : tie.Need-same-length-2
 same-length-2 c = search needs
 
--- src/lib.rt:163:1
 returns-2 : tie.Need-returns-2
 unfolding listingOf
 returns-2 c = let e = sym (replay-headed _ (sym (c .before .before .before .before .before .before .before .header .ensures) ∙ ap opening (c .before .before .before .before .before .h .given .1))) in (c .before .before .records .ensures .0 ∙ ap (outcomeOf 0) e, retext (c .before .before .records .ensures .1) (ap (textOf 0) e))

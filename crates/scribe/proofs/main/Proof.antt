@@ -3,95 +3,72 @@ use borrow.Author.Needs.{needs}
 use Rattle.scribe.proofs.main.Statement.{statement}
 use Rattle.scribe.proofs.main.Tie as tie
 
--- src/main.rt:41:30
 slice-aggregate-read-full : tie.Need-slice-aggregate-read-full
 slice-aggregate-read-full c = search needs
 
--- src/main.rt:41:9
 read-full-requires : tie.Need-read-full-requires
 read-full-requires c κs = search needs
 
--- src/main.rt:43:9
 too-long-requires : tie.Need-too-long-requires
 too-long-requires c κs = search needs
 
--- src/main.rt:44:9
 returns : tie.Need-returns
 returns c = search needs
 
--- src/main.rt:46:19
 array-share-prefix-input : tie.Need-array-share-prefix-input
 array-share-prefix-input c = search needs
 
--- src/main.rt:46:19
 slice-aggregate-is-journal : tie.Need-slice-aggregate-is-journal
 slice-aggregate-is-journal c = search needs
 
--- src/main.rt:46:8
 is-journal-requires : tie.Need-is-journal-requires
 is-journal-requires c κs = search needs
 
--- src/main.rt:47:31
 array-share-prefix-input-2 : tie.Need-array-share-prefix-input-2
 array-share-prefix-input-2 c = search needs
 
--- src/main.rt:47:31
 slice-aggregate-to-text : tie.Need-slice-aggregate-to-text
 slice-aggregate-to-text c = search needs
 
--- src/main.rt:47:44
 slice-aggregate-to-text-2 : tie.Need-slice-aggregate-to-text-2
 slice-aggregate-to-text-2 c = search needs
 
--- src/main.rt:47:13
 to-text-requires : tie.Need-to-text-requires
 to-text-requires c κs = search needs
 
--- src/main.rt:48:17
 slice-aggregate-show : tie.Need-slice-aggregate-show
 slice-aggregate-show c = search needs
 
--- src/main.rt:48:23
 slice-aggregate-show-2 : tie.Need-slice-aggregate-show-2
 slice-aggregate-show-2 c = search needs
 
--- src/main.rt:48:9
 show-requires : tie.Need-show-requires
 show-requires c κs = λ k e. within _ _ (c .before .before .before .to-text .ensures) e .0
 
--- src/main.rt:49:9
 returns-2 : tie.Need-returns-2
 returns-2 c = search needs
 
--- src/main.rt:51:30
 array-share-prefix-input-3 : tie.Need-array-share-prefix-input-3
 array-share-prefix-input-3 c = search needs
 
--- src/main.rt:51:30
 slice-aggregate-to-journal : tie.Need-slice-aggregate-to-journal
 slice-aggregate-to-journal c = search needs
 
--- src/main.rt:51:43
 slice-aggregate-to-journal-2 : tie.Need-slice-aggregate-to-journal-2
 slice-aggregate-to-journal-2 c = search needs
 
--- src/main.rt:51:9
 to-journal-requires : tie.Need-to-journal-requires
 to-journal-requires c κs = search needs
 
--- src/main.rt:52:13
 slice-aggregate-show-3 : tie.Need-slice-aggregate-show-3
 slice-aggregate-show-3 c = search needs
 
--- src/main.rt:52:19
 slice-aggregate-show-4 : tie.Need-slice-aggregate-show-4
 slice-aggregate-show-4 c = search needs
 
--- src/main.rt:52:5
 show-requires-2 : tie.Need-show-requires-2
 show-requires-2 c κs = λ k e. within _ _ (c .before .before .before .to-journal .ensures) e .0
 
--- src/main.rt:38:1
 returns-3 : tie.Need-returns-3
 returns-3 c = search needs
 

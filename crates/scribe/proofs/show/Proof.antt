@@ -4,55 +4,42 @@ use borrow.Author.Needs.{needs}
 use Rattle.scribe.proofs.show.Statement.{statement}
 use Rattle.scribe.proofs.show.Tie as tie
 
--- src/main.rt:24:22
 enum-known-r : tie.Need-enum-known-r
 enum-known-r c = search needs
 
--- src/main.rt:25:30
 slice-aggregate-write-all : tie.Need-slice-aggregate-write-all
 slice-aggregate-write-all c = sym (length-take-le _ _ (c .before .before .before .before .before .before .pre _ (c .before .before .r .given .1)))
 
--- src/main.rt:25:13
 write-all-requires : tie.Need-write-all-requires
 write-all-requires c κs = search needs
 
--- src/main.rt:27:27
 enum-known-r-2 : tie.Need-enum-known-r-2
 enum-known-r-2 c = search needs
 
--- src/main.rt:28:13
 write-all-requires-2 : tie.Need-write-all-requires-2
 write-all-requires-2 c κs = search needs
 
--- src/main.rt:29:13
 print-decimal-requires : tie.Need-print-decimal-requires
 print-decimal-requires c κs = search needs
 
--- src/main.rt:30:30
 slice-aggregate-write-all-2 : tie.Need-slice-aggregate-write-all-2
 slice-aggregate-write-all-2 c = search needs
 
--- src/main.rt:30:13
 write-all-requires-3 : tie.Need-write-all-requires-3
 write-all-requires-3 c κs = search needs
 
--- src/main.rt:33:13
 enum-told : tie.Need-enum-told
 enum-told c = search needs
 
--- src/main.rt:33:13
 too-long-requires : tie.Need-too-long-requires
 too-long-requires c κs = search needs
 
--- src/main.rt:20:1
 returns : tie.Need-returns
 returns c = search needs
 
--- src/main.rt:20:1
 returns-2 : tie.Need-returns-2
 returns-2 c = search needs
 
--- src/main.rt:20:1
 returns-3 : tie.Need-returns-3
 returns-3 c = search needs
 

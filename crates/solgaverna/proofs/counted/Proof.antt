@@ -7,54 +7,40 @@ use Rattle.lists.specs.declared.Listed.{Listed}
 use borrow.Author.Needs.{needs}
 use Rattle.solgaverna.proofs.counted.Statement.{statement}
 use Rattle.solgaverna.proofs.counted.Tie as tie
-use Rattle.solgaverna.proofs.counted.Reads as reads
-use Rattle.solgaverna.proofs.counted.Lts as lts
-use Rattle.solgaverna.proofs.refused.Reads as refused-reads
 
--- src/lib.rt:78:24
 enum-known-r : tie.Need-enum-known-r
 enum-known-r c = search needs
 
--- src/lib.rt:82:13
 enum-told : tie.Need-enum-told
 enum-told c = search needs
 
--- src/lib.rt:82:13
 refused-requires : tie.Need-refused-requires
 refused-requires c κs = search needs
 
--- src/lib.rt:85:13
 enum-told-2 : tie.Need-enum-told-2
 enum-told-2 c = search needs
 
--- src/lib.rt:85:13
 refused-requires-2 : tie.Need-refused-requires-2
 refused-requires-2 c κs = search needs
 
--- src/lib.rt:88:13
 enum-told-3 : tie.Need-enum-told-3
 enum-told-3 c = search needs
 
--- src/lib.rt:88:13
 refused-requires-3 : tie.Need-refused-requires-3
 refused-requires-3 c κs = search needs
 
--- src/lib.rt:74:1
 returns : tie.Need-returns
 unfolding pick
 returns c = sym (ap (λ (z : Listed). coded (listedSays z .0) (getD (listedSays z .1) 0 0)) (c .before .r .given .1))
 
--- src/lib.rt:74:1
 returns-2 : tie.Need-returns-2
 unfolding pick
 returns-2 c = c .refused .ensures ∙ sym (ap (λ (z : Listed). coded (listedSays z .0) (getD (listedSays z .1) 0 0)) (c .before .enum-told .given .1))
 
--- src/lib.rt:74:1
 returns-3 : tie.Need-returns-3
 unfolding pick
 returns-3 c = c .refused2 .ensures ∙ sym (ap (λ (z : Listed). coded (listedSays z .0) (getD (listedSays z .1) 0 0)) (c .before .enum-told2 .given .1))
 
--- src/lib.rt:74:1
 returns-4 : tie.Need-returns-4
 unfolding pick
 returns-4 c = c .refused3 .ensures ∙ sym (ap (λ (z : Listed). coded (listedSays z .0) (getD (listedSays z .1) 0 0)) (c .before .enum-told3 .given .1))

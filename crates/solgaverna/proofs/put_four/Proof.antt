@@ -5,47 +5,34 @@ use Rattle.solgaverna.specs.AnswerLaws.{four-refused, four-short, four-f
 use borrow.Author.Needs.{needs}
 use Rattle.solgaverna.proofs.put_four.Statement.{statement}
 use Rattle.solgaverna.proofs.put_four.Tie as tie
-use Rattle.solgaverna.proofs.put_four.Reads as reads
-use Rattle.solgaverna.proofs.put_four.Lts as lts
-use Rattle.solgaverna.proofs.refused.Reads as refused-reads
 
--- src/lib.rt:178:9
 refused-requires : tie.Need-refused-requires
 refused-requires c κs = search needs
 
--- src/lib.rt:178:9
 returns : tie.Need-returns
 returns c = four-refused (c .before .before .before .args .x) (c .before .before .before .args .out .now) (c .refused .ensures) (not-true _ (c .before .if1 .taken))
 
--- src/lib.rt:181:9
 refused-requires-2 : tie.Need-refused-requires-2
 refused-requires-2 c κs = search needs
 
--- src/lib.rt:181:9
 returns-2 : tie.Need-returns-2
 returns-2 c = four-short (c .before .before .before .before .args .x) (c .before .before .before .before .args .out .now) (c .refused2 .ensures) (not-false _ (c .before .before .if1 .left)) (lt-ltb _ _ (c .before .if2 .taken))
 
--- src/lib.rt:183:5
 slice-write-out : tie.Need-slice-write-out
 slice-write-out c = search needs
 
--- src/lib.rt:184:5
 slice-write-out-2 : tie.Need-slice-write-out-2
 slice-write-out-2 c = simp length-set (omega (arith, c .if2 .left))
 
--- src/lib.rt:185:5
 slice-write-out-3 : tie.Need-slice-write-out-3
 slice-write-out-3 c = simp length-set (omega (arith, c .if2 .left))
 
--- src/lib.rt:186:5
 slice-write-out-4 : tie.Need-slice-write-out-4
 slice-write-out-4 c = search needs
 
--- src/lib.rt:173:1
 same-length : tie.Need-same-length
 same-length c = search needs
 
--- src/lib.rt:173:1
 returns-3 : tie.Need-returns-3
 returns-3 c = four-fits (c .before .before .before .args .x) (c .before .before .before .args .out .now) (not-false _ (c .before .if1 .left)) (le-ltb _ _ (c .if2 .left))
 

@@ -5,41 +5,30 @@ use Rattle.text.specs.Answers.{answered}
 use borrow.Author.Needs.{needs}
 use Rattle.solgaverna.proofs.sized.Statement.{statement}
 use Rattle.solgaverna.proofs.sized.Tie as tie
-use Rattle.solgaverna.proofs.sized.Reads as reads
-use Rattle.solgaverna.proofs.sized.Lts as lts
-use Rattle.solgaverna.proofs.refused.Reads as refused-reads
 
--- src/lib.rt:78:22
 enum-known-r : tie.Need-enum-known-r
 enum-known-r c = search needs
 
--- src/lib.rt:82:13
 enum-told : tie.Need-enum-told
 enum-told c = search needs
 
--- src/lib.rt:82:13
 refused-requires : tie.Need-refused-requires
 refused-requires c κs = search needs
 
--- src/lib.rt:85:13
 enum-told-2 : tie.Need-enum-told-2
 enum-told-2 c = search needs
 
--- src/lib.rt:85:13
 refused-requires-2 : tie.Need-refused-requires-2
 refused-requires-2 c κs = search needs
 
--- src/lib.rt:74:1
 returns : tie.Need-returns
 unfolding pick
 returns c = sym (ap (λ z. coded (answered z .0) (answered z .1)) (c .before .r .given .1))
 
--- src/lib.rt:74:1
 returns-2 : tie.Need-returns-2
 unfolding pick
 returns-2 c = c .refused .ensures ∙ sym (ap (λ z. coded (answered z .0) (answered z .1)) (c .before .enum-told .given .1))
 
--- src/lib.rt:74:1
 returns-3 : tie.Need-returns-3
 unfolding pick
 returns-3 c = c .refused2 .ensures ∙ sym (ap (λ z. coded (answered z .0) (answered z .1)) (c .before .enum-told2 .given .1))

@@ -5,39 +5,28 @@ use native.Mathlib.Omega.{arith}
 use borrow.Author.Needs.{needs}
 use Rattle.solgaverna.proofs.solgaverna_faulty_line.Statement.{statement}
 use Rattle.solgaverna.proofs.solgaverna_faulty_line.Tie as tie
-use Rattle.solgaverna.proofs.solgaverna_faulty_line.Reads as reads
-use Rattle.solgaverna.proofs.solgaverna_faulty_line.Lts as lts
-use Rattle.text.proofs.to_journal.Reads as to-journal-reads
 
--- src/lib.rt:114:37
 slice-aggregate-to-journal : tie.Need-slice-aggregate-to-journal
 slice-aggregate-to-journal c = search needs
 
--- src/lib.rt:114:9
 to-journal-requires : tie.Need-to-journal-requires
 to-journal-requires c κs = search needs
 
--- src/lib.rt:117:13
 enum-told : tie.Need-enum-told
 enum-told c = search needs
 
--- src/lib.rt:119:27
 enum-known-r : tie.Need-enum-known-r
 enum-known-r c = search needs
 
--- src/lib.rt:123:13
 enum-told-2 : tie.Need-enum-told-2
 enum-told-2 c = search needs
 
--- src/lib.rt:109:1
 returns : tie.Need-returns
 returns c = no-fault _ _ (λ z. omega arith) (sym (ap answered (c .enum-told .given .1)) ∙ c .before .before .before .to-journal .ensures .0)
 
--- src/lib.rt:109:1
 returns-2 : tie.Need-returns-2
 returns-2 c = fault _ _ (sym (ap answered (c .before .r .given .1)) ∙ c .before .before .before .before .to-journal .ensures .0)
 
--- src/lib.rt:109:1
 returns-3 : tie.Need-returns-3
 returns-3 c = no-fault _ _ (λ z. omega arith) (sym (ap answered (c .enum-told2 .given .1)) ∙ c .before .before .before .to-journal .ensures .0)
 

@@ -5,38 +5,25 @@ use Rattle.solgaverna.specs.Answers.{fourOver}
 use borrow.Author.Needs.{needs}
 use Rattle.solgaverna.proofs.solgaverna_lender.Statement.{statement}
 use Rattle.solgaverna.proofs.solgaverna_lender.Tie as tie
-use Rattle.solgaverna.proofs.solgaverna_lender.Reads as reads
-use Rattle.solgaverna.proofs.solgaverna_lender.Lts as lts
-use Rattle.solgaverna.proofs.lender_of.Reads as lender-of-reads
-use Rattle.solgaverna.proofs.put_four.Reads as put-four-reads
-use Rattle.solgaverna.proofs.refused.Reads as refused-reads
-use Rattle.replay.proofs.replay.Reads as replay-reads
 
--- src/lib.rt:195:9
 replay-requires : tie.Need-replay-requires
 replay-requires c κs = search needs
 
--- src/lib.rt:198:9
 refused-requires : tie.Need-refused-requires
 refused-requires c κs = search needs
 
--- src/lib.rt:198:9
 returns : tie.Need-returns
 returns c = malformed (c .before .before .before .before .before .args .journal .now) (c .before .before .before .before .before .args .out .now) _ (c .before .before .replay .ensures) (not-true _ (c .before .if1 .taken)) (c .refused .ensures)
 
--- src/lib.rt:201:19
 lender-of-requires : tie.Need-lender-of-requires
 lender-of-requires c κs = search needs
 
--- src/lib.rt:201:5
 put-four-requires : tie.Need-put-four-requires
 put-four-requires c κs = search needs
 
--- src/lib.rt:191:1
 same-length : tie.Need-same-length
 same-length c = search needs
 
--- src/lib.rt:191:1
 returns-2 : tie.Need-returns-2
 returns-2 c = whole (c .before .before .before .before .before .before .before .before .before .before .args .journal .now) (c .before .before .before .before .before .before .before .before .before .before .args .out .now) _ (c .before .before .before .before .before .before .before .replay .ensures) (not-false _ (c .before .before .before .before .before .before .if1 .left)) (c .before .before .put-four .ensures ∙ ap (λ r. fourOver r (c .before .before .before .before .before .before .before .before .before .before .args .out .now)) (c .before .before .before .lender-of .ensures))
 

@@ -5,41 +5,29 @@ use Rattle.replay.specs.Text.{listed}
 use borrow.Author.Needs.{needs}
 use Rattle.solgaverna.proofs.solgaverna_listing.Statement.{statement}
 use Rattle.solgaverna.proofs.solgaverna_listing.Tie as tie
-use Rattle.solgaverna.proofs.solgaverna_listing.Reads as reads
-use Rattle.solgaverna.proofs.solgaverna_listing.Lts as lts
-use Rattle.solgaverna.proofs.refused.Reads as refused-reads
-use Rattle.replay.proofs.listing.Reads as listing-reads
 
--- src/lib.rt:63:9
 listing-requires : tie.Need-listing-requires
 listing-requires c κs = search needs
 
--- src/lib.rt:65:22
 enum-known-r : tie.Need-enum-known-r
 enum-known-r c = search needs
 
--- src/lib.rt:69:13
 enum-told : tie.Need-enum-told
 enum-told c = search needs
 
--- src/lib.rt:69:13
 refused-requires : tie.Need-refused-requires
 refused-requires c κs = search needs
 
--- src/lib.rt:59:1
 same-length : tie.Need-same-length
 same-length c = search needs
 
--- src/lib.rt:59:1
 returns : tie.Need-returns
 unfolding pick
 returns c = (sym (ap (λ z. coded (listed z .0) (listed z .1)) (c .before .r .given .1)) ∙ ap (λ z. coded (z .0) (z .1)) (c .before .before .before .before .before .listing .ensures .0), c .before .before .before .before .before .listing .ensures .1)
 
--- src/lib.rt:59:1
 same-length-2 : tie.Need-same-length-2
 same-length-2 c = search needs
 
--- src/lib.rt:59:1
 returns-2 : tie.Need-returns-2
 unfolding pick
 returns-2 c = (c .refused .ensures ∙ sym (ap (λ z. coded (listed z .0) (listed z .1)) (c .before .enum-told .given .1)) ∙ ap (λ z. coded (z .0) (z .1)) (c .before .before .before .before .before .listing .ensures .0), c .before .before .before .before .before .listing .ensures .1)

@@ -3,24 +3,16 @@ use Rattle.solgaverna.specs.Answers.{coded}
 use borrow.Author.Needs.{needs}
 use Rattle.solgaverna.proofs.solgaverna_text.Statement.{statement}
 use Rattle.solgaverna.proofs.solgaverna_text.Tie as tie
-use Rattle.solgaverna.proofs.solgaverna_text.Reads as reads
-use Rattle.solgaverna.proofs.solgaverna_text.Lts as lts
-use Rattle.solgaverna.proofs.sized.Reads as sized-reads
-use Rattle.text.proofs.to_text.Reads as to-text-reads
 
--- src/lib.rt:104:9
 to-text-requires : tie.Need-to-text-requires
 to-text-requires c κs = search needs
 
--- src/lib.rt:105:5
 sized-requires : tie.Need-sized-requires
 sized-requires c κs = search needs
 
--- src/lib.rt:100:1
 same-length : tie.Need-same-length
 same-length c = search needs
 
--- src/lib.rt:100:1
 returns : tie.Need-returns
 returns c = (c .sized .ensures ∙ ap (λ z. coded (z .0) (z .1)) (c .before .before .before .to-text .ensures .0), c .before .before .before .to-text .ensures .1)
 

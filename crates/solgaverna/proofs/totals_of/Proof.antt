@@ -5,33 +5,23 @@ use Rattle.query.specs.Says.{totalsSays}
 use borrow.Author.Needs.{needs}
 use Rattle.solgaverna.proofs.totals_of.Statement.{statement}
 use Rattle.solgaverna.proofs.totals_of.Tie as tie
-use Rattle.solgaverna.proofs.totals_of.Reads as reads
-use Rattle.solgaverna.proofs.totals_of.Lts as lts
-use Rattle.solgaverna.proofs.unsound.Reads as unsound-reads
-use Rattle.query.proofs.get_stats.Reads as get-stats-reads
 
--- src/lib.rt:156:9
 get-stats-requires : tie.Need-get-stats-requires
 get-stats-requires c κs = search needs
 
--- src/lib.rt:158:30
 enum-known-r : tie.Need-enum-known-r
 enum-known-r c = search needs
 
--- src/lib.rt:168:13
 enum-told : tie.Need-enum-told
 enum-told c = search needs
 
--- src/lib.rt:168:13
 unsound-requires : tie.Need-unsound-requires
 unsound-requires c κs = search needs
 
--- src/lib.rt:153:1
 returns : tie.Need-returns
 unfolding fourSays pick
 returns c = sym (ap totalsSays (c .before .r .given .1)) ∙ c .before .before .before .get-stats .ensures
 
--- src/lib.rt:153:1
 returns-2 : tie.Need-returns-2
 unfolding fourSays pick
 returns-2 c = ap fourSays (c .unsound .ensures) ∙ sym (ap totalsSays (c .before .enum-told .given .1)) ∙ c .before .before .before .get-stats .ensures

@@ -5,49 +5,38 @@ use Rattle.solgaverna.specs.Answers.{wantedOf}
 use borrow.Author.Needs.{needs}
 use Rattle.solgaverna.proofs.wanted.Statement.{statement}
 use Rattle.solgaverna.proofs.wanted.Tie as tie
-use Rattle.solgaverna.proofs.wanted.Reads as reads
-use Rattle.solgaverna.proofs.wanted.Lts as lts
 
--- src/lib.rt:35:9
 returns : tie.Need-returns
 unfolding wantedOf
 returns c = on _ (eq-eqb _ _ (c .if1 .taken)) refl
 
--- src/lib.rt:38:9
 returns-2 : tie.Need-returns-2
 unfolding wantedOf
 returns-2 c = off _ (ne-eqb _ _ (c .before .if1 .left)) (on _ (eq-eqb _ _ (c .if2 .taken)) refl)
 
--- src/lib.rt:42:13
 returns-3 : tie.Need-returns-3
 unfolding wantedOf
 returns-3 c = off _ (ne-eqb _ _ (c .before .before .before .if1 .left)) (off _ (ne-eqb _ _ (c .before .before .if2 .left)) (on _ (eq-eqb _ _ (c .before .if3 .taken)) (on _ (lt-ltb _ _ (c .if4 .taken)) refl)))
 
--- src/lib.rt:44:42
 cast-t8 : tie.Need-cast-t8
 cast-t8 c = search needs
 
--- src/lib.rt:44:9
 returns-4 : tie.Need-returns-4
 unfolding wantedOf
 returns-4 c = off _ (ne-eqb _ _ (c .before .before .before .if1 .left)) (off _ (ne-eqb _ _ (c .before .before .if2 .left)) (on _ (eq-eqb _ _ (c .before .if3 .taken)) (off _ (le-ltb _ _ (c .if4 .left)) refl)))
 
--- src/lib.rt:47:9
 returns-5 : tie.Need-returns-5
 unfolding wantedOf
 returns-5 c = off _ (ne-eqb _ _ (c .before .before .before .if1 .left)) (off _ (ne-eqb _ _ (c .before .before .if2 .left)) (off _ (ne-eqb _ _ (c .before .if3 .left)) (on _ (eq-eqb _ _ (c .if5 .taken)) refl)))
 
--- src/lib.rt:50:9
 returns-6 : tie.Need-returns-6
 unfolding wantedOf
 returns-6 c = off _ (ne-eqb _ _ (c .before .before .before .before .if1 .left)) (off _ (ne-eqb _ _ (c .before .before .before .if2 .left)) (off _ (ne-eqb _ _ (c .before .before .if3 .left)) (off _ (ne-eqb _ _ (c .before .if5 .left)) (on _ (eq-eqb _ _ (c .if6 .taken)) refl))))
 
--- src/lib.rt:53:9
 returns-7 : tie.Need-returns-7
 unfolding wantedOf
 returns-7 c = off _ (ne-eqb _ _ (c .before .before .before .before .before .if1 .left)) (off _ (ne-eqb _ _ (c .before .before .before .before .if2 .left)) (off _ (ne-eqb _ _ (c .before .before .before .if3 .left)) (off _ (ne-eqb _ _ (c .before .before .if5 .left)) (off _ (ne-eqb _ _ (c .before .if6 .left)) (on _ (eq-eqb _ _ (c .if7 .taken)) refl)))))
 
--- src/lib.rt:31:1
 returns-8 : tie.Need-returns-8
 unfolding wantedOf
 returns-8 c = off _ (ne-eqb _ _ (c .before .before .before .before .before .if1 .left)) (off _ (ne-eqb _ _ (c .before .before .before .before .if2 .left)) (off _ (ne-eqb _ _ (c .before .before .before .if3 .left)) (off _ (ne-eqb _ _ (c .before .before .if5 .left)) (off _ (ne-eqb _ _ (c .before .if6 .left)) (off _ (ne-eqb _ _ (c .if7 .left)) refl)))))

@@ -2,10 +2,6 @@ use Prim.Native.Nat.{_-_, _≤_}
 use borrow.Author.Needs.{needs}
 use Rattle.timing.proofs.timing_offer.Statement.{statement}
 use Rattle.timing.proofs.timing_offer.Tie as tie
-use Rattle.timing.proofs.timing_offer.Reads as reads
-use Rattle.timing.proofs.timing_offer.Lts as lts
-use Rattle.query.proofs.get_offer.Reads as get-offer-reads
-use Rattle.replay.proofs.replay.Reads as replay-reads
 
 abbrev Inv-loop : tie.InvT-loop
 Inv-loop journal id times book mixed₀ i₀ mixed i = i ≤ times
@@ -13,43 +9,33 @@ Inv-loop journal id times book mixed₀ i₀ mixed i = i ≤ times
 abbrev μ-loop : tie.MeasureT-loop
 μ-loop journal id times book mixed₀ i₀ mixed i = times - i
 
--- src/lib.rt:32:9
 replay-requires : tie.Need-replay-requires Inv-loop μ-loop
 replay-requires c κs = search needs
 
--- src/lib.rt:35:5
 loop-holds : tie.Need-loop-holds Inv-loop μ-loop
 loop-holds c = search needs
 
--- src/lib.rt:36:13
 get-offer-requires : tie.Need-get-offer-requires Inv-loop μ-loop
 get-offer-requires c κs = search needs
 
--- src/lib.rt:38:32
 enum-known-r : tie.Need-enum-known-r Inv-loop μ-loop
 enum-known-r c = search needs
 
--- src/lib.rt:42:17
 enum-told : tie.Need-enum-told Inv-loop μ-loop
 enum-told c = search needs
 
--- src/lib.rt:45:17
 enum-told-2 : tie.Need-enum-told-2 Inv-loop μ-loop
 enum-told-2 c = search needs
 
--- src/lib.rt:35:9
 add-i : tie.Need-add-i Inv-loop μ-loop
 add-i c = search needs
 
--- src/lib.rt:35:5
 loop-less : tie.Need-loop-less Inv-loop μ-loop
 loop-less c = search needs
 
--- src/lib.rt:35:5
 loop-again : tie.Need-loop-again Inv-loop μ-loop
 loop-again c = search needs
 
--- src/lib.rt:30:1
 returns : tie.Need-returns Inv-loop μ-loop
 returns c = search needs
 

@@ -2,10 +2,6 @@ use Prim.Native.Nat.{_-_, _≤_}
 use borrow.Author.Needs.{needs}
 use Rattle.timing.proofs.timing_sound.Statement.{statement}
 use Rattle.timing.proofs.timing_sound.Tie as tie
-use Rattle.timing.proofs.timing_sound.Reads as reads
-use Rattle.timing.proofs.timing_sound.Lts as lts
-use Rattle.book.proofs.Book.sound.Reads as sound-reads
-use Rattle.replay.proofs.replay.Reads as replay-reads
 
 abbrev Inv-loop : tie.InvT-loop
 Inv-loop journal times book mixed₀ i₀ mixed i = i ≤ times
@@ -13,31 +9,24 @@ Inv-loop journal times book mixed₀ i₀ mixed i = i ≤ times
 abbrev μ-loop : tie.MeasureT-loop
 μ-loop journal times book mixed₀ i₀ mixed i = times - i
 
--- src/lib.rt:54:9
 replay-requires : tie.Need-replay-requires Inv-loop μ-loop
 replay-requires c κs = search needs
 
--- src/lib.rt:57:5
 loop-holds : tie.Need-loop-holds Inv-loop μ-loop
 loop-holds c = search needs
 
--- src/lib.rt:58:12
 sound-requires : tie.Need-sound-requires Inv-loop μ-loop
 sound-requires c κs = search needs
 
--- src/lib.rt:57:9
 add-i : tie.Need-add-i Inv-loop μ-loop
 add-i c = search needs
 
--- src/lib.rt:57:5
 loop-less : tie.Need-loop-less Inv-loop μ-loop
 loop-less c = search needs
 
--- src/lib.rt:57:5
 loop-again : tie.Need-loop-again Inv-loop μ-loop
 loop-again c = search needs
 
--- src/lib.rt:52:1
 returns : tie.Need-returns Inv-loop μ-loop
 returns c = search needs
 

@@ -1,4 +1,4 @@
-use mathlib.Core.Path.{_≡_, refl, sym, ap, _∙_}
+use mathlib.Core.Path.{_≡_, sym, ap, _∙_}
 use mathlib.Core.Bool.{not}
 use mir.Facts.{toZ-ofZ}
 use Rattle.money.specs.Range.{inTotal}
@@ -8,22 +8,16 @@ use Rattle.refusal.specs.Rule.{refuses, goes-on, does}
 use borrow.Author.Needs.{needs}
 use Rattle.account.proofs.Account.approve.Statement.{statement}
 use Rattle.account.proofs.Account.approve.Tie as tie
-use Rattle.account.proofs.Account.approve.Reads as reads
-use Rattle.account.proofs.Account.approve.Lts as lts
-use Rattle.money.proofs.in_total_range.Reads as in-total-range-reads
 
 amount-in : (c : tie.After-in-total-range) → c .in-total-range .result ≡ inTotal (c .before .args .amount)
 amount-in c = simp (toZ-ofZ (c .before .fits .amount)) at (c .in-total-range .ensures)
 
--- src/lib.rt:121:13
 in-total-range-requires : tie.Need-in-total-range-requires
 in-total-range-requires c κs = search needs
 
--- src/lib.rt:122:13
 returns : tie.Need-returns
 returns c = refuses posted invalidInput _ _ _ (ap not (sym (amount-in (c .before))) ∙ c .if1 .taken)
 
--- src/lib.rt:118:5
 returns-2 : tie.Need-returns-2
 returns-2 c =
     goes-on posted invalidInput _ _ _ (ap not (sym (amount-in (c .before))) ∙ c .if1 .left)

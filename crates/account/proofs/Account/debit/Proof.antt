@@ -1,4 +1,4 @@
-use mathlib.Core.Path.{_≡_, refl, sym, ap, _∙_}
+use mathlib.Core.Path.{_≡_, sym, ap, _∙_}
 use mathlib.Core.Bool.{not}
 use lib.IntN.{negℤ}
 use borrow.Author.Tests.{not-false}
@@ -11,9 +11,6 @@ use Rattle.refusal.specs.Rule.{refuses, goes-on, does}
 use borrow.Author.Needs.{needs}
 use Rattle.account.proofs.Account.debit.Statement.{statement}
 use Rattle.account.proofs.Account.debit.Tie as tie
-use Rattle.account.proofs.Account.debit.Reads as reads
-use Rattle.account.proofs.Account.debit.Lts as lts
-use Rattle.money.proofs.lower.Reads as lower-reads
 
 allowed : (c : tie.After-lower) → c .lower .result ≡ movedOf (c .before .before .before .args .self .allowance) (negℤ (c .before .before .before .args .t .amount))
 allowed c = simp (back (c .before .before .before .args .self .allowance) (search needs), back (c .before .before .before .args .t .amount) (search needs)) at (c .lower .ensures)
@@ -21,25 +18,20 @@ allowed c = simp (back (c .before .before .before .args .self .allowance) (searc
 moved : (c : tie.After-lower2) → c .lower2 .result ≡ movedOf (c .before .before .before .before .before .before .before .before .args .self .balance) (negℤ (c .before .before .before .before .before .before .before .before .args .t .amount))
 moved c = simp (back (c .before .before .before .before .before .before .before .before .args .self .balance) (search needs), back (c .before .before .before .before .before .before .before .before .args .t .amount) (search needs)) at (c .lower2 .ensures)
 
--- src/lib.rt:182:13
 lower-requires : tie.Need-lower-requires
 lower-requires c κs = search needs
 
--- src/lib.rt:184:13
 returns : tie.Need-returns
 returns c = refuses posted allowanceShort _ _ _ (ap not (sym (move-tells _ _ (allowed (c .before .before)))) ∙ c .if1 .taken)
 
--- src/lib.rt:189:13
 lower-requires-2 : tie.Need-lower-requires-2
 lower-requires-2 c κs = search needs
 
--- src/lib.rt:191:13
 returns-2 : tie.Need-returns-2
 returns-2 c =
     goes-on posted allowanceShort _ _ _ (ap not (sym (move-tells _ _ (allowed (c .before .before .before .before .before .before .before)))) ∙ c .before .before .before .before .before .if1 .left)
     (refuses posted balanceShort _ _ _ (ap not (sym (move-tells _ _ (moved (c .before .before)))) ∙ c .if2 .taken))
 
--- src/lib.rt:179:5
 returns-3 : tie.Need-returns-3
 returns-3 c =
     goes-on posted allowanceShort _ _ _ (ap not (sym (move-tells _ _ (allowed (c .before .before .before .before .before .before .before .before .before)))) ∙ c .before .before .before .before .before .before .before .if1 .left)

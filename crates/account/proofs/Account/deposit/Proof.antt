@@ -1,4 +1,4 @@
-use mathlib.Core.Path.{_≡_, refl, sym, ap, _∙_}
+use mathlib.Core.Path.{_≡_, sym, ap, _∙_}
 use mathlib.Core.Bool.{not}
 use borrow.Author.Tests.{not-false}
 use mir.Facts.{toZ-ofZ}
@@ -6,15 +6,11 @@ use Rattle.money.specs.Range.{inAmount, movedOf}
 use Rattle.money.specs.Moves.{move-tells, move-makes}
 use Rattle.money.specs.Facts.{back}
 use Rattle.account.specs.Rules.{posted}
-use Rattle.refusal.specs.Refusal.{invalidInput, outOfRange, balanceShort}
+use Rattle.refusal.specs.Refusal.{invalidInput, outOfRange}
 use Rattle.refusal.specs.Rule.{refuses, goes-on, does}
 use borrow.Author.Needs.{needs}
 use Rattle.account.proofs.Account.deposit.Statement.{statement}
 use Rattle.account.proofs.Account.deposit.Tie as tie
-use Rattle.account.proofs.Account.deposit.Reads as reads
-use Rattle.account.proofs.Account.deposit.Lts as lts
-use Rattle.money.proofs.in_amount_range.Reads as in-amount-range-reads
-use Rattle.money.proofs.shift.Reads as shift-reads
 
 amount-in : (c : tie.After-in-amount-range) → c .in-amount-range .result ≡ inAmount (c .before .args .amount)
 amount-in c = simp (toZ-ofZ (c .before .fits .amount)) at (c .in-amount-range .ensures)
@@ -22,25 +18,20 @@ amount-in c = simp (toZ-ofZ (c .before .fits .amount)) at (c .in-amount-range .e
 moved : (c : tie.After-shift) → c .shift .result ≡ movedOf (c .before .before .before .before .args .self .balance) (c .before .before .before .before .args .amount)
 moved c = simp (back (c .before .before .before .before .args .self .balance) (search needs), toZ-ofZ (c .before .before .before .before .fits .amount)) at (c .shift .ensures)
 
--- src/lib.rt:75:13
 in-amount-range-requires : tie.Need-in-amount-range-requires
 in-amount-range-requires c κs = search needs
 
--- src/lib.rt:76:13
 returns : tie.Need-returns
 returns c = refuses posted invalidInput _ _ _ (ap not (sym (amount-in (c .before))) ∙ c .if1 .taken)
 
--- src/lib.rt:81:13
 shift-requires : tie.Need-shift-requires
 shift-requires c κs = search needs
 
--- src/lib.rt:83:13
 returns-2 : tie.Need-returns-2
 returns-2 c =
     goes-on posted invalidInput _ _ _ (ap not (sym (amount-in (c .before .before .before .before .before))) ∙ c .before .before .before .before .if1 .left)
     (refuses posted outOfRange _ _ _ (ap not (sym (move-tells _ _ (moved (c .before .before)))) ∙ c .if2 .taken))
 
--- src/lib.rt:72:5
 returns-3 : tie.Need-returns-3
 returns-3 c =
     goes-on posted invalidInput _ _ _ (ap not (sym (amount-in (c .before .before .before .before .before .before))) ∙ c .before .before .before .before .before .if1 .left)

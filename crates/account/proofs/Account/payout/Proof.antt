@@ -1,4 +1,4 @@
-use mathlib.Core.Path.{_≡_, refl, sym, ap, _∙_}
+use mathlib.Core.Path.{_≡_, sym, ap, _∙_}
 use mathlib.Core.Bool.{not}
 use lib.IntN.{negℤ}
 use borrow.Author.Tests.{not-false}
@@ -12,10 +12,6 @@ use Rattle.refusal.specs.Rule.{refuses, goes-on, does}
 use borrow.Author.Needs.{needs}
 use Rattle.account.proofs.Account.payout.Statement.{statement}
 use Rattle.account.proofs.Account.payout.Tie as tie
-use Rattle.account.proofs.Account.payout.Reads as reads
-use Rattle.account.proofs.Account.payout.Lts as lts
-use Rattle.money.proofs.in_amount_range.Reads as in-amount-range-reads
-use Rattle.money.proofs.lower.Reads as lower-reads
 
 amount-in : (c : tie.After-in-amount-range) → c .in-amount-range .result ≡ inAmount (c .before .args .amount)
 amount-in c = simp (toZ-ofZ (c .before .fits .amount)) at (c .in-amount-range .ensures)
@@ -23,25 +19,20 @@ amount-in c = simp (toZ-ofZ (c .before .fits .amount)) at (c .in-amount-range .e
 moved : (c : tie.After-lower) → c .lower .result ≡ movedOf (c .before .before .before .before .args .self .balance) (negℤ (c .before .before .before .before .args .amount))
 moved c = simp (back (c .before .before .before .before .args .self .balance) (search needs), toZ-ofZ (c .before .before .before .before .fits .amount)) at (c .lower .ensures)
 
--- src/lib.rt:98:13
 in-amount-range-requires : tie.Need-in-amount-range-requires
 in-amount-range-requires c κs = search needs
 
--- src/lib.rt:99:13
 returns : tie.Need-returns
 returns c = refuses posted invalidInput _ _ _ (ap not (sym (amount-in (c .before))) ∙ c .if1 .taken)
 
--- src/lib.rt:104:13
 lower-requires : tie.Need-lower-requires
 lower-requires c κs = search needs
 
--- src/lib.rt:106:13
 returns-2 : tie.Need-returns-2
 returns-2 c =
     goes-on posted invalidInput _ _ _ (ap not (sym (amount-in (c .before .before .before .before .before))) ∙ c .before .before .before .before .if1 .left)
     (refuses posted balanceShort _ _ _ (ap not (sym (move-tells _ _ (moved (c .before .before)))) ∙ c .if2 .taken))
 
--- src/lib.rt:95:5
 returns-3 : tie.Need-returns-3
 returns-3 c =
     goes-on posted invalidInput _ _ _ (ap not (sym (amount-in (c .before .before .before .before .before .before))) ∙ c .before .before .before .before .before .if1 .left)

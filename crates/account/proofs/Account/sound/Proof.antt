@@ -3,27 +3,19 @@ use Rattle.account.specs.Account.{accountSound}
 use borrow.Author.Needs.{needs}
 use Rattle.account.proofs.Account.sound.Statement.{statement}
 use Rattle.account.proofs.Account.sound.Tie as tie
-use Rattle.account.proofs.Account.sound.Reads as reads
-use Rattle.account.proofs.Account.sound.Lts as lts
-use Rattle.money.proofs.in_total_range.Reads as in-total-range-reads
 
--- src/lib.rt:50:13
 in-total-range-requires : tie.Need-in-total-range-requires
 in-total-range-requires c κs = search needs
 
--- src/lib.rt:51:13
 in-total-range-requires-2 : tie.Need-in-total-range-requires-2
 in-total-range-requires-2 c κs = search needs
 
--- src/lib.rt:52:13
 in-total-range-requires-3 : tie.Need-in-total-range-requires-3
 in-total-range-requires-3 c κs = search needs
 
--- src/lib.rt:53:13
 in-total-range-requires-4 : tie.Need-in-total-range-requires-4
 in-total-range-requires-4 c κs = search needs
 
--- src/lib.rt:47:5
 returns : tie.Need-returns
 unfolding accountSound
 returns c = let s = c .before .before .before .before .before .before .before .before .args .self in rw (simp (back (s .balance) (search needs)) at (c .before .before .before .before .before .before .in-total-range .ensures), simp (back (s .allowance) (search needs)) at (c .before .before .before .before .in-total-range2 .ensures), simp (back (s .offered) (search needs)) at (c .before .before .in-total-range3 .ensures), simp (back (s .accepted) (search needs)) at (c .in-total-range4 .ensures))

@@ -5,27 +5,21 @@ use Rattle.refusal.specs.Refusal.{unauthorized, invalidInput, notFound}
 use Rattle.refusal.specs.Rule.{refuses, goes-on, does}
 use Rattle.account.proofs.SeenAccount.blacklist.Statement.{statement}
 use Rattle.account.proofs.SeenAccount.blacklist.Tie as tie
-use Rattle.account.proofs.SeenAccount.blacklist.Reads as reads
-use Rattle.account.proofs.SeenAccount.blacklist.Lts as lts
 
--- src/lib.rt:290:13
 returns : tie.Need-returns
 returns c = refuses posted unauthorized _ _ _ (c .if1 .taken)
 
--- src/lib.rt:296:13
 returns-2 : tie.Need-returns-2
 returns-2 c =
     goes-on posted unauthorized _ _ _ (c .before .if1 .left)
     (refuses posted invalidInput _ _ _ (lt-ltb _ _ (c .if2 .taken)))
 
--- src/lib.rt:302:13
 returns-3 : tie.Need-returns-3
 returns-3 c =
     goes-on posted unauthorized _ _ _ (c .before .before .before .if1 .left)
     (goes-on posted invalidInput _ _ _ (le-ltb _ _ (c .before .before .if2 .left))
     (refuses posted notFound _ _ _ (c .if3 .taken)))
 
--- src/lib.rt:285:5
 returns-4 : tie.Need-returns-4
 returns-4 c =
     goes-on posted unauthorized _ _ _ (c .before .before .before .if1 .left)

@@ -9,27 +9,21 @@ use Rattle.refusal.specs.Rule.{refuses, goes-on, does}
 use borrow.Author.Needs.{needs}
 use Rattle.account.proofs.SeenAccount.lender_repaid.Statement.{statement}
 use Rattle.account.proofs.SeenAccount.lender_repaid.Tie as tie
-use Rattle.account.proofs.SeenAccount.lender_repaid.Reads as reads
-use Rattle.account.proofs.SeenAccount.lender_repaid.Lts as lts
 
--- src/lib.rt:248:13
 returns : tie.Need-returns
 returns c = refuses posted unauthorized _ _ _ (c .if1 .taken)
 
--- src/lib.rt:254:13
 returns-2 : tie.Need-returns-2
 returns-2 c =
     goes-on posted unauthorized _ _ _ (c .before .if1 .left)
     (refuses posted invalidInput _ _ _ (lt-ltb _ _ (c .if2 .taken)))
 
--- src/lib.rt:260:13
 returns-3 : tie.Need-returns-3
 returns-3 c =
     goes-on posted unauthorized _ _ _ (c .before .before .before .if1 .left)
     (goes-on posted invalidInput _ _ _ (le-ltb _ _ (c .before .before .if2 .left))
     (refuses posted notFound _ _ _ (c .if3 .taken)))
 
--- src/lib.rt:267:13
 returns-4 : tie.Need-returns-4
 returns-4 c =
     goes-on posted unauthorized _ _ _ (c .before .before .before .before .if1 .left)
@@ -37,11 +31,9 @@ returns-4 c =
     (goes-on posted notFound _ _ _ (c .before .if3 .left)
     (refuses posted outOfRange _ _ _ (let a = c .before .before .before .before .before .before .args in lt-ltb countLimit (a .self .row .repaid + a .flag) (omega arith)))))
 
--- src/lib.rt:272:26
 add-if5 : tie.Need-add-if5
 add-if5 c = search needs
 
--- src/lib.rt:273:13
 returns-5 : tie.Need-returns-5
 returns-5 c =
     goes-on posted unauthorized _ _ _ (c .before .before .before .before .before .if1 .left)
@@ -49,11 +41,9 @@ returns-5 c =
     (goes-on posted notFound _ _ _ (c .before .before .if3 .left)
     (refuses posted outOfRange _ _ _ (lt-ltb _ _ (c .if5 .taken)))))
 
--- src/lib.rt:278:22
 add-row : tie.Need-add-row
 add-row c = search needs
 
--- src/lib.rt:243:5
 returns-6 : tie.Need-returns-6
 returns-6 c =
     goes-on posted unauthorized _ _ _ (c .before .before .before .before .before .if1 .left)

@@ -2,15 +2,10 @@ use mir.Facts.{toZ-ofZ}
 use borrow.Author.Needs.{needs}
 use Rattle.book.proofs.Book.deposit.Statement.{statement}
 use Rattle.book.proofs.Book.deposit.Tie as tie
-use Rattle.book.proofs.Book.deposit.Reads as reads
-use Rattle.book.proofs.Book.deposit.Lts as lts
-use Rattle.book.proofs.Book.apply.Reads as apply-reads
 
--- src/lib.rt:885:9
 apply-requires : tie.Need-apply-requires
 apply-requires c κs = search needs
 
--- src/lib.rt:882:5
 returns : tie.Need-returns
 returns c = simp (toZ-ofZ (c .before .fits .amount)) at (c .apply .ensures)
 

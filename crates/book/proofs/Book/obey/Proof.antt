@@ -1,5 +1,5 @@
 use borrow.Author.Needs.{needs}
-use mathlib.Core.Path.{refl, _∙_}
+use mathlib.Core.Path.{refl}
 use Rattle.rules.specs.Keys.{keysBy}
 use Rattle.book.specs.Turning.{Turned, turned, fetched, counts-by, accounts-left, invoices-left, offers-left, steps}
 use Rattle.book.proofs.Book.obey.Statement.{statement}

@@ -1,39 +1,26 @@
 use Rattle.book.specs.Tested.{shelved-of}
 use Rattle.book.specs.Stored.{bookTest}
 use Rattle.table.specs.All.{both-same}
-use mathlib.Core.Path.{_≡_, refl, sym, ap, _∙_}
+use mathlib.Core.Path.{sym, _∙_}
 use borrow.Author.Needs.{needs}
 use Rattle.book.proofs.Book.sound.Statement.{statement}
 use Rattle.book.proofs.Book.sound.Tie as tie
-use Rattle.book.proofs.Book.sound.Reads as reads
-use Rattle.book.proofs.Book.sound.Lts as lts
-use Rattle.settings.proofs.Settings.sound.Reads as Settings-sound-reads
-use Rattle.settings.proofs.Totals.sound.Reads as Totals-sound-reads
-use Rattle.shelves.proofs.Accounts.sound.Reads as Accounts-sound-reads
-use Rattle.shelves.proofs.Invoices.sound.Reads as Invoices-sound-reads
-use Rattle.shelves.proofs.Offers.sound.Reads as Offers-sound-reads
 
--- src/lib.rt:66:13
 sound-requires : tie.Need-sound-requires
 sound-requires c κs = search needs
 
--- src/lib.rt:68:13
 sound-requires-2 : tie.Need-sound-requires-2
 sound-requires-2 c κs = search needs
 
--- src/lib.rt:70:13
 sound-requires-3 : tie.Need-sound-requires-3
 sound-requires-3 c κs = search needs
 
--- src/lib.rt:72:13
 sound-requires-4 : tie.Need-sound-requires-4
 sound-requires-4 c κs = search needs
 
--- src/lib.rt:74:13
 sound-requires-5 : tie.Need-sound-requires-5
 sound-requires-5 c κs = search needs
 
--- src/lib.rt:61:5
 returns : tie.Need-returns
 unfolding bookTest
 returns c =

@@ -2,15 +2,10 @@ use mir.Facts.{toZ-ofZ}
 use borrow.Author.Needs.{needs}
 use Rattle.book.proofs.Book.update_stats_repaid.Statement.{statement}
 use Rattle.book.proofs.Book.update_stats_repaid.Tie as tie
-use Rattle.book.proofs.Book.update_stats_repaid.Reads as reads
-use Rattle.book.proofs.Book.update_stats_repaid.Lts as lts
-use Rattle.book.proofs.Book.apply.Reads as apply-reads
 
--- src/lib.rt:1075:9
 apply-requires : tie.Need-apply-requires
 apply-requires c κs = search needs
 
--- src/lib.rt:1072:5
 returns : tie.Need-returns
 returns c = simp (toZ-ofZ (c .before .fits .amount), toZ-ofZ (c .before .fits .fee)) at (c .apply .ensures)
 

@@ -12,7 +12,7 @@ use Rattle.offer.specs.Rules.{amendChecks}
 use Rattle.rules.specs.Model.{Model, accountIn, offerIn}
 use Rattle.rules.specs.Rules.{originatorOf, termsIn, withLenderRound, amendedIn, agreeing, concluding}
 use Rattle.rules.specs.Agreeing.{agrees-on, agrees-off}
-use Rattle.near.specs.Near.{viewOf, turnOf, dealKeys, sidesOf}
+use Rattle.near.specs.Near.{viewOf, turnOf, dealKeys}
 use Rattle.near.specs.Steps.{same}
 use Rattle.near.specs.Sides.{turn-at, view-at, amend-keys}
 use borrow.Author.Needs.{needs}

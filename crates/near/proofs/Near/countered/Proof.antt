@@ -2,7 +2,7 @@ use mathlib.Core.Path.{_≡_, refl, sym, ap, _∙_}
 use Prim.Native.Nat.{ℕ}
 use borrow.Author.Tests.{eqb-true, eqb-false, not-true, not-false}
 use Rattle.refusal.specs.Refusal.{first, none-left}
-use Rattle.refusal.specs.Rule.{answered, refused}
+use Rattle.refusal.specs.Rule.{refused}
 use Rattle.refusal.specs.Chain.{stops, then-accepted, then-answers}
 use Rattle.table.specs.declared.Named.the-variants.{Id}
 use Rattle.terms.specs.Terms.{sameTerms}
@@ -10,7 +10,7 @@ use Rattle.offer.specs.Rules.{counterChecks}
 use Rattle.rules.specs.Model.{Model, accountIn, offerIn, paperOf}
 use Rattle.rules.specs.Rules.{lenderOf, termsIn, counteredIn, agreeing, concluding}
 use Rattle.rules.specs.Agreeing.{agrees-on, agrees-off}
-use Rattle.near.specs.Near.{viewOf, turnOf, dealKeys, sidesOf}
+use Rattle.near.specs.Near.{viewOf, turnOf, dealKeys}
 use Rattle.near.specs.Steps.{same}
 use Rattle.near.specs.Sides.{turn-at, view-at, counter-keys}
 use borrow.Author.Needs.{needs}

@@ -1,18 +1,12 @@
 use mathlib.Core.Path.{_≡_, refl, sym, ap, _∙_}
 use Prim.Native.Nat.{ℕ}
 use borrow.Author.Tests.{eqb-true, eqb-false, not-true, not-false}
-use Rattle.refusal.specs.Refusal.{Check, first}
-use Rattle.refusal.specs.Rule.{Rule, answered, refused, accepted}
+use Rattle.refusal.specs.Refusal.{first}
+use Rattle.refusal.specs.Rule.{answered, refused, accepted}
 use Rattle.refusal.specs.Chain.{stops, goes, number-of, done-of}
-use Rattle.table.specs.declared.Named.{Named}
-use Rattle.table.specs.declared.Named.the-variants.{Id}
-use Rattle.rules.specs.Keys.{keysBy}
 use Rattle.near.specs.Near.{viewOf, turnOf}
 use Rattle.near.specs.Steps.{same}
-use Rattle.table.specs.Tables.{Table}
 use Rattle.refusal.specs.Choice.{pick}
-use Rattle.account.specs.declared.Account.{Account}
-use Rattle.settings.specs.declared.Totals.{Totals}
 use Rattle.settings.specs.Totals.{counted, financeOf}
 use Rattle.parties.specs.Settlement.{settleAccounts}
 use Rattle.parties.specs.Parties.{partied, partiesOf}

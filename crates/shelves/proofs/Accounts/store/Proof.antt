@@ -4,16 +4,12 @@ use mathlib.Core.Bool.{Bool, not, _&&_}
 use Rattle.table.specs.NamedLaws.{fine-by}
 use Rattle.shelves.specs.Accounts.{AccountShelf}
 use mathlib.Core.Path.{_≡_, refl, sym, ap, _∙_}
-use mathlib.Core.Bool.{true}
 use Prim.Native.Nat.{_<_}
 use native.Mathlib.Omega.{arith}
-use Rattle.table.specs.Tables.{Table}
-use Rattle.table.specs.Storing.{Left, good, stays, room, grows}
-use Rattle.table.specs.Spots.{spotBy}
+use Rattle.table.specs.Storing.{good, stays, room, grows}
 use Rattle.table.specs.SpotLaws.{spot-below, spot-found}
 use Rattle.table.specs.Tables.{has}
-use Rattle.table.specs.Named.{findBy, putBy, idOf}
-use Rattle.account.specs.declared.Account.{Account}
+use Rattle.table.specs.Named.{findBy, putBy}
 use Rattle.shelves.specs.Accounts.{accountsOf, asAccounts, storedAccounts}
 use Rattle.shelves.specs.Laws.{accounts-keeping}
 use Rattle.shelves.specs.Seeing.{accountRow}

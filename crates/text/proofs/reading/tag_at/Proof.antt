@@ -2,7 +2,6 @@ use mathlib.Core.Path.{_≡_, refl, sym, _∙_}
 use Prim.Native.Nat.{_-_, _≤_}
 use native.Mathlib.Omega.{arith}
 use lib.ListN.{drop}
-use borrow.Author.Needs.{needs}
 use Rattle.text.specs.Reading.{tagBy, tagIn}
 use Rattle.text.specs.ReadingLaws.{tag-here, tag-on, no-tag}
 use Rattle.text.proofs.reading.tag_at.Statement.{statement}

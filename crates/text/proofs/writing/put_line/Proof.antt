@@ -15,43 +15,33 @@ use Rattle.text.specs.LineLaws.{word-fits, word-in}
 use Rattle.text.proofs.writing.put_line.Statement.{statement}
 use Rattle.text.proofs.writing.put_line.Tie as tie
 
--- src/writing.rt:61:9
 word-requires : tie.Need-word-requires
 word-requires c κs = search needs
 
--- src/writing.rt:64:39
 array-share-prefix-name : tie.Need-array-share-prefix-name
 array-share-prefix-name c = word-fits (wordOf (c .before .before .before .before .args .tag)) (c .before .before .word .ensures)
 
--- src/writing.rt:64:39
 slice-aggregate-put : tie.Need-slice-aggregate-put
 slice-aggregate-put c = sym (length-take-le _ _ (word-fits (wordOf (c .before .before .before .before .before .args .tag)) (c .before .before .before .word .ensures)))
 
--- src/writing.rt:64:9
 put-requires : tie.Need-put-requires
 put-requires c κs = search needs
 
--- src/writing.rt:65:9
 fields-requires : tie.Need-fields-requires
 fields-requires c κs = search needs
 
--- src/writing.rt:67:9
 put-numerals-requires : tie.Need-put-numerals-requires
 put-numerals-requires c κs = omega (arith, ap (λ (r : Listed). r .0) (c .before .before .fields .ensures), few (c .before .before .before .before .before .before .before .before .before .before .before .args .tag))
 
--- src/writing.rt:68:29
 slice-aggregate-put-2 : tie.Need-slice-aggregate-put-2
 slice-aggregate-put-2 c = search needs
 
--- src/writing.rt:68:5
 put-requires-2 : tie.Need-put-requires-2
 put-requires-2 c κs = search needs
 
--- src/writing.rt:58:1
 same-length : tie.Need-same-length
 same-length c = search needs
 
--- src/writing.rt:58:1
 returns : tie.Need-returns
 unfolding lineOf
 returns c =

@@ -6,32 +6,25 @@ use Rattle.text.specs.Line.{numeralOf}
 use Rattle.text.proofs.writing.put_numeral.Statement.{statement}
 use Rattle.text.proofs.writing.put_numeral.Tie as tie
 
--- src/writing.rt:28:8
 signed-requires : tie.Need-signed-requires
 signed-requires c κs = search needs
 
--- src/writing.rt:29:9
 put-signed-requires : tie.Need-put-signed-requires
 put-signed-requires c κs = search needs
 
--- src/writing.rt:29:9
 same-length : tie.Need-same-length
 same-length c = search needs
 
--- src/writing.rt:29:9
 returns : tie.Need-returns
 unfolding numeralOf
 returns c = retext (c .before .before .put-signed .ensures) (sym (pick-on _ _ (sym (c .before .before .before .before .before .signed .ensures) ∙ c .before .before .before .before .if1 .taken)))
 
--- src/writing.rt:31:5
 put-decimal-requires : tie.Need-put-decimal-requires
 put-decimal-requires c κs = search needs
 
--- src/writing.rt:25:1
 same-length-2 : tie.Need-same-length-2
 same-length-2 c = search needs
 
--- src/writing.rt:25:1
 returns-2 : tie.Need-returns-2
 unfolding numeralOf
 returns-2 c = retext (c .before .before .put-decimal .ensures) (sym (pick-off _ _ (sym (c .before .before .before .before .before .signed .ensures) ∙ c .before .before .before .before .if1 .left)))

@@ -9,44 +9,34 @@ use Rattle.text.specs.Line.{signedOf}
 use Rattle.text.proofs.writing.put_signed.Statement.{statement}
 use Rattle.text.proofs.writing.put_signed.Tie as tie
 
--- src/writing.rt:19:9
 put-decimal-requires : tie.Need-put-decimal-requires
 put-decimal-requires c κs = search needs
 
--- src/writing.rt:19:9
 same-length : tie.Need-same-length
 same-length c = search needs
 
--- src/writing.rt:19:9
 returns : tie.Need-returns
 unfolding signedOf
 returns c = retext (c .before .before .put-decimal .ensures) (sym (pick-on _ _ (lt-ltb _ _ (c .before .before .before .before .if1 .taken))))
 
--- src/writing.rt:21:39
 slice-aggregate-put : tie.Need-slice-aggregate-put
 slice-aggregate-put c = search needs
 
--- src/writing.rt:21:9
 put-requires : tie.Need-put-requires
 put-requires c κs = search needs
 
--- src/writing.rt:22:37
 sub-put-decimal : tie.Need-sub-put-decimal
 sub-put-decimal c = search needs
 
--- src/writing.rt:22:37
 add-put-decimal : tie.Need-add-put-decimal
 add-put-decimal c = search needs
 
--- src/writing.rt:22:5
 put-decimal-requires-2 : tie.Need-put-decimal-requires-2
 put-decimal-requires-2 c κs = search needs
 
--- src/writing.rt:15:1
 same-length-2 : tie.Need-same-length-2
 same-length-2 c = search needs
 
--- src/writing.rt:15:1
 returns-2 : tie.Need-returns-2
 unfolding signedOf
 returns-2 c =

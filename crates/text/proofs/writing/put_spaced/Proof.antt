@@ -3,23 +3,18 @@ use borrow.Author.Needs.{needs}
 use Rattle.text.proofs.writing.put_spaced.Statement.{statement}
 use Rattle.text.proofs.writing.put_spaced.Tie as tie
 
--- src/writing.rt:41:39
 slice-aggregate-put : tie.Need-slice-aggregate-put
 slice-aggregate-put c = search needs
 
--- src/writing.rt:41:9
 put-requires : tie.Need-put-requires
 put-requires c κs = search needs
 
--- src/writing.rt:42:5
 put-numeral-requires : tie.Need-put-numeral-requires
 put-numeral-requires c κs = search needs
 
--- src/writing.rt:38:1
 same-length : tie.Need-same-length
 same-length c = search needs
 
--- src/writing.rt:38:1
 returns : tie.Need-returns
 returns c = next (c .before .before .before .before .before .before .put .ensures) (c .before .before .put-numeral .ensures)
 
