@@ -57,7 +57,7 @@ fn posted_to(mut row: Account, old: i64, new: i64) -> MovedAccount
     ensures { λ r. ⌜ r ≡ postedTo row (new -ℤ old) ⌝ }
 {
     let ok = post(&mut row, old, new);
-    MovedAccount { ok: ok, row: row }
+    MovedAccount { ok, row }
 }
 
 impl Account {
@@ -200,10 +200,7 @@ impl Account {
             };
         }
         let row = m.row;
-        AccountPosted {
-            answer: 0,
-            row: row,
-        }
+        AccountPosted { answer: 0, row }
     }
 
     // A settled amount leaves the lender: its allowance and its balance fall.
@@ -278,39 +275,36 @@ impl SeenAccount {
         if !allowed {
             return AccountPosted {
                 answer: refusal::UNAUTHORIZED,
-                row: row,
+                row,
             };
         }
         if 1 < flag {
             return AccountPosted {
                 answer: refusal::INVALID_INPUT,
-                row: row,
+                row,
             };
         }
         if !self.here {
             return AccountPosted {
                 answer: refusal::NOT_FOUND,
-                row: row,
+                row,
             };
         }
         let n = row.repaid;
         if COUNT_LIMIT < n {
             return AccountPosted {
                 answer: refusal::OUT_OF_RANGE,
-                row: row,
+                row,
             };
         }
         if COUNT_LIMIT < n + flag {
             return AccountPosted {
                 answer: refusal::OUT_OF_RANGE,
-                row: row,
+                row,
             };
         }
         row.repaid = n + flag;
-        AccountPosted {
-            answer: 0,
-            row: row,
-        }
+        AccountPosted { answer: 0, row }
     }
 
     pub fn blacklist(self, allowed: bool, code: u32) -> AccountPosted
@@ -320,26 +314,23 @@ impl SeenAccount {
         if !allowed {
             return AccountPosted {
                 answer: refusal::UNAUTHORIZED,
-                row: row,
+                row,
             };
         }
         if 1 < code {
             return AccountPosted {
                 answer: refusal::INVALID_INPUT,
-                row: row,
+                row,
             };
         }
         if !self.here {
             return AccountPosted {
                 answer: refusal::NOT_FOUND,
-                row: row,
+                row,
             };
         }
         row.blacklisted = code == 1;
-        AccountPosted {
-            answer: 0,
-            row: row,
-        }
+        AccountPosted { answer: 0, row }
     }
 }
 
@@ -355,10 +346,7 @@ impl SeenAccount {
                 row: none,
             };
         }
-        SeenAccount {
-            here: true,
-            row: row,
-        }
+        SeenAccount { here: true, row }
     }
 
     // The row made `row`, where there is one.
@@ -368,10 +356,7 @@ impl SeenAccount {
         if !self.here {
             return self;
         }
-        SeenAccount {
-            here: true,
-            row: row,
-        }
+        SeenAccount { here: true, row }
     }
 }
 

@@ -42,11 +42,11 @@ impl Book {
         let totals = Totals::none();
         let settings = Settings::fresh();
         Book {
-            accounts: accounts,
-            invoices: invoices,
-            offers: offers,
-            totals: totals,
-            settings: settings,
+            accounts,
+            invoices,
+            offers,
+            totals,
+            settings,
         }
     }
 
@@ -93,16 +93,16 @@ impl Book {
         let parties = Parties {
             first: a,
             second: b,
-            one: one,
+            one,
         };
         let totals = self.totals;
         let settings = self.settings;
         let near = Near {
-            parties: parties,
-            paper: paper,
-            deal: deal,
-            totals: totals,
-            settings: settings,
+            parties,
+            paper,
+            deal,
+            totals,
+            settings,
         };
         let rows = Counts {
             accounts: accounts.count,
@@ -147,19 +147,16 @@ impl Book {
     pub fn open_account(self, now: u64, caller: u64) -> Step
         ensures { λ r. ⌜ r ≡ answers self (OpenAccount now caller) ⌝ }
     {
-        self.apply(Command::OpenAccount {
-            now: now,
-            caller: caller,
-        })
+        self.apply(Command::OpenAccount { now, caller })
     }
 
     pub fn deposit(self, now: u64, caller: u64, amount: i64) -> Step
         ensures { λ r. ⌜ r ≡ answers self (Deposit now caller amount) ⌝ }
     {
         self.apply(Command::Deposit {
-            now: now,
-            caller: caller,
-            amount: amount,
+            now,
+            caller,
+            amount,
         })
     }
 
@@ -167,9 +164,9 @@ impl Book {
         ensures { λ r. ⌜ r ≡ answers self (Payout now caller amount) ⌝ }
     {
         self.apply(Command::Payout {
-            now: now,
-            caller: caller,
-            amount: amount,
+            now,
+            caller,
+            amount,
         })
     }
 
@@ -177,9 +174,9 @@ impl Book {
         ensures { λ r. ⌜ r ≡ answers self (Approve now caller amount) ⌝ }
     {
         self.apply(Command::Approve {
-            now: now,
-            caller: caller,
-            amount: amount,
+            now,
+            caller,
+            amount,
         })
     }
 
@@ -187,21 +184,17 @@ impl Book {
         ensures { λ r. ⌜ r ≡ answers self (RegisterInvoice now caller id amount) ⌝ }
     {
         self.apply(Command::RegisterInvoice {
-            now: now,
-            caller: caller,
-            id: id,
-            amount: amount,
+            now,
+            caller,
+            id,
+            amount,
         })
     }
 
     pub fn cancel_invoice(self, now: u64, caller: u64, id: u64) -> Step
         ensures { λ r. ⌜ r ≡ answers self (CancelInvoice now caller id) ⌝ }
     {
-        self.apply(Command::CancelInvoice {
-            now: now,
-            caller: caller,
-            id: id,
-        })
+        self.apply(Command::CancelInvoice { now, caller, id })
     }
 
     pub fn create_offer(
@@ -216,54 +209,42 @@ impl Book {
         ensures { λ r. ⌜ r ≡ answers self (CreateOffer now caller id invoice terms expires) ⌝ }
     {
         self.apply(Command::CreateOffer {
-            now: now,
-            caller: caller,
-            id: id,
-            invoice: invoice,
-            terms: terms,
-            expires: expires,
+            now,
+            caller,
+            id,
+            invoice,
+            terms,
+            expires,
         })
     }
 
     pub fn withdraw_offer(self, now: u64, caller: u64, id: u64) -> Step
         ensures { λ r. ⌜ r ≡ answers self (WithdrawOffer now caller id) ⌝ }
     {
-        self.apply(Command::WithdrawOffer {
-            now: now,
-            caller: caller,
-            id: id,
-        })
+        self.apply(Command::WithdrawOffer { now, caller, id })
     }
 
     pub fn accept_offer(self, now: u64, caller: u64, id: u64) -> Step
         ensures { λ r. ⌜ r ≡ answers self (AcceptOffer now caller id) ⌝ }
     {
-        self.apply(Command::AcceptOffer {
-            now: now,
-            caller: caller,
-            id: id,
-        })
+        self.apply(Command::AcceptOffer { now, caller, id })
     }
 
     pub fn reject_offer(self, now: u64, caller: u64, id: u64) -> Step
         ensures { λ r. ⌜ r ≡ answers self (RejectOffer now caller id) ⌝ }
     {
-        self.apply(Command::RejectOffer {
-            now: now,
-            caller: caller,
-            id: id,
-        })
+        self.apply(Command::RejectOffer { now, caller, id })
     }
 
     pub fn amend_offer(self, now: u64, caller: u64, id: u64, terms: Terms, round: u32) -> Step
         ensures { λ r. ⌜ r ≡ answers self (AmendOffer now caller id terms round) ⌝ }
     {
         self.apply(Command::AmendOffer {
-            now: now,
-            caller: caller,
-            id: id,
-            terms: terms,
-            round: round,
+            now,
+            caller,
+            id,
+            terms,
+            round,
         })
     }
 
@@ -271,22 +252,18 @@ impl Book {
         ensures { λ r. ⌜ r ≡ answers self (CounterOffer now caller id terms round) ⌝ }
     {
         self.apply(Command::CounterOffer {
-            now: now,
-            caller: caller,
-            id: id,
-            terms: terms,
-            round: round,
+            now,
+            caller,
+            id,
+            terms,
+            round,
         })
     }
 
     pub fn close_negotiation(self, now: u64, caller: u64, id: u64) -> Step
         ensures { λ r. ⌜ r ≡ answers self (CloseNegotiation now caller id) ⌝ }
     {
-        self.apply(Command::CloseNegotiation {
-            now: now,
-            caller: caller,
-            id: id,
-        })
+        self.apply(Command::CloseNegotiation { now, caller, id })
     }
 
     pub fn schedule_repayment(
@@ -301,12 +278,12 @@ impl Book {
         ensures { λ r. ⌜ r ≡ answers self (ScheduleRepayment now caller id count code first) ⌝ }
     {
         self.apply(Command::ScheduleRepayment {
-            now: now,
-            caller: caller,
-            id: id,
-            count: count,
-            code: code,
-            first: first,
+            now,
+            caller,
+            id,
+            count,
+            code,
+            first,
         })
     }
 
@@ -314,10 +291,10 @@ impl Book {
         ensures { λ r. ⌜ r ≡ answers self (UpdateStatus now caller id code) ⌝ }
     {
         self.apply(Command::UpdateStatus {
-            now: now,
-            caller: caller,
-            id: id,
-            code: code,
+            now,
+            caller,
+            id,
+            code,
         })
     }
 
@@ -325,10 +302,10 @@ impl Book {
         ensures { λ r. ⌜ r ≡ answers self (UpdateRepaid now caller id amount) ⌝ }
     {
         self.apply(Command::UpdateRepaid {
-            now: now,
-            caller: caller,
-            id: id,
-            amount: amount,
+            now,
+            caller,
+            id,
+            amount,
         })
     }
 
@@ -336,10 +313,10 @@ impl Book {
         ensures { λ r. ⌜ r ≡ answers self (UpdateLenderRepaid now caller id code) ⌝ }
     {
         self.apply(Command::UpdateLenderRepaid {
-            now: now,
-            caller: caller,
-            id: id,
-            code: code,
+            now,
+            caller,
+            id,
+            code,
         })
     }
 
@@ -347,59 +324,45 @@ impl Book {
         ensures { λ r. ⌜ r ≡ answers self (UpdateTotalsRepaid now caller amount fee) ⌝ }
     {
         self.apply(Command::UpdateTotalsRepaid {
-            now: now,
-            caller: caller,
-            amount: amount,
-            fee: fee,
+            now,
+            caller,
+            amount,
+            fee,
         })
     }
 
     pub fn pause(self, now: u64, seats: u64) -> Step
         ensures { λ r. ⌜ r ≡ answers self (Pause now seats) ⌝ }
     {
-        self.apply(Command::Pause {
-            now: now,
-            seats: seats,
-        })
+        self.apply(Command::Pause { now, seats })
     }
 
     pub fn unpause(self, now: u64, seats: u64) -> Step
         ensures { λ r. ⌜ r ≡ answers self (Unpause now seats) ⌝ }
     {
-        self.apply(Command::Unpause {
-            now: now,
-            seats: seats,
-        })
+        self.apply(Command::Unpause { now, seats })
     }
 
     pub fn set_negotiation_window(self, now: u64, seats: u64, window: u64) -> Step
         ensures { λ r. ⌜ r ≡ answers self (SetWindow now seats window) ⌝ }
     {
-        self.apply(Command::SetWindow {
-            now: now,
-            seats: seats,
-            window: window,
-        })
+        self.apply(Command::SetWindow { now, seats, window })
     }
 
     pub fn set_repayment_account(self, now: u64, id: u64, seats: u64) -> Step
         ensures { λ r. ⌜ r ≡ answers self (SetRepaymentAccount now id seats) ⌝ }
     {
-        self.apply(Command::SetRepaymentAccount {
-            now: now,
-            id: id,
-            seats: seats,
-        })
+        self.apply(Command::SetRepaymentAccount { now, id, seats })
     }
 
     pub fn set_blacklisted(self, now: u64, id: u64, code: u32, seats: u64) -> Step
         ensures { λ r. ⌜ r ≡ answers self (SetBlacklisted now id code seats) ⌝ }
     {
         self.apply(Command::SetBlacklisted {
-            now: now,
-            id: id,
-            code: code,
-            seats: seats,
+            now,
+            id,
+            code,
+            seats,
         })
     }
 
@@ -407,10 +370,10 @@ impl Book {
         ensures { λ r. ⌜ r ≡ answers self (SetSeats now seats threshold next) ⌝ }
     {
         self.apply(Command::SetSeats {
-            now: now,
-            seats: seats,
-            threshold: threshold,
-            next: next,
+            now,
+            seats,
+            threshold,
+            next,
         })
     }
 }

@@ -37,7 +37,7 @@ fn malformed(book: Book) -> Step
 {
     Step {
         answer: refusal::JOURNAL_MALFORMED,
-        book: book,
+        book,
     }
 }
 
@@ -194,10 +194,7 @@ fn take_turn(book: Book) -> Turn {
     let mut frame: [u8; 128] = [0; 128];
     let n = io::read_full(0, &mut frame);
     if n < 128 {
-        return Turn {
-            book: book,
-            more: false,
-        };
+        return Turn { book, more: false };
     }
     let next = served(book, frame);
     Turn {

@@ -81,14 +81,11 @@ fn accounts(s: &[u8; 65536], at: usize) -> AccountsRead {
         i += 1;
     }
     let table = Accounts {
-        ids: ids,
-        rows: rows,
+        ids,
+        rows,
         count: n,
     };
-    AccountsRead {
-        table: table,
-        at: p,
-    }
+    AccountsRead { table, at: p }
 }
 
 fn invoice(s: &[u8; 65536], at: usize) -> Invoice {
@@ -114,14 +111,11 @@ fn invoices(s: &[u8; 65536], at: usize) -> InvoicesRead {
         i += 1;
     }
     let table = Invoices {
-        ids: ids,
-        rows: rows,
+        ids,
+        rows,
         count: n,
     };
-    InvoicesRead {
-        table: table,
-        at: p,
-    }
+    InvoicesRead { table, at: p }
 }
 
 fn offer(s: &[u8; 65536], at: usize) -> Offer {
@@ -131,7 +125,7 @@ fn offer(s: &[u8; 65536], at: usize) -> Offer {
         duration: bridge_words::get(s, at, 5),
     };
     Offer {
-        terms: terms,
+        terms,
         invoice: bridge_words::get(s, at, 1),
         lender: bridge_words::get(s, at, 2),
         expires: bridge_words::get(s, at, 6),
@@ -185,7 +179,7 @@ fn negotiation(s: &[u8; 65536], at: usize) -> NegotiationRead {
         len: n,
         outcome: bridge_words::half(bridge_words::get(s, at, 10)),
     };
-    NegotiationRead { row: row, at: p }
+    NegotiationRead { row, at: p }
 }
 
 fn offers(s: &[u8; 65536], at: usize) -> Offers {
@@ -212,10 +206,10 @@ fn offers(s: &[u8; 65536], at: usize) -> Offers {
         i += 1;
     }
     Offers {
-        ids: ids,
-        rows: rows,
-        negotiations: negotiations,
-        schedules: schedules,
+        ids,
+        rows,
+        negotiations,
+        schedules,
         count: n,
     }
 }
@@ -229,10 +223,10 @@ pub fn book(s: &[u8; 65536]) -> Book {
     let accounts = a.table;
     let invoices = i.table;
     Book {
-        accounts: accounts,
-        invoices: invoices,
-        offers: offers,
-        totals: totals,
-        settings: settings,
+        accounts,
+        invoices,
+        offers,
+        totals,
+        settings,
     }
 }

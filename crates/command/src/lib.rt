@@ -174,9 +174,9 @@ fn called(caller: u64, second: Other, paper: Paper, offer: Named) -> Names
         called: true,
         pausable: true,
         first: Named::Id(caller),
-        second: second,
-        paper: paper,
-        offer: offer,
+        second,
+        paper,
+        offer,
     }
 }
 
@@ -185,8 +185,8 @@ fn uncalled(pausable: bool, first: Named) -> Names
 {
     Names {
         called: false,
-        pausable: pausable,
-        first: first,
+        pausable,
+        first,
         second: Other::Nobody,
         paper: Paper::Nothing,
         offer: Named::Nothing,

@@ -47,8 +47,8 @@ impl Invoice {
         ensures { λ r. ⌜ r ≡ invoiceOf originator amount ⌝ }
     {
         Invoice {
-            originator: originator,
-            amount: amount,
+            originator,
+            amount,
             status: PENDING,
         }
     }
@@ -93,28 +93,25 @@ impl SeenInvoice {
         if !self.here {
             return InvoicePosted {
                 answer: refusal::NOT_FOUND,
-                row: row,
+                row,
             };
         }
         let o = row.originator;
         if o != caller {
             return InvoicePosted {
                 answer: refusal::UNAUTHORIZED,
-                row: row,
+                row,
             };
         }
         let s = row.status;
         if s != PENDING {
             return InvoicePosted {
                 answer: refusal::INVALID_TRANSITION,
-                row: row,
+                row,
             };
         }
         row.status = CANCELLED;
-        InvoicePosted {
-            answer: 0,
-            row: row,
-        }
+        InvoicePosted { answer: 0, row }
     }
 }
 
@@ -146,10 +143,7 @@ impl SeenInvoice {
                 row: none,
             };
         }
-        SeenInvoice {
-            here: true,
-            row: row,
-        }
+        SeenInvoice { here: true, row }
     }
 
     // The row made `row`, where there is one.
@@ -159,10 +153,7 @@ impl SeenInvoice {
         if !self.here {
             return self;
         }
-        SeenInvoice {
-            here: true,
-            row: row,
-        }
+        SeenInvoice { here: true, row }
     }
 }
 

@@ -59,16 +59,16 @@ impl OfferNumbers {
         let amount = money::bits(t.amount);
         let repaid = money::bits(o.repaid);
         OfferNumbers {
-            id: id,
+            id,
             invoice: o.invoice,
             lender: o.lender,
-            amount: amount,
+            amount,
             rate: t.rate as u64,
             duration: t.duration,
             expires: o.expires,
             status: o.status as u64,
             funded: o.funded,
-            repaid: repaid,
+            repaid,
         }
     }
 

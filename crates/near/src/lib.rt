@@ -325,10 +325,7 @@ impl Near {
             };
         }
         let row = Invoice::new(caller, amount);
-        let next = SeenInvoice {
-            here: true,
-            row: row,
-        };
+        let next = SeenInvoice { here: true, row };
         self.paper = next;
         Turn {
             answer: 0,

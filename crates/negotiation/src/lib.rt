@@ -6,11 +6,6 @@ ghost use Rattle.negotiation.specs.Whole.{Whole};
 
 pub const ROUND_LIMIT: u32 = 12;
 
-// Who put a round down.
-pub const LENDER: u32 = 0;
-
-pub const ORIGINATOR: u32 = 1;
-
 // Where a negotiation stands. Closed, Accepted and Expired can be stored as its outcome; 0 is no outcome.
 pub const NONE: u32 = 0;
 
@@ -31,6 +26,11 @@ pub struct Round {
     pub party: u32,
 }
 
+// Who put a round down.
+pub const LENDER: u32 = 0;
+
+pub const ORIGINATOR: u32 = 1;
+
 pub struct Negotiation {
     pub rounds: [Round; 12],
     pub deadline: u64,
@@ -47,7 +47,7 @@ impl Round {
             duration: t.duration,
             time: now,
             rate: t.rate,
-            party: party,
+            party,
         }
     }
 

@@ -65,10 +65,7 @@ pub struct DealPosted {
 fn refused(row: Deal, answer: u64) -> DealPosted
     ensures { λ r. ⌜ r ≡ posted answer row ⌝ }
 {
-    DealPosted {
-        answer: answer,
-        row: row,
-    }
+    DealPosted { answer, row }
 }
 
 impl Offer {
@@ -139,9 +136,9 @@ impl Deal {
         Deal {
             offer: Offer {
                 terms: t,
-                invoice: invoice,
-                lender: lender,
-                expires: expires,
+                invoice,
+                lender,
+                expires,
                 funded: 0,
                 repaid: 0,
                 status: PENDING,
@@ -344,10 +341,7 @@ impl SeenDeal {
         }
         o.status = REJECTED;
         row.offer = o;
-        DealPosted {
-            answer: 0,
-            row: row,
-        }
+        DealPosted { answer: 0, row }
     }
 
     pub fn reject(self, caller: u64, paper: SeenInvoice) -> DealPosted
@@ -372,10 +366,7 @@ impl SeenDeal {
         }
         o.status = REJECTED;
         row.offer = o;
-        DealPosted {
-            answer: 0,
-            row: row,
-        }
+        DealPosted { answer: 0, row }
     }
 
     // The number of what stands against an acceptance before it is settled, 0 where nothing does.
@@ -500,10 +491,7 @@ impl SeenDeal {
         let end = outcome_at(s);
         let next = n.closed(end);
         row.negotiation = next;
-        DealPosted {
-            answer: 0,
-            row: row,
-        }
+        DealPosted { answer: 0, row }
     }
 
     fn schedule_refusal(
@@ -570,16 +558,13 @@ impl SeenDeal {
             return refused(row, refusal::INVALID_INPUT);
         }
         let made = Schedule {
-            count: count,
-            code: code,
+            count,
+            code,
             installment: x,
-            first: first,
+            first,
         };
         row.schedule = made;
-        DealPosted {
-            answer: 0,
-            row: row,
-        }
+        DealPosted { answer: 0, row }
     }
 
     pub fn update_status(self, allowed: bool, code: u32) -> DealPosted
@@ -598,10 +583,7 @@ impl SeenDeal {
         let mut o = row.offer;
         o.status = code;
         row.offer = o;
-        DealPosted {
-            answer: 0,
-            row: row,
-        }
+        DealPosted { answer: 0, row }
     }
 
     pub fn update_repaid(self, allowed: bool, amount: i64) -> DealPosted
@@ -620,10 +602,7 @@ impl SeenDeal {
         let mut o = row.offer;
         o.repaid = amount;
         row.offer = o;
-        DealPosted {
-            answer: 0,
-            row: row,
-        }
+        DealPosted { answer: 0, row }
     }
 }
 
@@ -633,10 +612,7 @@ impl SeenDeal {
         ensures { λ r. ⌜ r ≡ seenDeal absent ⌝ }
     {
         let row = Deal::none();
-        SeenDeal {
-            here: false,
-            row: row,
-        }
+        SeenDeal { here: false, row }
     }
 
     // What is read at a spot: the row where it is there, else none.
@@ -650,10 +626,7 @@ impl SeenDeal {
                 row: none,
             };
         }
-        SeenDeal {
-            here: true,
-            row: row,
-        }
+        SeenDeal { here: true, row }
     }
 
     // The row made `row`, where there is one.
@@ -663,10 +636,7 @@ impl SeenDeal {
         if !self.here {
             return self;
         }
-        SeenDeal {
-            here: true,
-            row: row,
-        }
+        SeenDeal { here: true, row }
     }
 }
 

@@ -27,10 +27,7 @@ pub struct PartiesPosted {
 fn kept(answer: u64, parties: Parties) -> PartiesPosted
     ensures { λ r. ⌜ r ≡ postedParties answer parties ⌝ }
 {
-    PartiesPosted {
-        answer: answer,
-        parties: parties,
-    }
+    PartiesPosted { answer, parties }
 }
 
 impl Parties {
@@ -64,10 +61,7 @@ impl Parties {
     pub fn let_in(mut self, row: Account) -> Parties
         ensures { λ r. ⌜ r ≡ letIn self row ⌝ }
     {
-        let came = SeenAccount {
-            here: true,
-            row: row,
-        };
+        let came = SeenAccount { here: true, row };
         self.first = came;
         if !self.one {
             return self;
@@ -95,8 +89,8 @@ impl Parties {
         let first = self.second;
         let second = self.first;
         Parties {
-            first: first,
-            second: second,
+            first,
+            second,
             one: self.one,
         }
     }

@@ -87,7 +87,7 @@ impl ScheduleNumbers {
         ScheduleNumbers {
             count: s.count as u64,
             code: s.code as u64,
-            installment: installment,
+            installment,
             first: s.first,
         }
     }
@@ -100,8 +100,8 @@ impl LenderNumbers {
         let offered = money::bits(a.offered);
         let accepted = money::bits(a.accepted);
         LenderNumbers {
-            offered: offered,
-            accepted: accepted,
+            offered,
+            accepted,
             pending: a.pending as u64,
             repaid: a.repaid as u64,
         }
@@ -117,9 +117,9 @@ impl TotalsNumbers {
         let fees = money::bits(t.fees);
         TotalsNumbers {
             offers: t.offers as u64,
-            financed: financed,
-            repaid: repaid,
-            fees: fees,
+            financed,
+            repaid,
+            fees,
         }
     }
 }
@@ -132,8 +132,8 @@ fn offers_only(t: Offers) -> OfferRows
     let ids = t.ids;
     let rows = t.rows;
     OfferRows {
-        ids: ids,
-        rows: rows,
+        ids,
+        rows,
         count: t.count,
     }
 }

@@ -68,10 +68,10 @@ fn finish(
     let p = put_book(out, pen, ink, book);
     Told {
         outcome: Outcome {
-            book: book,
-            count: count,
-            number: number,
-            at: at,
+            book,
+            count,
+            number,
+            at,
         },
         pen: p,
     }
@@ -139,12 +139,12 @@ fn records(s: &[u8], out: &mut [u8], ink: bool, first: usize) -> Told
                     parties: Parties {
                         first: sa,
                         second: sb,
-                        one: one,
+                        one,
                     },
                     paper: w,
                     deal: x,
-                    totals: totals,
-                    settings: settings,
+                    totals,
+                    settings,
                 };
                 let rows = Counts {
                     accounts: accounts.count,
@@ -208,21 +208,21 @@ fn records(s: &[u8], out: &mut [u8], ink: bool, first: usize) -> Told
             Decoded::Malformed(tag) => {
                 let p = lines::put_mark(out, pen, ink, (k + 1) as u64, tag as u64);
                 let b = Book {
-                    accounts: accounts,
-                    invoices: invoices,
-                    offers: offers,
-                    totals: totals,
-                    settings: settings,
+                    accounts,
+                    invoices,
+                    offers,
+                    totals,
+                    settings,
                 };
                 return finish(out, p, ink, b, k, refusal::JOURNAL_MALFORMED, tag);
             }
             Decoded::End => {
                 let b = Book {
-                    accounts: accounts,
-                    invoices: invoices,
-                    offers: offers,
-                    totals: totals,
-                    settings: settings,
+                    accounts,
+                    invoices,
+                    offers,
+                    totals,
+                    settings,
                 };
                 return finish(out, pen, ink, b, k, 0, 0);
             }

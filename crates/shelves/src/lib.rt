@@ -37,8 +37,8 @@ impl Accounts {
         let ids = [0u64; 64];
         let rows = [row; 64];
         Accounts {
-            ids: ids,
-            rows: rows,
+            ids,
+            rows,
             count: 0,
         }
     }
@@ -137,8 +137,8 @@ impl Invoices {
         let ids = [0u64; 64];
         let rows = [row; 64];
         Invoices {
-            ids: ids,
-            rows: rows,
+            ids,
+            rows,
             count: 0,
         }
     }
@@ -240,10 +240,10 @@ impl Offers {
         let negotiations = [g; 64];
         let schedules = [p; 64];
         Offers {
-            ids: ids,
-            rows: rows,
-            negotiations: negotiations,
-            schedules: schedules,
+            ids,
+            rows,
+            negotiations,
+            schedules,
             count: 0,
         }
     }

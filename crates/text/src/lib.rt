@@ -40,7 +40,7 @@ fn tell(s: &[u8], out: &mut [u8], ink: bool) -> Told
     let h = journal::header(s);
     let Opened::Records(first) = h else {
         return Told {
-            pen: pen,
+            pen,
             bad: true,
             at: 0,
         };
@@ -56,17 +56,13 @@ fn tell(s: &[u8], out: &mut [u8], ink: bool) -> Told
                 at = next;
             }
             Decoded::Malformed(_) => {
-                return Told {
-                    pen: pen,
-                    bad: true,
-                    at: at,
-                };
+                return Told { pen, bad: true, at };
             }
             Decoded::End => {
                 return Told {
-                    pen: pen,
+                    pen,
                     bad: false,
-                    at: at,
+                    at,
                 };
             }
         }
@@ -125,7 +121,7 @@ fn tell_lines(s: &[u8], out: &mut [u8], ink: bool) -> Told
         let x = reading::line_at(s, at);
         if !x.ok {
             return Told {
-                pen: pen,
+                pen,
                 bad: true,
                 at: k + 1,
             };
@@ -136,7 +132,7 @@ fn tell_lines(s: &[u8], out: &mut [u8], ink: bool) -> Told
         k += 1;
     }
     Told {
-        pen: pen,
+        pen,
         bad: false,
         at: 0,
     }

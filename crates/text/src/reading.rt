@@ -190,7 +190,7 @@ fn numbers_at(s: &[u8], at: usize, n: usize, tags: [u8; 9]) -> Numbers
     }
     Numbers {
         ok: true,
-        values: values,
+        values,
         next: q,
     }
 }
@@ -228,8 +228,8 @@ pub(crate) fn line_at(s: &[u8], at: usize) -> Line
     let values = x.values;
     Line {
         ok: true,
-        tag: tag,
-        values: values,
+        tag,
+        values,
         next: x.next + 1,
     }
 }

@@ -7,23 +7,8 @@ use borrow.Author.Needs.{needs}
 use Rattle.desk.proofs.list.Statement.{statement}
 use Rattle.desk.proofs.list.Tie as tie
 
-listing-requires : tie.Need-listing-requires
-listing-requires c κs = search needs
-
-enum-known-r : tie.Need-enum-known-r
-enum-known-r c = search needs
-
-enum-told : tie.Need-enum-told
-enum-told c = search needs
-
-same-length : tie.Need-same-length
-same-length c = search needs
-
 returns : tie.Need-returns
 returns c = (ap (λ (d : Listed). listed d .1) (sym (c .before .r .given .1) ∙ never-short _ _ (c .before .before .before .before .before .before .before .before .before .pre .0) (c .before .before .before .before .before .before .before .before .before .pre .1) (c .before .before .before .before .before .listing .ensures .0)), c .before .before .before .before .before .listing .ensures .1)
-
-same-length-2 : tie.Need-same-length-2
-same-length-2 c = search needs
 
 returns-2 : tie.Need-returns-2
 returns-2 c = let z = ap (λ (d : Listed). listed d .0) (sym (c .enum-told .given .1) ∙ never-short _ _ (c .before .before .before .before .before .before .before .before .pre .0) (c .before .before .before .before .before .before .before .before .pre .1) (c .before .before .before .before .listing .ensures .0)) in absurd (omega arith)
@@ -31,4 +16,4 @@ returns-2 c = let z = ap (λ (d : Listed). listed d .0) (sym (c .enum-told .give
 pub list-spec : {M : Type 1} → statement M
 list-spec =
     tie.close
-    (tie.spec listing-requires enum-known-r enum-told same-length returns same-length-2 returns-2)
+    (tie.spec (λ c κs. search needs) (λ c. search needs) (λ c. search needs) (λ c. search needs) returns (λ c. search needs) returns-2)

@@ -10,9 +10,6 @@ use Rattle.invoice.proofs.register_refusal.Tie as tie
 amount-in : (c : tie.After-in-amount-range) → not (c .in-amount-range .result) ≡ not (inAmount (c .before .args .amount))
 amount-in c = ap not (simp (toZ-ofZ (c .before .fits .amount)) at (c .in-amount-range .ensures))
 
-in-amount-range-requires : tie.Need-in-amount-range-requires
-in-amount-range-requires c κs = search needs
-
 returns : tie.Need-returns
 returns c = fails invalidInput _ (sym (amount-in (c .before)) ∙ c .if1 .taken)
 
@@ -35,4 +32,4 @@ returns-4 c =
 
 pub register-refusal-spec : {M : Type 1} → statement M
 register-refusal-spec =
-    tie.close (tie.spec in-amount-range-requires returns returns-2 returns-3 returns-4)
+    tie.close (tie.spec (λ c κs. search needs) returns returns-2 returns-3 returns-4)

@@ -6,9 +6,6 @@ use Rattle.lists.specs.Active.{activeIn}
 use Rattle.lists.proofs.active.Statement.{statement}
 use Rattle.lists.proofs.active.Tie as tie
 
-magnitude-requires : tie.Need-magnitude-requires
-magnitude-requires c κs = search needs
-
 returns : tie.Need-returns
 unfolding activeIn
 returns c = on _ (c .before .before .before .if1 .taken) (simp (back (c .before .before .before .before .args .o .terms .amount) (c .before .struct-told .given .0 .1)) at (c .magnitude .ensures))
@@ -18,4 +15,4 @@ unfolding activeIn
 returns-2 c = off _ (c .if1 .left) refl
 
 pub active-spec : {M : Type 1} → statement M
-active-spec = tie.close (tie.spec magnitude-requires returns returns-2)
+active-spec = tie.close (tie.spec (λ c κs. search needs) returns returns-2)

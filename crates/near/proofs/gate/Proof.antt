@@ -5,9 +5,6 @@ use borrow.Author.Needs.{needs}
 use Rattle.near.proofs.gate.Statement.{statement}
 use Rattle.near.proofs.gate.Tie as tie
 
-names-requires : tie.Need-names-requires
-names-requires c κs = search needs
-
 returns : tie.Need-returns
 returns c = fails paused _ (ap (λ z. c .before .before .before .args .paused && z .pausable) (sym (c .before .before .names .ensures)) ∙ c .if1 .taken)
 
@@ -18,4 +15,4 @@ returns-3 : tie.Need-returns-3
 returns-3 c = passes paused _ (ap (λ z. c .before .before .before .before .before .args .paused && z .pausable) (sym (c .before .before .before .before .names .ensures)) ∙ c .before .before .if1 .left) (passes notFound _ (ap (λ z. z .called && not (c .before .before .before .before .before .args .here)) (sym (c .before .before .before .before .names .ensures)) ∙ c .if2 .left) none-left)
 
 pub gate-spec : {M : Type 1} → statement M
-gate-spec = tie.close (tie.spec names-requires returns returns-2 returns-3)
+gate-spec = tie.close (tie.spec (λ c κs. search needs) returns returns-2 returns-3)

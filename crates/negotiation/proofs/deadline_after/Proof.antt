@@ -11,19 +11,13 @@ returns : tie.Need-returns
 unfolding deadlineOf
 returns c = off _ (ne-eqb _ _ (c .if1 .taken)) refl
 
-sub-if2 : tie.Need-sub-if2
-sub-if2 c = search needs
-
 returns-2 : tie.Need-returns-2
 unfolding deadlineOf
 returns-2 c = on _ (eq-eqb _ _ (c .before .if1 .left)) (omega arith)
-
-add-result : tie.Need-add-result
-add-result c = search needs
 
 returns-3 : tie.Need-returns-3
 unfolding deadlineOf
 returns-3 c = on _ (eq-eqb _ _ (c .before .if1 .left)) (omega arith)
 
 pub deadline-after-spec : {M : Type 1} → statement M
-deadline-after-spec = tie.close (tie.spec returns sub-if2 returns-2 add-result returns-3)
+deadline-after-spec = tie.close (tie.spec returns (λ c. search needs) returns-2 (λ c. search needs) returns-3)

@@ -10,9 +10,6 @@ returns : tie.Need-returns
 returns c =
     fails blacklisted _ (c .if1 .taken)
 
-terms-valid-requires : tie.Need-terms-valid-requires
-terms-valid-requires c κs = search needs
-
 returns-2 : tie.Need-returns-2
 returns-2 c =
     passes blacklisted _ (c .before .before .if1 .left)
@@ -38,9 +35,6 @@ returns-5 c =
     (passes notFound _ (c .before .before .before .if3 .left)
     (passes invalidTransition _ (c .before .if4 .left)
     (fails invalidInput _ (eq-eqb _ _ (c .if5 .taken))))))
-
-covers-requires : tie.Need-covers-requires
-covers-requires c κs = search needs
 
 returns-6 : tie.Need-returns-6
 returns-6 c =
@@ -89,12 +83,12 @@ create-refusal-spec =
     tie.close
     (tie.spec
     returns
-    terms-valid-requires
+    (λ c κs. search needs)
     returns-2
     returns-3
     returns-4
     returns-5
-    covers-requires
+    (λ c κs. search needs)
     returns-6
     returns-7
     returns-8

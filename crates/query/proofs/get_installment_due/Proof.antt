@@ -12,17 +12,11 @@ use borrow.Author.Needs.{needs}
 use Rattle.query.proofs.get_installment_due.Statement.{statement}
 use Rattle.query.proofs.get_installment_due.Tie as tie
 
-sound-requires : tie.Need-sound-requires
-sound-requires c κs = search needs
-
 returns : tie.Need-returns
 returns c = refuses reply bookUnsound _ _ _ (ap not (sym (c .before .sound .ensures .0)) ∙ c .if1 .taken)
 
 see-requires : tie.Need-see-requires
 see-requires c κs = (c .before .before .sound .ensures .1 (not-false (c .before .before .sound .result) (c .before .if1 .left))) .offers
-
-due-requires : tie.Need-due-requires
-due-requires c κs = search needs
 
 returns-2 : tie.Need-returns-2
 returns-2 c = goes-on reply bookUnsound _ _ _ (ap not (sym (c .before .before .before .before .before .sound .ensures .0)) ∙ c .before .before .before .before .if1 .left)
@@ -30,4 +24,4 @@ returns-2 c = goes-on reply bookUnsound _ _ _ (ap not (sym (c .before .before .b
 
 pub get-installment-due-spec : {M : Type 1} → statement M
 get-installment-due-spec =
-    tie.close (tie.spec sound-requires returns see-requires due-requires returns-2)
+    tie.close (tie.spec (λ c κs. search needs) returns see-requires (λ c κs. search needs) returns-2)

@@ -14,14 +14,8 @@ use borrow.Author.Needs.{needs}
 use Rattle.query.proofs.get_lender_active_total.Statement.{statement}
 use Rattle.query.proofs.get_lender_active_total.Tie as tie
 
-sound-requires : tie.Need-sound-requires
-sound-requires c κs = search needs
-
 returns : tie.Need-returns
 returns c = refuses reply bookUnsound _ _ _ (ap not (sym (c .before .sound .ensures .0)) ∙ c .if1 .taken)
-
-offers-only-requires : tie.Need-offers-only-requires
-offers-only-requires c κs = search needs
 
 active-total-requires : tie.Need-active-total-requires
 active-total-requires c κs = rw (c .offers-only .ensures) (amounts-held (c .before .before .before .sound .ensures .1 (not-false (c .before .before .before .sound .result) (c .before .before .if1 .left))) (sym (c .before .before .before .sound .ensures .0) ∙ not-false (c .before .before .before .sound .result) (c .before .before .if1 .left)))
@@ -33,4 +27,4 @@ returns-2 c = goes-on reply bookUnsound _ _ _ (ap not (sym (c .before .before .b
 pub get-lender-active-total-spec : {M : Type 1} → statement M
 get-lender-active-total-spec =
     tie.close
-    (tie.spec sound-requires returns offers-only-requires active-total-requires returns-2)
+    (tie.spec (λ c κs. search needs) returns (λ c κs. search needs) active-total-requires returns-2)

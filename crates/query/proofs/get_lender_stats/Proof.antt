@@ -10,17 +10,11 @@ use borrow.Author.Needs.{needs}
 use Rattle.query.proofs.get_lender_stats.Statement.{statement}
 use Rattle.query.proofs.get_lender_stats.Tie as tie
 
-sound-requires : tie.Need-sound-requires
-sound-requires c κs = search needs
-
 returns : tie.Need-returns
 returns c = refuses reply bookUnsound _ _ _ (ap not (sym (c .before .sound .ensures .0)) ∙ c .if1 .taken)
 
 see-requires : tie.Need-see-requires
 see-requires c κs = (c .before .before .sound .ensures .1 (not-false (c .before .before .sound .result) (c .before .if1 .left))) .accounts
-
-of-requires : tie.Need-of-requires
-of-requires c κs = search needs
 
 returns-2 : tie.Need-returns-2
 returns-2 c = goes-on reply bookUnsound _ _ _ (ap not (sym (c .before .before .before .before .before .sound .ensures .0)) ∙ c .before .before .before .before .if1 .left)
@@ -28,4 +22,4 @@ returns-2 c = goes-on reply bookUnsound _ _ _ (ap not (sym (c .before .before .b
 
 pub get-lender-stats-spec : {M : Type 1} → statement M
 get-lender-stats-spec =
-    tie.close (tie.spec sound-requires returns see-requires of-requires returns-2)
+    tie.close (tie.spec (λ c κs. search needs) returns see-requires (λ c κs. search needs) returns-2)

@@ -9,12 +9,6 @@ use borrow.Author.Needs.{needs}
 use Rattle.query.proofs.get_negotiation.Statement.{statement}
 use Rattle.query.proofs.get_negotiation.Tie as tie
 
-sound-requires : tie.Need-sound-requires
-sound-requires c κs = search needs
-
-none-requires : tie.Need-none-requires
-none-requires c κs = search needs
-
 returns : tie.Need-returns
 returns c = rw (c .none .ensures) (refuses negotiationTold bookUnsound _ _ _ (ap not (sym (c .before .before .sound .ensures .0)) ∙ c .before .if1 .taken))
 
@@ -27,4 +21,4 @@ returns-2 c = goes-on negotiationTold bookUnsound _ _ _ (ap not (sym (c .before 
 
 pub get-negotiation-spec : {M : Type 1} → statement M
 get-negotiation-spec =
-    tie.close (tie.spec sound-requires none-requires returns see-requires returns-2)
+    tie.close (tie.spec (λ c κs. search needs) (λ c κs. search needs) returns see-requires returns-2)

@@ -10,9 +10,6 @@ use borrow.Author.Needs.{needs}
 use Rattle.query.proofs.get_negotiation_deadline.Statement.{statement}
 use Rattle.query.proofs.get_negotiation_deadline.Tie as tie
 
-sound-requires : tie.Need-sound-requires
-sound-requires c κs = search needs
-
 returns : tie.Need-returns
 returns c = refuses reply bookUnsound _ _ _ (ap not (sym (c .before .sound .ensures .0)) ∙ c .if1 .taken)
 
@@ -24,4 +21,4 @@ returns-2 c = goes-on reply bookUnsound _ _ _ (ap not (sym (c .before .before .b
     (does reply _ _ (ap (λ (s : SeenDeal). s .row .negotiation .deadline ∷ []) (c .before .before .see .ensures)))
 
 pub get-negotiation-deadline-spec : {M : Type 1} → statement M
-get-negotiation-deadline-spec = tie.close (tie.spec sound-requires returns see-requires returns-2)
+get-negotiation-deadline-spec = tie.close (tie.spec (λ c κs. search needs) returns see-requires returns-2)

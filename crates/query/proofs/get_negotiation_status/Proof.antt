@@ -12,20 +12,11 @@ use borrow.Author.Needs.{needs}
 use Rattle.query.proofs.get_negotiation_status.Statement.{statement}
 use Rattle.query.proofs.get_negotiation_status.Tie as tie
 
-sound-requires : tie.Need-sound-requires
-sound-requires c κs = search needs
-
 returns : tie.Need-returns
 returns c = refuses reply bookUnsound _ _ _ (ap not (sym (c .before .sound .ensures .0)) ∙ c .if1 .taken)
 
 see-requires : tie.Need-see-requires
 see-requires c κs = (c .before .before .sound .ensures .1 (not-false (c .before .before .sound .result) (c .before .if1 .left))) .offers
-
-status-requires : tie.Need-status-requires
-status-requires c κs = search needs
-
-cast-t14 : tie.Need-cast-t14
-cast-t14 c = search needs
 
 returns-2 : tie.Need-returns-2
 returns-2 c = goes-on reply bookUnsound _ _ _ (ap not (sym (c .before .before .before .before .before .before .before .sound .ensures .0)) ∙ c .before .before .before .before .before .before .if1 .left)
@@ -33,4 +24,4 @@ returns-2 c = goes-on reply bookUnsound _ _ _ (ap not (sym (c .before .before .b
 
 pub get-negotiation-status-spec : {M : Type 1} → statement M
 get-negotiation-status-spec =
-    tie.close (tie.spec sound-requires returns see-requires status-requires cast-t14 returns-2)
+    tie.close (tie.spec (λ c κs. search needs) returns see-requires (λ c κs. search needs) (λ c. search needs) returns-2)

@@ -10,9 +10,6 @@ use borrow.Author.Needs.{needs}
 use Rattle.query.proofs.get_offer.Statement.{statement}
 use Rattle.query.proofs.get_offer.Tie as tie
 
-sound-requires : tie.Need-sound-requires
-sound-requires c κs = search needs
-
 returns : tie.Need-returns
 returns c = refuses reply bookUnsound _ _ _ (ap not (sym (c .before .sound .ensures .0)) ∙ c .if1 .taken)
 
@@ -23,9 +20,6 @@ returns-2 : tie.Need-returns-2
 returns-2 c = goes-on reply bookUnsound _ _ _ (ap not (sym (c .before .before .before .before .before .sound .ensures .0)) ∙ c .before .before .before .before .if1 .left)
     (refuses reply notFound _ _ _ (ap (λ (s : SeenDeal). not (s .here)) (sym (c .before .before .see .ensures)) ∙ c .if2 .taken))
 
-of-requires : tie.Need-of-requires
-of-requires c κs = search needs
-
 returns-3 : tie.Need-returns-3
 returns-3 c = goes-on reply bookUnsound _ _ _ (ap not (sym (c .before .before .before .before .before .before .before .before .sound .ensures .0)) ∙ c .before .before .before .before .before .before .before .if1 .left)
     (goes-on reply notFound _ _ _ (ap (λ (s : SeenDeal). not (s .here)) (sym (c .before .before .before .before .before .see .ensures)) ∙ c .before .before .before .if2 .left)
@@ -33,4 +27,4 @@ returns-3 c = goes-on reply bookUnsound _ _ _ (ap not (sym (c .before .before .b
 
 pub get-offer-spec : {M : Type 1} → statement M
 get-offer-spec =
-    tie.close (tie.spec sound-requires returns see-requires returns-2 of-requires returns-3)
+    tie.close (tie.spec (λ c κs. search needs) returns see-requires returns-2 (λ c κs. search needs) returns-3)

@@ -11,9 +11,6 @@ use borrow.Author.Needs.{needs}
 use Rattle.query.proofs.get_offers_count.Statement.{statement}
 use Rattle.query.proofs.get_offers_count.Tie as tie
 
-sound-requires : tie.Need-sound-requires
-sound-requires c κs = search needs
-
 returns : tie.Need-returns
 returns c = refuses reply bookUnsound _ _ _ (ap not (sym (c .before .sound .ensures .0)) ∙ c .if1 .taken)
 
@@ -22,4 +19,4 @@ returns-2 c = goes-on reply bookUnsound _ _ _ (ap not (sym (c .before .before .s
     (does reply _ _ (ap (λ (n : ℕ). n ∷ []) (count-held (c .before .before .sound .ensures .1 (not-false (c .before .before .sound .result) (c .before .if1 .left))))))
 
 pub get-offers-count-spec : {M : Type 1} → statement M
-get-offers-count-spec = tie.close (tie.spec sound-requires returns returns-2)
+get-offers-count-spec = tie.close (tie.spec (λ c κs. search needs) returns returns-2)

@@ -12,25 +12,16 @@ use borrow.Author.Needs.{needs}
 use Rattle.query.proofs.get_schedule.Statement.{statement}
 use Rattle.query.proofs.get_schedule.Tie as tie
 
-sound-requires : tie.Need-sound-requires
-sound-requires c κs = search needs
-
 returns : tie.Need-returns
 returns c = refuses reply bookUnsound _ _ _ (ap not (sym (c .before .sound .ensures .0)) ∙ c .if1 .taken)
 
 see-requires : tie.Need-see-requires
 see-requires c κs = (c .before .before .sound .ensures .1 (not-false (c .before .before .sound .result) (c .before .if1 .left))) .offers
 
-schedule-zero-requires : tie.Need-schedule-zero-requires
-schedule-zero-requires c κs = search needs
-
 returns-2 : tie.Need-returns-2
 unfolding scheduleValues
 returns-2 c = goes-on reply bookUnsound _ _ _ (ap not (sym (c .before .before .before .before .before .before .before .sound .ensures .0)) ∙ c .before .before .before .before .before .before .if1 .left)
     (does reply _ _ (on _ (ap (λ (s : SeenDeal). scheduleZero (s .row .schedule)) (sym (c .before .before .before .before .see .ensures)) ∙ sym (c .before .schedule-zero .ensures) ∙ c .if2 .taken) refl))
-
-of-requires : tie.Need-of-requires
-of-requires c κs = search needs
 
 returns-3 : tie.Need-returns-3
 unfolding scheduleValues
@@ -42,10 +33,10 @@ pub get-schedule-spec : {M : Type 1} → statement M
 get-schedule-spec =
     tie.close
     (tie.spec
-    sound-requires
+    (λ c κs. search needs)
     returns
     see-requires
-    schedule-zero-requires
+    (λ c κs. search needs)
     returns-2
-    of-requires
+    (λ c κs. search needs)
     returns-3)

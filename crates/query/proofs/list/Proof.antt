@@ -12,20 +12,8 @@ use borrow.Author.Needs.{needs}
 use Rattle.query.proofs.list.Statement.{statement}
 use Rattle.query.proofs.list.Tie as tie
 
-sound-requires : tie.Need-sound-requires
-sound-requires c κs = search needs
-
 returns : tie.Need-returns
 returns c = refuses told bookUnsound _ _ _ (ap not (sym (c .before .sound .ensures .0)) ∙ c .if1 .taken)
-
-offers-only-requires : tie.Need-offers-only-requires
-offers-only-requires c κs = search needs
-
-list-requires : tie.Need-list-requires
-list-requires c κs = search needs
-
-same-length : tie.Need-same-length
-same-length c = search needs
 
 returns-2 : tie.Need-returns-2
 returns-2 c = goes-on told bookUnsound _ _ _ (ap not (sym (c .before .before .before .before .before .before .before .sound .ensures .0)) ∙ c .before .before .before .before .before .before .if1 .left)
@@ -36,4 +24,4 @@ returns-2 c = goes-on told bookUnsound _ _ _ (ap not (sym (c .before .before .be
 pub list-spec : {M : Type 1} → statement M
 list-spec =
     tie.close
-    (tie.spec sound-requires returns offers-only-requires list-requires same-length returns-2)
+    (tie.spec (λ c κs. search needs) returns (λ c κs. search needs) (λ c κs. search needs) (λ c. search needs) returns-2)

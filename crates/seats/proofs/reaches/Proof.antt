@@ -6,12 +6,9 @@ use borrow.Author.Needs.{needs}
 use Rattle.seats.proofs.reaches.Statement.{statement}
 use Rattle.seats.proofs.reaches.Tie as tie
 
-present-requires : tie.Need-present-requires
-present-requires c κs = search needs
-
 returns : tie.Need-returns
 unfolding reachesOf
 returns c = ap (λ (n : ℕ). leb (c .before .args .threshold) n) (c .present .ensures)
 
 pub reaches-spec : {M : Type 1} → statement M
-reaches-spec = tie.close (tie.spec present-requires returns)
+reaches-spec = tie.close (tie.spec (λ c κs. search needs) returns)

@@ -9,15 +9,9 @@ returns : tie.Need-returns
 unfolding thresholdOk
 returns c = simp (lt-leb _ _ (c .if1 .taken))
 
-cast-reaches : tie.Need-cast-reaches
-cast-reaches c = search needs
-
-reaches-requires : tie.Need-reaches-requires
-reaches-requires c κs = search needs
-
 returns-2 : tie.Need-returns-2
 unfolding thresholdOk reachesOf
 returns-2 c = simp (le-leb _ _ (c .before .if1 .left), c .reaches .ensures, all-present)
 
 pub threshold-ok-spec : {M : Type 1} → statement M
-threshold-ok-spec = tie.close (tie.spec returns cast-reaches reaches-requires returns-2)
+threshold-ok-spec = tie.close (tie.spec returns (λ c. search needs) (λ c κs. search needs) returns-2)

@@ -6,18 +6,6 @@ use borrow.Author.Needs.{needs}
 use Rattle.solgaverna.proofs.lender_of.Statement.{statement}
 use Rattle.solgaverna.proofs.lender_of.Tie as tie
 
-get-lender-stats-requires : tie.Need-get-lender-stats-requires
-get-lender-stats-requires c κs = search needs
-
-enum-known-r : tie.Need-enum-known-r
-enum-known-r c = search needs
-
-enum-told : tie.Need-enum-told
-enum-told c = search needs
-
-unsound-requires : tie.Need-unsound-requires
-unsound-requires c κs = search needs
-
 returns : tie.Need-returns
 unfolding fourSays pick
 returns c = sym (ap lenderSays (c .before .r .given .1)) ∙ c .before .before .before .get-lender-stats .ensures
@@ -29,4 +17,4 @@ returns-2 c = ap fourSays (c .unsound .ensures) ∙ sym (ap lenderSays (c .befor
 pub lender-of-spec : {M : Type 1} → statement M
 lender-of-spec =
     tie.close
-    (tie.spec get-lender-stats-requires enum-known-r enum-told unsound-requires returns returns-2)
+    (tie.spec (λ c κs. search needs) (λ c. search needs) (λ c. search needs) (λ c κs. search needs) returns returns-2)

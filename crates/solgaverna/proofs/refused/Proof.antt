@@ -11,15 +11,9 @@ returns : tie.Need-returns
 unfolding minus
 returns c = on _ (eq-eqb _ _ (c .if1 .taken)) refl
 
-sub-result : tie.Need-sub-result
-sub-result c = search needs
-
-sub-result-2 : tie.Need-sub-result-2
-sub-result-2 c = search needs
-
 returns-2 : tie.Need-returns-2
 unfolding minus
 returns-2 c = off _ (ne-eqb _ _ (c .if1 .left)) (turned _ (c .if1 .left))
 
 pub refused-spec : {M : Type 1} → statement M
-refused-spec = tie.close (tie.spec returns sub-result sub-result-2 returns-2)
+refused-spec = tie.close (tie.spec returns (λ c. search needs) (λ c. search needs) returns-2)

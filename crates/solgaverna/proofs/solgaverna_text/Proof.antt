@@ -4,17 +4,8 @@ use borrow.Author.Needs.{needs}
 use Rattle.solgaverna.proofs.solgaverna_text.Statement.{statement}
 use Rattle.solgaverna.proofs.solgaverna_text.Tie as tie
 
-to-text-requires : tie.Need-to-text-requires
-to-text-requires c κs = search needs
-
-sized-requires : tie.Need-sized-requires
-sized-requires c κs = search needs
-
-same-length : tie.Need-same-length
-same-length c = search needs
-
 returns : tie.Need-returns
 returns c = (c .sized .ensures ∙ ap (λ z. coded (z .0) (z .1)) (c .before .before .before .to-text .ensures .0), c .before .before .before .to-text .ensures .1)
 
 pub solgaverna-text-spec : {M : Type 1} → statement M
-solgaverna-text-spec = tie.close (tie.spec to-text-requires sized-requires same-length returns)
+solgaverna-text-spec = tie.close (tie.spec (λ c κs. search needs) (λ c κs. search needs) (λ c. search needs) returns)

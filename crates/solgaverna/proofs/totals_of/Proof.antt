@@ -6,18 +6,6 @@ use borrow.Author.Needs.{needs}
 use Rattle.solgaverna.proofs.totals_of.Statement.{statement}
 use Rattle.solgaverna.proofs.totals_of.Tie as tie
 
-get-stats-requires : tie.Need-get-stats-requires
-get-stats-requires c κs = search needs
-
-enum-known-r : tie.Need-enum-known-r
-enum-known-r c = search needs
-
-enum-told : tie.Need-enum-told
-enum-told c = search needs
-
-unsound-requires : tie.Need-unsound-requires
-unsound-requires c κs = search needs
-
 returns : tie.Need-returns
 unfolding fourSays pick
 returns c = sym (ap totalsSays (c .before .r .given .1)) ∙ c .before .before .before .get-stats .ensures
@@ -29,4 +17,4 @@ returns-2 c = ap fourSays (c .unsound .ensures) ∙ sym (ap totalsSays (c .befor
 pub totals-of-spec : {M : Type 1} → statement M
 totals-of-spec =
     tie.close
-    (tie.spec get-stats-requires enum-known-r enum-told unsound-requires returns returns-2)
+    (tie.spec (λ c κs. search needs) (λ c. search needs) (λ c. search needs) (λ c κs. search needs) returns returns-2)

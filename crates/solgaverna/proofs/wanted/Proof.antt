@@ -18,9 +18,6 @@ returns-3 : tie.Need-returns-3
 unfolding wantedOf
 returns-3 c = off _ (ne-eqb _ _ (c .before .before .before .if1 .left)) (off _ (ne-eqb _ _ (c .before .before .if2 .left)) (on _ (eq-eqb _ _ (c .before .if3 .taken)) (on _ (lt-ltb _ _ (c .if4 .taken)) refl)))
 
-cast-t8 : tie.Need-cast-t8
-cast-t8 c = search needs
-
 returns-4 : tie.Need-returns-4
 unfolding wantedOf
 returns-4 c = off _ (ne-eqb _ _ (c .before .before .before .if1 .left)) (off _ (ne-eqb _ _ (c .before .before .if2 .left)) (on _ (eq-eqb _ _ (c .before .if3 .taken)) (off _ (le-ltb _ _ (c .if4 .left)) refl)))
@@ -48,7 +45,7 @@ wanted-spec =
     returns
     returns-2
     returns-3
-    cast-t8
+    (λ c. search needs)
     returns-4
     returns-5
     returns-6

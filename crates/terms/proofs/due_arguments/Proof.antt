@@ -4,15 +4,9 @@ use borrow.Author.Needs.{needs}
 use Rattle.terms.proofs.due_arguments.Statement.{statement}
 use Rattle.terms.proofs.due_arguments.Tie as tie
 
-schedule-ok-requires : tie.Need-schedule-ok-requires
-schedule-ok-requires c κs = search needs
-
-in-total-range-requires : tie.Need-in-total-range-requires
-in-total-range-requires c κs = search needs
-
 returns : tie.Need-returns
 unfolding dueArguments
 returns c = simp (c .before .schedule-ok .ensures, simp (toZ-ofZ (c .before .before .fits .repaid)) at (c .in-total-range .ensures))
 
 pub due-arguments-spec : {M : Type 1} → statement M
-due-arguments-spec = tie.close (tie.spec schedule-ok-requires in-total-range-requires returns)
+due-arguments-spec = tie.close (tie.spec (λ c κs. search needs) (λ c κs. search needs) returns)

@@ -6,12 +6,6 @@ use borrow.Author.Needs.{needs}
 use Rattle.terms.proofs.elapsed.Statement.{statement}
 use Rattle.terms.proofs.elapsed.Tie as tie
 
-div-passed : tie.Need-div-passed
-div-passed c = search needs
-
-add-result : tie.Need-add-result
-add-result c = search needs
-
 returns : tie.Need-returns
 unfolding elapsedOf
 returns c = sym (min-eq-left (omega arith))
@@ -21,4 +15,4 @@ unfolding elapsedOf
 returns-2 c = sym (min-eq-right (omega arith))
 
 pub elapsed-spec : {M : Type 1} → statement M
-elapsed-spec = tie.close (tie.spec div-passed add-result returns returns-2)
+elapsed-spec = tie.close (tie.spec (λ c. search needs) (λ c. search needs) returns returns-2)

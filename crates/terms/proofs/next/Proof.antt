@@ -6,19 +6,13 @@ use borrow.Author.Needs.{needs}
 use Rattle.terms.proofs.next.Statement.{statement}
 use Rattle.terms.proofs.next.Tie as tie
 
-div-paid : tie.Need-div-paid
-div-paid c = search needs
-
 returns : tie.Need-returns
 unfolding nextOf
 returns c = on _ (le-leb _ _ (c .if1 .taken)) refl
-
-add-result : tie.Need-add-result
-add-result c = search needs
 
 returns-2 : tie.Need-returns-2
 unfolding nextOf
 returns-2 c = off _ (lt-leb _ _ (c .if1 .left)) refl
 
 pub next-spec : {M : Type 1} → statement M
-next-spec = tie.close (tie.spec div-paid returns add-result returns-2)
+next-spec = tie.close (tie.spec (λ c. search needs) returns (λ c. search needs) returns-2)

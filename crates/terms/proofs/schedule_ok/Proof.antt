@@ -4,15 +4,6 @@ use borrow.Author.Needs.{needs}
 use Rattle.terms.proofs.schedule_ok.Statement.{statement}
 use Rattle.terms.proofs.schedule_ok.Tie as tie
 
-in-installment-range-requires : tie.Need-in-installment-range-requires
-in-installment-range-requires c κs = search needs
-
-count-valid-requires : tie.Need-count-valid-requires
-count-valid-requires c κs = search needs
-
-code-listed-requires : tie.Need-code-listed-requires
-code-listed-requires c κs = search needs
-
 returns : tie.Need-returns
 unfolding scheduleOk
 returns c = let s = c .before .before .before .before in simp (c .before .count-valid .ensures, c .code-listed .ensures, simp (back (s .args .s .installment) (c .before .before .before .struct-told .given .1 .1 .0 .1)) at (c .before .before .in-installment-range .ensures))
@@ -20,4 +11,4 @@ returns c = let s = c .before .before .before .before in simp (c .before .count-
 pub schedule-ok-spec : {M : Type 1} → statement M
 schedule-ok-spec =
     tie.close
-    (tie.spec in-installment-range-requires count-valid-requires code-listed-requires returns)
+    (tie.spec (λ c κs. search needs) (λ c κs. search needs) (λ c κs. search needs) returns)

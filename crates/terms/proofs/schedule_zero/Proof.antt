@@ -4,12 +4,9 @@ use borrow.Author.Needs.{needs}
 use Rattle.terms.proofs.schedule_zero.Statement.{statement}
 use Rattle.terms.proofs.schedule_zero.Tie as tie
 
-is-zero-requires : tie.Need-is-zero-requires
-is-zero-requires c κs = search needs
-
 returns : tie.Need-returns
 unfolding scheduleZero
 returns c = simp (simp (back (c .before .before .args .s .installment) (c .before .struct-told .given .1 .1 .0 .1)) at (c .is-zero .ensures))
 
 pub schedule-zero-spec : {M : Type 1} → statement M
-schedule-zero-spec = tie.close (tie.spec is-zero-requires returns)
+schedule-zero-spec = tie.close (tie.spec (λ c κs. search needs) returns)

@@ -14,9 +14,6 @@ use Rattle.account.proofs.Account.accept.Tie as tie
 moved : (c : tie.After-shift) → c .shift .result ≡ movedOf (c .before .before .before .args .self .accepted) (c .before .before .before .args .t .amount)
 moved c = simp (back (c .before .before .before .args .self .accepted) (search needs), back (c .before .before .before .args .t .amount) (search needs)) at (c .shift .ensures)
 
-shift-requires : tie.Need-shift-requires
-shift-requires c κs = search needs
-
 returns : tie.Need-returns
 returns c = refuses posted outOfRange _ _ _ (ap not (sym (move-tells _ _ (moved (c .before .before)))) ∙ c .if1 .taken)
 
@@ -26,4 +23,4 @@ returns-2 c =
     (does posted _ _ (rw (back (c .before .before .before .shift .result .total) (search needs), move-makes _ _ (moved (c .before .before .before)) (not-false _ (c .before .if1 .left)))))
 
 pub accept-spec : {M : Type 1} → statement M
-accept-spec = tie.close (tie.spec shift-requires returns returns-2)
+accept-spec = tie.close (tie.spec (λ c κs. search needs) returns returns-2)

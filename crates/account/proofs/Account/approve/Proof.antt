@@ -12,9 +12,6 @@ use Rattle.account.proofs.Account.approve.Tie as tie
 amount-in : (c : tie.After-in-total-range) → c .in-total-range .result ≡ inTotal (c .before .args .amount)
 amount-in c = simp (toZ-ofZ (c .before .fits .amount)) at (c .in-total-range .ensures)
 
-in-total-range-requires : tie.Need-in-total-range-requires
-in-total-range-requires c κs = search needs
-
 returns : tie.Need-returns
 returns c = refuses posted invalidInput _ _ _ (ap not (sym (amount-in (c .before))) ∙ c .if1 .taken)
 
@@ -24,4 +21,4 @@ returns-2 c =
     (does posted _ _ (rw (toZ-ofZ (c .before .before .fits .amount))))
 
 pub approve-spec : {M : Type 1} → statement M
-approve-spec = tie.close (tie.spec in-total-range-requires returns returns-2)
+approve-spec = tie.close (tie.spec (λ c κs. search needs) returns returns-2)

@@ -18,14 +18,8 @@ allowed c = simp (back (c .before .before .before .args .self .allowance) (searc
 moved : (c : tie.After-lower2) → c .lower2 .result ≡ movedOf (c .before .before .before .before .before .before .before .before .args .self .balance) (negℤ (c .before .before .before .before .before .before .before .before .args .t .amount))
 moved c = simp (back (c .before .before .before .before .before .before .before .before .args .self .balance) (search needs), back (c .before .before .before .before .before .before .before .before .args .t .amount) (search needs)) at (c .lower2 .ensures)
 
-lower-requires : tie.Need-lower-requires
-lower-requires c κs = search needs
-
 returns : tie.Need-returns
 returns c = refuses posted allowanceShort _ _ _ (ap not (sym (move-tells _ _ (allowed (c .before .before)))) ∙ c .if1 .taken)
-
-lower-requires-2 : tie.Need-lower-requires-2
-lower-requires-2 c κs = search needs
 
 returns-2 : tie.Need-returns-2
 returns-2 c =
@@ -39,4 +33,4 @@ returns-3 c =
     (does posted _ _ (rw (back (c .before .before .before .before .before .before .before .before .before .lower .result .total) (search needs), back (c .before .before .before .before .lower2 .result .total) (search needs), move-makes _ _ (allowed (c .before .before .before .before .before .before .before .before .before)) (not-false _ (c .before .before .before .before .before .before .before .if1 .left)), move-makes _ _ (moved (c .before .before .before .before)) (not-false _ (c .before .before .if2 .left))))))
 
 pub debit-spec : {M : Type 1} → statement M
-debit-spec = tie.close (tie.spec lower-requires returns lower-requires-2 returns-2 returns-3)
+debit-spec = tie.close (tie.spec (λ c κs. search needs) returns (λ c κs. search needs) returns-2 returns-3)

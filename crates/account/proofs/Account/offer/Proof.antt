@@ -14,9 +14,6 @@ use Rattle.account.proofs.Account.offer.Tie as tie
 moved : (c : tie.After-shift) → c .shift .result ≡ movedOf (c .before .before .before .args .self .offered) (c .before .before .before .args .t .amount)
 moved c = simp (back (c .before .before .before .args .self .offered) (search needs), back (c .before .before .before .args .t .amount) (search needs)) at (c .shift .ensures)
 
-shift-requires : tie.Need-shift-requires
-shift-requires c κs = search needs
-
 returns : tie.Need-returns
 returns c = refuses posted outOfRange _ _ _ (ap not (sym (move-tells _ _ (moved (c .before .before)))) ∙ c .if1 .taken)
 
@@ -25,9 +22,6 @@ returns-2 c =
     goes-on posted outOfRange _ _ _ (ap not (sym (move-tells _ _ (moved (c .before .before .before)))) ∙ c .before .if1 .left)
     (refuses posted outOfRange _ _ _ (le-leb _ _ (c .if2 .taken)))
 
-add-self : tie.Need-add-self
-add-self c = search needs
-
 returns-3 : tie.Need-returns-3
 returns-3 c =
     goes-on posted outOfRange _ _ _ (ap not (sym (move-tells _ _ (moved (c .before .before .before .before)))) ∙ c .before .before .if1 .left)
@@ -35,4 +29,4 @@ returns-3 c =
     (does posted _ _ (rw (back (c .before .before .before .before .shift .result .total) (search needs), move-makes _ _ (moved (c .before .before .before .before)) (not-false _ (c .before .before .if1 .left))))))
 
 pub offer-spec : {M : Type 1} → statement M
-offer-spec = tie.close (tie.spec shift-requires returns returns-2 add-self returns-3)
+offer-spec = tie.close (tie.spec (λ c κs. search needs) returns returns-2 (λ c. search needs) returns-3)

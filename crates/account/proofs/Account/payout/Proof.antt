@@ -19,14 +19,8 @@ amount-in c = simp (toZ-ofZ (c .before .fits .amount)) at (c .in-amount-range .e
 moved : (c : tie.After-lower) → c .lower .result ≡ movedOf (c .before .before .before .before .args .self .balance) (negℤ (c .before .before .before .before .args .amount))
 moved c = simp (back (c .before .before .before .before .args .self .balance) (search needs), toZ-ofZ (c .before .before .before .before .fits .amount)) at (c .lower .ensures)
 
-in-amount-range-requires : tie.Need-in-amount-range-requires
-in-amount-range-requires c κs = search needs
-
 returns : tie.Need-returns
 returns c = refuses posted invalidInput _ _ _ (ap not (sym (amount-in (c .before))) ∙ c .if1 .taken)
-
-lower-requires : tie.Need-lower-requires
-lower-requires c κs = search needs
 
 returns-2 : tie.Need-returns-2
 returns-2 c =
@@ -41,4 +35,4 @@ returns-3 c =
 
 pub payout-spec : {M : Type 1} → statement M
 payout-spec =
-    tie.close (tie.spec in-amount-range-requires returns lower-requires returns-2 returns-3)
+    tie.close (tie.spec (λ c κs. search needs) returns (λ c κs. search needs) returns-2 returns-3)

@@ -21,9 +21,6 @@ moved c = simp (back (c .before .before .before .args .old .amount) (search need
 ok-is : (c : tie.After-posted-to) → c .posted-to .result .ok ≡ movable (c .before .before .before .args .self .offered) (c .before .before .before .args .new .amount -ℤ c .before .before .before .args .old .amount)
 ok-is c = ap (λ (m : MovedAccount). m .ok) (moved c) ∙ move-tells _ _ refl
 
-posted-to-requires : tie.Need-posted-to-requires
-posted-to-requires c κs = search needs
-
 returns : tie.Need-returns
 returns c = refuses posted outOfRange _ _ _ (ap not (sym (ok-is (c .before .before))) ∙ c .if1 .taken)
 
@@ -34,4 +31,4 @@ returns-2 c =
     (does posted _ _ (ap (λ (m : MovedAccount). m .row) (moved (c .before .before .before)) ∙ ap (λ (z : ℤ). withOffered (c .before .before .before .before .before .before .args .self) z) (move-makes _ _ refl (ap (λ (m : MovedAccount). m .ok) (sym (moved (c .before .before .before))) ∙ not-false _ (c .before .if1 .left)))))
 
 pub reoffer-spec : {M : Type 1} → statement M
-reoffer-spec = tie.close (tie.spec posted-to-requires returns returns-2)
+reoffer-spec = tie.close (tie.spec (λ c κs. search needs) returns returns-2)

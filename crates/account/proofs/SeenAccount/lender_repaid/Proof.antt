@@ -31,18 +31,12 @@ returns-4 c =
     (goes-on posted notFound _ _ _ (c .before .if3 .left)
     (refuses posted outOfRange _ _ _ (let a = c .before .before .before .before .before .before .args in lt-ltb countLimit (a .self .row .repaid + a .flag) (omega arith)))))
 
-add-if5 : tie.Need-add-if5
-add-if5 c = search needs
-
 returns-5 : tie.Need-returns-5
 returns-5 c =
     goes-on posted unauthorized _ _ _ (c .before .before .before .before .before .if1 .left)
     (goes-on posted invalidInput _ _ _ (le-ltb _ _ (c .before .before .before .before .if2 .left))
     (goes-on posted notFound _ _ _ (c .before .before .if3 .left)
     (refuses posted outOfRange _ _ _ (lt-ltb _ _ (c .if5 .taken)))))
-
-add-row : tie.Need-add-row
-add-row c = search needs
 
 returns-6 : tie.Need-returns-6
 returns-6 c =
@@ -54,4 +48,4 @@ returns-6 c =
 
 pub lender-repaid-spec : {M : Type 1} → statement M
 lender-repaid-spec =
-    tie.close (tie.spec returns returns-2 returns-3 returns-4 add-if5 returns-5 add-row returns-6)
+    tie.close (tie.spec returns returns-2 returns-3 returns-4 (λ c. search needs) returns-5 (λ c. search needs) returns-6)

@@ -6,9 +6,6 @@ use borrow.Author.Needs.{needs}
 use Rattle.book.proofs.Book.apply.Statement.{statement}
 use Rattle.book.proofs.Book.apply.Tie as tie
 
-sound-requires : tie.Need-sound-requires
-sound-requires c κs = search needs
-
 returns : tie.Need-returns
 unfolding answers
 returns c = off _ (sym (c .before .sound .ensures .0) ∙ not-true _ (c .if1 .taken)) refl
@@ -22,4 +19,4 @@ unfolding answers
 returns-2 c = on _ (sym (c .before .before .sound .ensures .0) ∙ not-false _ (c .before .if1 .left)) (c .obey .ensures)
 
 pub apply-spec : {M : Type 1} → statement M
-apply-spec = tie.close (tie.spec sound-requires returns obey-requires returns-2)
+apply-spec = tie.close (tie.spec (λ c κs. search needs) returns obey-requires returns-2)

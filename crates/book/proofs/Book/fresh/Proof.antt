@@ -2,25 +2,10 @@ use borrow.Author.Needs.{needs}
 use Rattle.book.proofs.Book.fresh.Statement.{statement}
 use Rattle.book.proofs.Book.fresh.Tie as tie
 
-none-requires : tie.Need-none-requires
-none-requires c κs = search needs
-
-none-requires-2 : tie.Need-none-requires-2
-none-requires-2 c κs = search needs
-
-none-requires-3 : tie.Need-none-requires-3
-none-requires-3 c κs = search needs
-
-none-requires-4 : tie.Need-none-requires-4
-none-requires-4 c κs = search needs
-
-fresh-requires : tie.Need-fresh-requires
-fresh-requires c κs = search needs
-
 returns : tie.Need-returns
 returns c = rw (c .before .before .before .before .none .ensures, c .before .before .before .none2 .ensures, c .before .before .none3 .ensures, c .before .none4 .ensures, c .fresh .ensures)
 
 pub fresh-spec : {M : Type 1} → statement M
 fresh-spec =
     tie.close
-    (tie.spec none-requires none-requires-2 none-requires-3 none-requires-4 fresh-requires returns)
+    (tie.spec (λ c κs. search needs) (λ c κs. search needs) (λ c κs. search needs) (λ c κs. search needs) (λ c κs. search needs) returns)

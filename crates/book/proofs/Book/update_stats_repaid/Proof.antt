@@ -3,11 +3,8 @@ use borrow.Author.Needs.{needs}
 use Rattle.book.proofs.Book.update_stats_repaid.Statement.{statement}
 use Rattle.book.proofs.Book.update_stats_repaid.Tie as tie
 
-apply-requires : tie.Need-apply-requires
-apply-requires c κs = search needs
-
 returns : tie.Need-returns
 returns c = simp (toZ-ofZ (c .before .fits .amount), toZ-ofZ (c .before .fits .fee)) at (c .apply .ensures)
 
 pub update-stats-repaid-spec : {M : Type 1} → statement M
-update-stats-repaid-spec = tie.close (tie.spec apply-requires returns)
+update-stats-repaid-spec = tie.close (tie.spec (λ c κs. search needs) returns)

@@ -4,18 +4,6 @@ use borrow.Author.Needs.{needs}
 use Rattle.command.proofs.Paper.key.Statement.{statement}
 use Rattle.command.proofs.Paper.key.Tie as tie
 
-enum-told : tie.Need-enum-told
-enum-told c = search needs
-
-enum-known-self : tie.Need-enum-known-self
-enum-known-self c = search needs
-
-enum-told-2 : tie.Need-enum-told-2
-enum-told-2 c = search needs
-
-returns : tie.Need-returns
-returns c = search needs
-
 returns-2 : tie.Need-returns-2
 returns-2 c = sym (ap (λ z. paperKey z (c .before .before .before .args .invoice)) (c .before .self .given .1))
 
@@ -23,4 +11,4 @@ returns-3 : tie.Need-returns-3
 returns-3 c = sym (ap (λ z. paperKey z (c .before .before .args .invoice)) (c .enum-told2 .given .1))
 
 pub key-spec : {M : Type 1} → statement M
-key-spec = tie.close (tie.spec enum-told enum-known-self enum-told-2 returns returns-2 returns-3)
+key-spec = tie.close (tie.spec (λ c. search needs) (λ c. search needs) (λ c. search needs) (λ c. search needs) returns-2 returns-3)

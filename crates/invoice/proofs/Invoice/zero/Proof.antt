@@ -4,12 +4,9 @@ use borrow.Author.Needs.{needs}
 use Rattle.invoice.proofs.Invoice.zero.Statement.{statement}
 use Rattle.invoice.proofs.Invoice.zero.Tie as tie
 
-is-zero-requires : tie.Need-is-zero-requires
-is-zero-requires c κs = search needs
-
 returns : tie.Need-returns
 unfolding invoiceZero
 returns c = rw (simp (back (c .before .before .args .self .amount) (search needs)) at (c .is-zero .ensures))
 
 pub zero-spec : {M : Type 1} → statement M
-zero-spec = tie.close (tie.spec is-zero-requires returns)
+zero-spec = tie.close (tie.spec (λ c κs. search needs) returns)

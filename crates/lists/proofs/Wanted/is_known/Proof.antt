@@ -22,9 +22,6 @@ others (PendingOf i) k = refl
 others Wants.All k = refl
 others (Page o l) k = refl
 
-enum-known-self : tie.Need-enum-known-self
-enum-known-self c = search needs
-
 returns : tie.Need-returns
 unfolding known
 returns c = sym (ap known (c .before .self .given .1))
@@ -33,4 +30,4 @@ returns-2 : tie.Need-returns-2
 returns-2 c = others (c .before .args .self) (c .match .keys2)
 
 pub is-known-spec : {M : Type 1} → statement M
-is-known-spec = tie.close (tie.spec enum-known-self returns returns-2)
+is-known-spec = tie.close (tie.spec (λ c. search needs) returns returns-2)

@@ -3,11 +3,8 @@ use borrow.Author.Needs.{needs}
 use Rattle.near.proofs.Near.deal_posted.Statement.{statement}
 use Rattle.near.proofs.Near.deal_posted.Tie as tie
 
-put-requires : tie.Need-put-requires
-put-requires c κs = search needs
-
 returns : tie.Need-returns
 returns c = λ u o a b i m q e. rw (c .put .ensures) (deal-step a b m i o e u (c .before .before .before .args .p) q)
 
 pub deal-posted-spec : {M : Type 1} → statement M
-deal-posted-spec = tie.close (tie.spec put-requires returns)
+deal-posted-spec = tie.close (tie.spec (λ c κs. search needs) returns)

@@ -6,11 +6,8 @@ use borrow.Author.Needs.{needs}
 use Rattle.near.proofs.Near.first_posted.Statement.{statement}
 use Rattle.near.proofs.Near.first_posted.Tie as tie
 
-put-first-requires : tie.Need-put-first-requires
-put-first-requires c κs = search needs
-
 returns : tie.Need-returns
 returns c = λ u a b i o m q e. rw (c .put-first .ensures) (first-step (keysBy (Id a) b i o) m e u (c .before .before .before .args .p) a refl q)
 
 pub first-posted-spec : {M : Type 1} → statement M
-first-posted-spec = tie.close (tie.spec put-first-requires returns)
+first-posted-spec = tie.close (tie.spec (λ c κs. search needs) returns)

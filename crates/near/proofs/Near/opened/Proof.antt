@@ -17,14 +17,8 @@ returns c = λ a b i o m f e. same (keysBy (Id a) b i o) m e _ ∙ refuses (turn
 returns-2 : tie.Need-returns-2
 returns-2 c = λ a b i o m f e. same (keysBy (Id a) b i o) m e _ ∙ goes-on (turnOf (keysBy (Id a) b i o)) alreadyExists _ _ _ (ap (λ n. n .parties .first .here) (sym e) ∙ c .before .if1 .left) (refuses (turnOf (keysBy (Id a) b i o)) noRoom _ _ _ (sym f ∙ c .if2 .taken))
 
-none-requires : tie.Need-none-requires
-none-requires c κs = search needs
-
-let-in-requires : tie.Need-let-in-requires
-let-in-requires c κs = search needs
-
 returns-3 : tie.Need-returns-3
 returns-3 c = λ a b i o m f e. let h = ap (λ n. n .parties .first .here) (sym e) ∙ c .before .before .before .if1 .left in rw (c .let-in .ensures, c .before .none .ensures) (ap (λ z. record { answer = 0; near = z }) (opened-step m a b i o e (unseen-account (find (m .accounts) a) h) _) ∙ goes-on (turnOf (keysBy (Id a) b i o)) alreadyExists _ _ _ h (goes-on (turnOf (keysBy (Id a) b i o)) noRoom _ _ _ (sym f ∙ c .before .before .if2 .left) (does (turnOf (keysBy (Id a) b i o)) _ _ refl)))
 
 pub opened-spec : {M : Type 1} → statement M
-opened-spec = tie.close (tie.spec returns returns-2 none-requires let-in-requires returns-3)
+opened-spec = tie.close (tie.spec returns returns-2 (λ c κs. search needs) (λ c κs. search needs) returns-3)

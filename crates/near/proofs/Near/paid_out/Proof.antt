@@ -3,14 +3,8 @@ use borrow.Author.Needs.{needs}
 use Rattle.near.proofs.Near.paid_out.Statement.{statement}
 use Rattle.near.proofs.Near.paid_out.Tie as tie
 
-payout-requires : tie.Need-payout-requires
-payout-requires c κs = search needs
-
-first-posted-requires : tie.Need-first-posted-requires
-first-posted-requires c κs = search needs
-
 returns : tie.Need-returns
 returns c = λ a b i o m e. c .first-posted .ensures _ a b i o m (simp (toZ-ofZ (c .before .before .before .before .before .fits .amount), e) at (c .before .payout .ensures)) e
 
 pub paid-out-spec : {M : Type 1} → statement M
-paid-out-spec = tie.close (tie.spec payout-requires first-posted-requires returns)
+paid-out-spec = tie.close (tie.spec (λ c κs. search needs) (λ c κs. search needs) returns)

@@ -20,17 +20,11 @@ use Rattle.near.proofs.Near.registered.Tie as tie
 number : (c : tie.After-register-refusal) → (i : ℕ) (a b o : Named) (m : Model) → c .before .before .args .filled ≡ full 64 (m .invoices) → c .before .before .args .self ≡ viewOf (keysBy a b (Id i) o) m → c .register-refusal .result ≡ first (registering m (c .before .before .args .caller) i (c .before .before .args .amount) .checks)
 number c i a b o m = λ f e. simp (toZ-ofZ (c .before .before .fits .amount), f, e) at (c .register-refusal .ensures)
 
-register-refusal-requires : tie.Need-register-refusal-requires
-register-refusal-requires c κs = search needs
-
 returns : tie.Need-returns
 returns c = λ i a b o m f e. same (keysBy a b (Id i) o) m e _ ∙ refused (turnOf (keysBy a b (Id i) o)) _ _ (number (c .before) i a b o m f e) (eqb-false _ _ (not-true _ (c .if1 .taken)))
-
-new-requires : tie.Need-new-requires
-new-requires c κs = search needs
 
 returns-2 : tie.Need-returns-2
 returns-2 c = λ i a b o m f e. let z = eqb-true _ _ (not-false _ (c .before .if1 .left)) in let w = number (c .before .before) i a b o m f e in rw (simp (toZ-ofZ (c .before .before .before .before .fits .amount)) at (c .new .ensures)) (ap (λ z. record { answer = 0; near = z }) (registered-step m i a b o e (register-room m (c .before .before .before .before .args .caller) i (c .before .before .before .before .args .amount) (sym w ∙ z) .new) _) ∙ accepted (turnOf (keysBy a b (Id i) o)) _ _ w z refl)
 
 pub registered-spec : {M : Type 1} → statement M
-registered-spec = tie.close (tie.spec register-refusal-requires returns new-requires returns-2)
+registered-spec = tie.close (tie.spec (λ c κs. search needs) returns (λ c κs. search needs) returns-2)

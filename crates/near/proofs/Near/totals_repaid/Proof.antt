@@ -4,14 +4,8 @@ use borrow.Author.Needs.{needs}
 use Rattle.near.proofs.Near.totals_repaid.Statement.{statement}
 use Rattle.near.proofs.Near.totals_repaid.Tie as tie
 
-is-repayer-requires : tie.Need-is-repayer-requires
-is-repayer-requires c κs = search needs
-
-repay-requires : tie.Need-repay-requires
-repay-requires c κs = search needs
-
 returns : tie.Need-returns
 returns c = λ k m e. totals-step k m e _ (c .before .repay .result) (simp (toZ-ofZ (c .before .before .before .before .before .fits .amount), toZ-ofZ (c .before .before .before .before .before .fits .fee), c .before .before .before .is-repayer .ensures, e) at (c .before .repay .ensures))
 
 pub totals-repaid-spec : {M : Type 1} → statement M
-totals-repaid-spec = tie.close (tie.spec is-repayer-requires repay-requires returns)
+totals-repaid-spec = tie.close (tie.spec (λ c κs. search needs) (λ c κs. search needs) returns)

@@ -4,14 +4,8 @@ use borrow.Author.Needs.{needs}
 use Rattle.near.proofs.Near.withdrawn.Statement.{statement}
 use Rattle.near.proofs.Near.withdrawn.Tie as tie
 
-withdraw-requires : tie.Need-withdraw-requires
-withdraw-requires c κs = search needs
-
-deal-posted-requires : tie.Need-deal-posted-requires
-deal-posted-requires c κs = search needs
-
 returns : tie.Need-returns
 returns c = λ o a b m e. c .deal-posted .ensures _ o a b (Id (offerIn m o .row .offer .invoice)) m (simp e at (c .before .withdraw .ensures)) e
 
 pub withdrawn-spec : {M : Type 1} → statement M
-withdrawn-spec = tie.close (tie.spec withdraw-requires deal-posted-requires returns)
+withdrawn-spec = tie.close (tie.spec (λ c κs. search needs) (λ c κs. search needs) returns)

@@ -10,21 +10,6 @@ returns : tie.Need-returns
 unfolding addedOf
 returns c = on _ (le-leb _ _ (c .if1 .taken)) (refl)
 
-cast-i : tie.Need-cast-i
-cast-i c = search needs
-
-deadline-after-requires : tie.Need-deadline-after-requires
-deadline-after-requires c κs = search needs
-
-mul-r : tie.Need-mul-r
-mul-r c = search needs
-
-element-set-from-r : tie.Need-element-set-from-r
-element-set-from-r c = search needs
-
-add-self : tie.Need-add-self
-add-self c = search needs
-
 returns-2 : tie.Need-returns-2
 unfolding addedOf
 returns-2 c = off _ (lt-leb _ _ (c .before .if1 .left)) (rw (← c .deadline-after .ensures))
@@ -32,4 +17,4 @@ returns-2 c = off _ (lt-leb _ _ (c .before .if1 .left)) (rw (← c .deadline-aft
 pub added-spec : {M : Type 1} → statement M
 added-spec =
     tie.close
-    (tie.spec returns cast-i deadline-after-requires mul-r element-set-from-r add-self returns-2)
+    (tie.spec returns (λ c. search needs) (λ c κs. search needs) (λ c. search needs) (λ c. search needs) (λ c. search needs) returns-2)

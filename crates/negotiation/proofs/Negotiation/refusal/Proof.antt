@@ -8,9 +8,6 @@ use Rattle.negotiation.proofs.Negotiation.refusal.Tie as tie
 returns : tie.Need-returns
 returns c = fails invalidTransition _ (c .if1 .taken)
 
-status-requires : tie.Need-status-requires
-status-requires c κs = search needs
-
 returns-2 : tie.Need-returns-2
 returns-2 c = passes _ _ (c .before .before .if1 .left) (rw (← c .before .status .ensures) (fails invalidTransition _ (lt-ltb _ _ (c .if2 .taken))))
 
@@ -24,4 +21,4 @@ returns-5 : tie.Need-returns-5
 returns-5 c = passes _ _ (c .before .before .before .before .if1 .left) (rw (← c .before .before .before .status .ensures) (passes _ _ (le-ltb _ _ (c .before .before .if2 .left)) (passes _ _ (not-off (eq-eqb _ _ (c .before .if3 .left))) (passes _ _ (lt-leb _ _ (c .if4 .left)) none-left))))
 
 pub refusal-spec : {M : Type 1} → statement M
-refusal-spec = tie.close (tie.spec returns status-requires returns-2 returns-3 returns-4 returns-5)
+refusal-spec = tie.close (tie.spec returns (λ c κs. search needs) returns-2 returns-3 returns-4 returns-5)

@@ -7,15 +7,9 @@ use borrow.Author.Needs.{needs}
 use Rattle.negotiation.proofs.Round.sound.Statement.{statement}
 use Rattle.negotiation.proofs.Round.sound.Tie as tie
 
-terms-requires : tie.Need-terms-requires
-terms-requires c κs = search needs
-
-terms-valid-requires : tie.Need-terms-valid-requires
-terms-valid-requires c κs = search needs
-
 returns : tie.Need-returns
 unfolding roundSound
 returns c = ap (λ (b : Bool). b && leb (c .before .before .args .self .party) 1) (c .terms-valid .ensures ∙ ap termsOk (c .before .terms .ensures))
 
 pub sound-spec : {M : Type 1} → statement M
-sound-spec = tie.close (tie.spec terms-requires terms-valid-requires returns)
+sound-spec = tie.close (tie.spec (λ c κs. search needs) (λ c κs. search needs) returns)

@@ -13,9 +13,6 @@ returns-2 c =
     passes notFound _ (c .before .before .if1 .left)
     (fails invalidTransition _ (c .if2 .taken))
 
-expired-requires : tie.Need-expired-requires
-expired-requires c κs = search needs
-
 returns-3 : tie.Need-returns-3
 returns-3 c =
     passes notFound _ (c .before .before .before .before .before .if1 .left)
@@ -73,7 +70,7 @@ agreement-refusal-spec =
     (tie.spec
     returns
     returns-2
-    expired-requires
+    (λ c κs. search needs)
     returns-3
     returns-4
     returns-5

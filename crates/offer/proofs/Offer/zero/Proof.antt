@@ -4,15 +4,9 @@ use borrow.Author.Needs.{needs}
 use Rattle.offer.proofs.Offer.zero.Statement.{statement}
 use Rattle.offer.proofs.Offer.zero.Tie as tie
 
-is-zero-requires : tie.Need-is-zero-requires
-is-zero-requires c κs = search needs
-
-is-zero-requires-2 : tie.Need-is-zero-requires-2
-is-zero-requires-2 c κs = search needs
-
 returns : tie.Need-returns
 unfolding offerZero
 returns c = let s = c .before .before .before .before .before .args .self in rw (simp (back (s .terms .amount) (search needs)) at (c .before .before .is-zero .ensures), simp (back (s .repaid) (search needs)) at (c .is-zero2 .ensures))
 
 pub zero-spec : {M : Type 1} → statement M
-zero-spec = tie.close (tie.spec is-zero-requires is-zero-requires-2 returns)
+zero-spec = tie.close (tie.spec (λ c κs. search needs) (λ c κs. search needs) returns)

@@ -12,9 +12,6 @@ returns-2 c =
     passes notFound _ (c .before .before .before .if1 .left)
     (fails invalidTransition _ (c .if2 .taken))
 
-expired-requires : tie.Need-expired-requires
-expired-requires c κs = search needs
-
 returns-3 : tie.Need-returns-3
 returns-3 c =
     passes notFound _ (c .before .before .before .before .before .if1 .left)
@@ -58,4 +55,4 @@ returns-7 c =
 pub accept-refusal-spec : {M : Type 1} → statement M
 accept-refusal-spec =
     tie.close
-    (tie.spec returns returns-2 expired-requires returns-3 returns-4 returns-5 returns-6 returns-7)
+    (tie.spec returns returns-2 (λ c κs. search needs) returns-3 returns-4 returns-5 returns-6 returns-7)

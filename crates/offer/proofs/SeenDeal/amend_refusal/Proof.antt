@@ -12,9 +12,6 @@ valid c = ap not (sym (c .terms-valid .ensures))
 returns : tie.Need-returns
 returns c = fails blacklisted _ (c .if1 .taken)
 
-terms-valid-requires : tie.Need-terms-valid-requires
-terms-valid-requires c κs = search needs
-
 returns-2 : tie.Need-returns-2
 returns-2 c =
     passes blacklisted _ (c .before .before .if1 .left)
@@ -33,9 +30,6 @@ returns-4 c =
     (passes notFound _ (c .before .before .before .if3 .left)
     (fails unauthorized _ (c .if4 .taken))))
 
-refusal-requires : tie.Need-refusal-requires
-refusal-requires c κs = search needs
-
 returns-5 : tie.Need-returns-5
 returns-5 c =
     passes blacklisted _ (c .before .before .before .before .before .before .before .before .before .if1 .left)
@@ -49,9 +43,9 @@ amend-refusal-spec =
     tie.close
     (tie.spec
     returns
-    terms-valid-requires
+    (λ c κs. search needs)
     returns-2
     returns-3
     returns-4
-    refusal-requires
+    (λ c κs. search needs)
     returns-5)

@@ -12,9 +12,6 @@ valid c = ap not (sym (c .terms-valid .ensures))
 returns : tie.Need-returns
 returns c = fails blacklisted _ (c .if1 .taken)
 
-terms-valid-requires : tie.Need-terms-valid-requires
-terms-valid-requires c κs = search needs
-
 returns-2 : tie.Need-returns-2
 returns-2 c =
     passes blacklisted _ (c .before .before .if1 .left)
@@ -41,9 +38,6 @@ returns-5 c =
     (passes notFound _ (c .before .before .if4 .left)
     (fails unauthorized _ (c .if5 .taken)))))
 
-refusal-requires : tie.Need-refusal-requires
-refusal-requires c κs = search needs
-
 returns-6 : tie.Need-returns-6
 returns-6 c =
     passes blacklisted _ (c .before .before .before .before .before .before .before .before .before .before .before .before .if1 .left)
@@ -58,10 +52,10 @@ counter-refusal-spec =
     tie.close
     (tie.spec
     returns
-    terms-valid-requires
+    (λ c κs. search needs)
     returns-2
     returns-3
     returns-4
     returns-5
-    refusal-requires
+    (λ c κs. search needs)
     returns-6)

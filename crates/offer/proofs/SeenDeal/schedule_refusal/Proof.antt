@@ -6,9 +6,6 @@ use borrow.Author.Needs.{needs}
 use Rattle.offer.proofs.SeenDeal.schedule_refusal.Statement.{statement}
 use Rattle.offer.proofs.SeenDeal.schedule_refusal.Tie as tie
 
-count-valid-requires : tie.Need-count-valid-requires
-count-valid-requires c κs = search needs
-
 returns : tie.Need-returns
 returns c =
     fails invalidInput _ (ap not (sym (c .before .count-valid .ensures)) ∙ c .if1 .taken)
@@ -17,9 +14,6 @@ returns-2 : tie.Need-returns-2
 returns-2 c =
     passes invalidInput _ (ap not (sym (c .before .before .count-valid .ensures)) ∙ c .before .if1 .left)
     (fails invalidInput _ (le-leb _ _ (c .if2 .taken)))
-
-code-listed-requires : tie.Need-code-listed-requires
-code-listed-requires c κs = search needs
 
 returns-3 : tie.Need-returns-3
 returns-3 c =
@@ -76,10 +70,10 @@ pub schedule-refusal-spec : {M : Type 1} → statement M
 schedule-refusal-spec =
     tie.close
     (tie.spec
-    count-valid-requires
+    (λ c κs. search needs)
     returns
     returns-2
-    code-listed-requires
+    (λ c κs. search needs)
     returns-3
     returns-4
     returns-5

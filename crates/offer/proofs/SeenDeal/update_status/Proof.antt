@@ -7,23 +7,14 @@ use borrow.Author.Needs.{needs}
 use Rattle.offer.proofs.SeenDeal.update_status.Statement.{statement}
 use Rattle.offer.proofs.SeenDeal.update_status.Tie as tie
 
-refused-requires : tie.Need-refused-requires
-refused-requires c κs = search needs
-
 returns : tie.Need-returns
 returns c = c .refused .ensures ∙ refuses posted unauthorized _ _ _ (c .before .if1 .taken)
-
-refused-requires-2 : tie.Need-refused-requires-2
-refused-requires-2 c κs = search needs
 
 returns-2 : tie.Need-returns-2
 returns-2 c =
     c .refused2 .ensures ∙ (
     goes-on posted unauthorized _ _ _ (c .before .before .if1 .left)
     (refuses posted invalidInput _ _ _ (lt-ltb _ _ (c .before .if2 .taken))))
-
-refused-requires-3 : tie.Need-refused-requires-3
-refused-requires-3 c κs = search needs
 
 returns-3 : tie.Need-returns-3
 returns-3 c =
@@ -43,10 +34,10 @@ pub update-status-spec : {M : Type 1} → statement M
 update-status-spec =
     tie.close
     (tie.spec
-    refused-requires
+    (λ c κs. search needs)
     returns
-    refused-requires-2
+    (λ c κs. search needs)
     returns-2
-    refused-requires-3
+    (λ c κs. search needs)
     returns-3
     returns-4)

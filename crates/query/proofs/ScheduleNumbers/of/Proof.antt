@@ -3,17 +3,8 @@ use borrow.Author.Needs.{needs}
 use Rattle.query.proofs.ScheduleNumbers.of.Statement.{statement}
 use Rattle.query.proofs.ScheduleNumbers.of.Tie as tie
 
-bits-requires : tie.Need-bits-requires
-bits-requires c κs = search needs
-
-cast-t3 : tie.Need-cast-t3
-cast-t3 c = search needs
-
-cast-t4 : tie.Need-cast-t4
-cast-t4 c = search needs
-
 returns : tie.Need-returns
 returns c = rw (simp (back (c .before .before .before .before .args .s .installment) (c .before .before .before .struct-told .given .1 .1 .0 .1)) at (c .before .before .bits .ensures))
 
 pub of-spec : {M : Type 1} → statement M
-of-spec = tie.close (tie.spec bits-requires cast-t3 cast-t4 returns)
+of-spec = tie.close (tie.spec (λ c κs. search needs) (λ c. search needs) (λ c. search needs) returns)

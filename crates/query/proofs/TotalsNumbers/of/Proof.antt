@@ -3,18 +3,6 @@ use borrow.Author.Needs.{needs}
 use Rattle.query.proofs.TotalsNumbers.of.Statement.{statement}
 use Rattle.query.proofs.TotalsNumbers.of.Tie as tie
 
-bits-requires : tie.Need-bits-requires
-bits-requires c κs = search needs
-
-bits-requires-2 : tie.Need-bits-requires-2
-bits-requires-2 c κs = search needs
-
-bits-requires-3 : tie.Need-bits-requires-3
-bits-requires-3 c κs = search needs
-
-cast-t5 : tie.Need-cast-t5
-cast-t5 c = search needs
-
 returns : tie.Need-returns
 returns c = rw (
   simp (back (c .before .before .before .before .before .before .before .args .t .financed) (c .before .before .before .before .before .before .struct-told .given .0 .1)) at (c .before .before .before .before .before .bits .ensures),
@@ -23,4 +11,4 @@ returns c = rw (
 )
 
 pub of-spec : {M : Type 1} → statement M
-of-spec = tie.close (tie.spec bits-requires bits-requires-2 bits-requires-3 cast-t5 returns)
+of-spec = tie.close (tie.spec (λ c κs. search needs) (λ c κs. search needs) (λ c κs. search needs) (λ c. search needs) returns)

@@ -7,9 +7,6 @@ use borrow.Author.Needs.{needs}
 use Rattle.settings.proofs.Settings.pause.Statement.{statement}
 use Rattle.settings.proofs.Settings.pause.Tie as tie
 
-admin-passes-requires : tie.Need-admin-passes-requires
-admin-passes-requires c κs = search needs
-
 returns : tie.Need-returns
 returns c = refuses posted unauthorized _ _ _ (told (c .before .admin-passes .ensures) (c .if1 .taken))
 
@@ -19,4 +16,4 @@ returns-2 c =
     (does posted _ _ refl)
 
 pub pause-spec : {M : Type 1} → statement M
-pause-spec = tie.close (tie.spec admin-passes-requires returns returns-2)
+pause-spec = tie.close (tie.spec (λ c κs. search needs) returns returns-2)

@@ -7,9 +7,6 @@ use borrow.Author.Needs.{needs}
 use Rattle.settings.proofs.Settings.set_repayer.Statement.{statement}
 use Rattle.settings.proofs.Settings.set_repayer.Tie as tie
 
-admin-passes-requires : tie.Need-admin-passes-requires
-admin-passes-requires c κs = search needs
-
 returns : tie.Need-returns
 returns c = refuses posted unauthorized _ _ _ (told (c .before .admin-passes .ensures) (c .if1 .taken))
 
@@ -25,4 +22,4 @@ returns-3 c =
     (does posted _ _ refl))
 
 pub set-repayer-spec : {M : Type 1} → statement M
-set-repayer-spec = tie.close (tie.spec admin-passes-requires returns returns-2 returns-3)
+set-repayer-spec = tie.close (tie.spec (λ c κs. search needs) returns returns-2 returns-3)

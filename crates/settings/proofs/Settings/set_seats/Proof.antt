@@ -19,22 +19,13 @@ in-bits : (next threshold : ℕ) → thresholdOk next threshold ≡ true → nex
 unfolding thresholdOk
 in-bits next threshold h = let l = leb-true next 4294967295 (both _ _ h .0) in mod-eq-of-lt (omega arith)
 
-admin-passes-requires : tie.Need-admin-passes-requires
-admin-passes-requires c κs = search needs
-
 returns : tie.Need-returns
 returns c = refuses posted unauthorized _ _ _ (told (c .before .admin-passes .ensures) (c .if1 .taken))
-
-threshold-ok-requires : tie.Need-threshold-ok-requires
-threshold-ok-requires c κs = search needs
 
 returns-2 : tie.Need-returns-2
 returns-2 c =
     goes-on posted unauthorized _ _ _ (told (c .before .before .before .admin-passes .ensures) (c .before .before .if1 .left))
     (refuses posted invalidInput _ _ _ (told (c .before .threshold-ok .ensures) (c .if2 .taken)))
-
-cast-self : tie.Need-cast-self
-cast-self c = search needs
 
 returns-3 : tie.Need-returns-3
 returns-3 c =
@@ -45,4 +36,4 @@ returns-3 c =
 pub set-seats-spec : {M : Type 1} → statement M
 set-seats-spec =
     tie.close
-    (tie.spec admin-passes-requires returns threshold-ok-requires returns-2 cast-self returns-3)
+    (tie.spec (λ c κs. search needs) returns (λ c κs. search needs) returns-2 (λ c. search needs) returns-3)

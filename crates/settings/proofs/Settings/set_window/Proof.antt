@@ -8,9 +8,6 @@ use borrow.Author.Needs.{needs}
 use Rattle.settings.proofs.Settings.set_window.Statement.{statement}
 use Rattle.settings.proofs.Settings.set_window.Tie as tie
 
-admin-passes-requires : tie.Need-admin-passes-requires
-admin-passes-requires c κs = search needs
-
 returns : tie.Need-returns
 returns c = refuses posted unauthorized _ _ _ (told (c .before .admin-passes .ensures) (c .if1 .taken))
 
@@ -31,4 +28,4 @@ returns-4 c =
     (does posted _ _ refl))
 
 pub set-window-spec : {M : Type 1} → statement M
-set-window-spec = tie.close (tie.spec admin-passes-requires returns returns-2 returns-3 returns-4)
+set-window-spec = tie.close (tie.spec (λ c κs. search needs) returns returns-2 returns-3 returns-4)

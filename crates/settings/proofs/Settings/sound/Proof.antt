@@ -3,15 +3,9 @@ use borrow.Author.Needs.{needs}
 use Rattle.settings.proofs.Settings.sound.Statement.{statement}
 use Rattle.settings.proofs.Settings.sound.Tie as tie
 
-cast-s : tie.Need-cast-s
-cast-s c = search needs
-
-threshold-ok-requires : tie.Need-threshold-ok-requires
-threshold-ok-requires c κs = search needs
-
 returns : tie.Need-returns
 unfolding settingsSound
 returns c = rw (c .threshold-ok .ensures)
 
 pub sound-spec : {M : Type 1} → statement M
-sound-spec = tie.close (tie.spec cast-s threshold-ok-requires returns)
+sound-spec = tie.close (tie.spec (λ c. search needs) (λ c κs. search needs) returns)

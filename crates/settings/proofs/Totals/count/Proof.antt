@@ -10,13 +10,10 @@ use Rattle.settings.proofs.Totals.count.Tie as tie
 returns : tie.Need-returns
 returns c = refuses counted outOfRange _ _ _ (le-leb _ _ (c .if1 .taken))
 
-add-self : tie.Need-add-self
-add-self c = search needs
-
 returns-2 : tie.Need-returns-2
 returns-2 c =
     goes-on counted outOfRange _ _ _ (lt-leb _ _ (c .if1 .left))
     (does counted _ _ refl)
 
 pub count-spec : {M : Type 1} → statement M
-count-spec = tie.close (tie.spec returns add-self returns-2)
+count-spec = tie.close (tie.spec returns (λ c. search needs) returns-2)

@@ -14,9 +14,6 @@ use Rattle.settings.proofs.Totals.finance.Tie as tie
 moved : (c : tie.After-shift) → c .shift .result ≡ movedOf (c .before .before .before .args .self .financed) (c .before .before .before .args .t .amount)
 moved c = let s = c .before .before .before .args in simp (back (s .self .financed) (search needs), back (s .t .amount) (search needs)) at (c .shift .ensures)
 
-shift-requires : tie.Need-shift-requires
-shift-requires c κs = search needs
-
 returns : tie.Need-returns
 returns c = refuses counted outOfRange _ _ _ (told (move-tells _ _ (moved (c .before .before))) (c .if1 .taken))
 
@@ -25,4 +22,4 @@ returns-2 c = let m = moved (c .before .before .before) in goes-on counted outOf
     (does counted _ _ (rw (back (c .before .before .before .shift .result .total) (search needs), move-makes _ _ m (not-false _ (c .before .if1 .left)))))
 
 pub finance-spec : {M : Type 1} → statement M
-finance-spec = tie.close (tie.spec shift-requires returns returns-2)
+finance-spec = tie.close (tie.spec (λ c κs. search needs) returns returns-2)

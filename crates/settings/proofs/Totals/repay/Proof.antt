@@ -23,16 +23,10 @@ fees-moved c =
 returns : tie.Need-returns
 returns c = refuses counted unauthorized _ _ _ (c .if1 .taken)
 
-shift-requires : tie.Need-shift-requires
-shift-requires c κs = search needs
-
 returns-2 : tie.Need-returns-2
 returns-2 c =
     goes-on counted unauthorized _ _ _ (c .before .before .before .before .if1 .left)
     (refuses counted outOfRange _ _ _ (told (move-tells _ _ (repaid-moved (c .before .before))) (c .if2 .taken)))
-
-shift-requires-2 : tie.Need-shift-requires-2
-shift-requires-2 c κs = search needs
 
 returns-3 : tie.Need-returns-3
 returns-3 c =
@@ -56,4 +50,4 @@ returns-4 c =
 
 pub repay-spec : {M : Type 1} → statement M
 repay-spec =
-    tie.close (tie.spec returns shift-requires returns-2 shift-requires-2 returns-3 returns-4)
+    tie.close (tie.spec returns (λ c κs. search needs) returns-2 (λ c κs. search needs) returns-3 returns-4)

@@ -4,15 +4,6 @@ use borrow.Author.Needs.{needs}
 use Rattle.settings.proofs.Totals.sound.Statement.{statement}
 use Rattle.settings.proofs.Totals.sound.Tie as tie
 
-in-total-range-requires : tie.Need-in-total-range-requires
-in-total-range-requires c κs = search needs
-
-in-total-range-requires-2 : tie.Need-in-total-range-requires-2
-in-total-range-requires-2 c κs = search needs
-
-in-total-range-requires-3 : tie.Need-in-total-range-requires-3
-in-total-range-requires-3 c κs = search needs
-
 returns : tie.Need-returns
 unfolding totalsSound
 returns c =
@@ -26,4 +17,4 @@ returns c =
 pub sound-spec : {M : Type 1} → statement M
 sound-spec =
     tie.close
-    (tie.spec in-total-range-requires in-total-range-requires-2 in-total-range-requires-3 returns)
+    (tie.spec (λ c κs. search needs) (λ c κs. search needs) (λ c κs. search needs) returns)

@@ -11,9 +11,6 @@ use Rattle.shelves.proofs.Offers.see.Tie as tie
 below : (c : tie.After-spot-by) → c .spot-by .result .at < 64
 below c = spot-below (c .before .before .before .before .pre .shelf) (omega arith) (c .before .before .before .before .args .key) (c .spot-by .ensures)
 
-spot-by-requires : tie.Need-spot-by-requires
-spot-by-requires c κs = search needs
-
 mul-o : tie.Need-mul-o
 mul-o c = omega (arith, below c)
 
@@ -32,9 +29,6 @@ mul-q c = omega (arith, below (c .before .before))
 element-copy-out-q : tie.Need-element-copy-out-q
 element-copy-out-q c = omega (arith, below (c .before .before))
 
-at-requires : tie.Need-at-requires
-at-requires c κs = search needs
-
 returns : tie.Need-returns
 returns c = c .at .ensures ∙ ap seenDeal (sym (deal-read (c .before .before .before .before .before .before .before .before .pre) _ _ _ (c .before .before .before .before .before .before .before .before .args .key) (c .before .before .before .before .spot-by .ensures)))
 
@@ -42,12 +36,12 @@ pub see-spec : {M : Type 1} → statement M
 see-spec =
     tie.close
     (tie.spec
-    spot-by-requires
+    (λ c κs. search needs)
     mul-o
     element-copy-out-o
     mul-g
     element-copy-out-g
     mul-q
     element-copy-out-q
-    at-requires
+    (λ c κs. search needs)
     returns)

@@ -30,9 +30,6 @@ was c = was-by _ _ (deal-read (c .before .before .before .before .before .before
 came : (c : tie.After-over) → {b : Bool} → not (c .before .before .before .before .before .spot-by .result .here) && (c .before .before .before .before .before .before .before .before .before .args .x .here) ≡ b → not (has (findBy (dealsOf (c .before .before .before .before .before .before .before .before .before .args .t1)) (c .before .before .before .before .before .before .before .before .before .args .key))) && (c .before .before .before .before .before .before .before .before .before .args .x .here) ≡ b
 came c = λ q. ap (λ z. not z && (c .before .before .before .before .before .before .before .before .before .args .x .here)) (sym (was c)) ∙ q
 
-spot-by-requires : tie.Need-spot-by-requires
-spot-by-requires c κs = search needs
-
 mul-o : tie.Need-mul-o
 mul-o c = omega (arith, below c)
 
@@ -50,9 +47,6 @@ mul-q c = omega (arith, below (c .before .before))
 
 element-copy-out-q : tie.Need-element-copy-out-q
 element-copy-out-q c = omega (arith, below (c .before .before))
-
-over-requires : tie.Need-over-requires
-over-requires c κs = search needs
 
 mul-e : tie.Need-mul-e
 mul-e c = omega (arith, below (c .before .before .before .before .before .before .before .before))
@@ -72,9 +66,6 @@ mul-l c = omega (arith, below (c .before .before .before .before .before .before
 element-set-from-l : tie.Need-element-set-from-l
 element-set-from-l c = omega (arith, below (c .before .before .before .before .before .before .before .before))
 
-id-requires : tie.Need-id-requires
-id-requires c κs = search needs
-
 let-in-requires : tie.Need-let-in-requires
 let-in-requires c κs = subst DealShelf (sym (wrote (c .before .before .before .before .before .before .before))) (deals-keeping .good (fine-by (fine-by (deals-keeping .fine _ (c .before .before .before .before .before .before .before .before .before .before .before .before .before .before .before .before .pre)) (c .before .before .before .before .before .before .before .before .before .before .before .before .before .before .before .before .args .key) (c .before .before .before .before .before .before .before .before .before .before .before .before .before .before .before .before .args .x .row)) (c .before .before .before .before .before .before .before .before .before .before .before .before .before .before .before .before .args .key) (c .before .before .before .before .before .before .before .before .before .before .before .before .before .before .before .before .args .x .row)))
 
@@ -88,21 +79,21 @@ pub store-spec : {M : Type 1} → statement M
 store-spec =
     tie.close
     (tie.spec
-    spot-by-requires
+    (λ c κs. search needs)
     mul-o
     element-copy-out-o
     mul-g
     element-copy-out-g
     mul-q
     element-copy-out-q
-    over-requires
+    (λ c κs. search needs)
     mul-e
     element-set-from-e
     mul-h
     element-set-from-h
     mul-l
     element-set-from-l
-    id-requires
+    (λ c κs. search needs)
     let-in-requires
     returns
     returns-2)

@@ -11,28 +11,10 @@ use Rattle.table.proofs.Named.same.Tie as tie
 both : {a b : Named} {i j : ℕ} → a ≡ Id i → b ≡ Id j → eqb i j ≡ same a b
 both {a} {b} {i} p q = sym (ap (λ z. same z b) p ∙ ap (same (Id i)) q)
 
-enum-known-self : tie.Need-enum-known-self
-enum-known-self c = search needs
-
-enum-told : tie.Need-enum-told
-enum-told c = search needs
-
-returns : tie.Need-returns
-returns c = search needs
-
-enum-known-other : tie.Need-enum-known-other
-enum-known-other c = search needs
-
-enum-told-2 : tie.Need-enum-told-2
-enum-told-2 c = search needs
-
-returns-2 : tie.Need-returns-2
-returns-2 c = search needs
-
 returns-3 : tie.Need-returns-3
 returns-3 c = both (c .before .before .before .before .self .given .1) (c .before .other .given .1)
 
 pub same-spec : {M : Type 1} → statement M
 same-spec =
     tie.close
-    (tie.spec enum-known-self enum-told returns enum-known-other enum-told-2 returns-2 returns-3)
+    (tie.spec (λ c. search needs) (λ c. search needs) (λ c. search needs) (λ c. search needs) (λ c. search needs) (λ c. search needs) returns-3)
