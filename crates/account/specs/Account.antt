@@ -3,14 +3,11 @@ use Prim.Native.Nat.{ℕ, _+_}
 use mathlib.Core.Bool.{Bool, false, not, _&&_}
 use lib.Dec.{leb, eqb}
 use lib.IntN.{ℤ, pos, _+ℤ_}
-use Rattle.money.specs.Range.{inTotal, isZero}
+use Rattle.money.specs.Range.{countLimit, inTotal, isZero}
 use Rattle.account.specs.declared.Account.{Account}
 
 abbrev pub noAccount : Account
 noAccount = record { balance = pos 0; allowance = pos 0; offered = pos 0; accepted = pos 0; pending = 0; repaid = 0; blacklisted = false }
-
-abbrev pub countLimit : ℕ
-countLimit = 1000000
 
 -- the balance grows by x, which may be below 0; likewise the others
 abbrev pub gains : ℤ → Account → Account

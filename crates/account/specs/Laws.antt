@@ -4,17 +4,19 @@ use native.Mathlib.Omega.{arith}
 use mathlib.Core.Path.{_≡_, refl}
 use mathlib.Core.Bool.{Bool, true, false, not}
 use lib.Dec.{leb}
-use lib.IntN.{ℤ, pos, negℤ, _-ℤ_, _+ℤ_}
+use lib.IntN.{ℤ, pos, negℤ, _-ℤ_}
 use borrow.Author.Needs.{needs}
 use borrow.Author.Tests.{eqb-true, leb-false, ltb-false, le-leb, not-true, not-false}
-use Rattle.money.specs.Range.{inTotal, movable}
+use Rattle.money.specs.Range.{countLimit, inTotal, movable}
+use Rattle.money.specs.Moves.{moves-in}
 use Rattle.money.specs.Facts.{both, zero-is}
 use Rattle.refusal.specs.Refusal.{first}
-use Rattle.refusal.specs.Rule.{Rule, passed}
+use Rattle.refusal.specs.Rule.{Rule}
+use Rattle.refusal.specs.RuleLaws.{passed}
 use Rattle.terms.specs.declared.Terms.{Terms}
 use Rattle.account.specs.declared.Account.{Account}
 use Rattle.account.specs.declared.SeenAccount.{SeenAccount}
-use Rattle.account.specs.Account.{noAccount, countLimit, gains, accountSound, accountZero}
+use Rattle.account.specs.Account.{noAccount, gains, accountSound, accountZero}
 use Rattle.account.specs.Rules.{depositOf, payoutOf, approveOf, offerOf, reofferOf, debitOf, creditOf, acceptOf, lenderRepaidOf, blacklistOf}
 
 zeros : {a b c d : ℤ} {p q : ℕ} {x : Bool} → a ≡ pos 0 → b ≡ pos 0 → c ≡ pos 0 → d ≡ pos 0 → p ≡ 0 → q ≡ 0 → x ≡ false
@@ -67,9 +69,6 @@ ranges-sound {r} s = rw (s .balance-in, s .allowance-in, s .offered-in, s .accep
 -- a rule keeps a row sound where its checks pass
 abbrev pub Keeps : Account → Rule Account → Type 0
 Keeps r u = accountSound r ≡ true → first (u .checks) ≡ 0 → accountSound (u .done) ≡ true
-
-moves-in : (t x : ℤ) → not (movable t x) ≡ false → inTotal (t +ℤ x) ≡ true
-moves-in t x e = both (inTotal t) (inTotal (t +ℤ x)) (not-false (movable t x) e) .1
 
 gains-kept : (r : Account) (x : ℤ) → accountSound r ≡ true → not (movable (r .balance) x) ≡ false → accountSound (gains x r) ≡ true
 gains-kept r x h e =

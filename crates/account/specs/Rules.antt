@@ -4,14 +4,14 @@ use mathlib.Core.Bool.{Bool, not}
 use mathlib.Core.List.{[], _∷_}
 use lib.Dec.{leb, ltb, eqb}
 use lib.IntN.{ℤ, _-ℤ_, negℤ}
-use Rattle.money.specs.Range.{inAmount, inTotal, movable}
+use Rattle.money.specs.Range.{countLimit, inAmount, inTotal, movable}
 use Rattle.refusal.specs.Refusal.{_gives_, invalidInput, notFound, unauthorized, allowanceShort, balanceShort, outOfRange}
 use Rattle.refusal.specs.Rule.{Rule}
 use Rattle.terms.specs.declared.Terms.{Terms}
 use Rattle.account.specs.declared.Account.{Account}
 use Rattle.account.specs.declared.SeenAccount.{SeenAccount}
 use Rattle.account.specs.declared.AccountPosted.{AccountPosted}
-use Rattle.account.specs.Account.{countLimit, gains, allows, offers, reoffers, pays, accepts, repays, lists}
+use Rattle.account.specs.Account.{gains, allows, offers, reoffers, pays, accepts, repays, lists}
 
 abbrev pub posted : ℕ → Account → AccountPosted
 posted n r = record { answer = n; row = r }

@@ -10,8 +10,6 @@ ghost use Rattle.account.specs.Account.{noAccount, accountSound, account
 ghost use Rattle.account.specs.Post.{withOffered, postedTo};
 ghost use Rattle.account.specs.Rules.{posted, depositOf, payoutOf, approveOf, offerOf, reofferOf, debitOf, creditOf, acceptOf, lenderRepaidOf, blacklistOf};
 
-pub const COUNT_LIMIT: u32 = 1000000;
-
 // What the book holds of one account: what it has, what it lets the desk take, and its totals as a lender.
 pub struct Account {
     pub balance: i64,
@@ -84,7 +82,7 @@ impl Account {
         let d = money::in_total_range(self.accepted);
         let p = self.pending;
         let q = self.repaid;
-        a & b & c & d & (p <= COUNT_LIMIT) & (q <= COUNT_LIMIT)
+        a & b & c & d & (p <= money::COUNT_LIMIT) & (q <= money::COUNT_LIMIT)
     }
 
     pub fn zero(self) -> bool
@@ -174,7 +172,7 @@ impl Account {
             };
         }
         let n = self.pending;
-        if COUNT_LIMIT <= n {
+        if money::COUNT_LIMIT <= n {
             return AccountPosted {
                 answer: refusal::OUT_OF_RANGE,
                 row: self,
@@ -291,13 +289,13 @@ impl SeenAccount {
             };
         }
         let n = row.repaid;
-        if COUNT_LIMIT < n {
+        if money::COUNT_LIMIT < n {
             return AccountPosted {
                 answer: refusal::OUT_OF_RANGE,
                 row,
             };
         }
-        if COUNT_LIMIT < n + flag {
+        if money::COUNT_LIMIT < n + flag {
             return AccountPosted {
                 answer: refusal::OUT_OF_RANGE,
                 row,

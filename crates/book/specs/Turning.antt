@@ -48,8 +48,8 @@ abbrev stepBy : ℕ → Book → Step
 stepBy n z = record { answer = n; book = z }
 
 -- ── What is seen ──────────────────────────────────────────────────
-abbrev pub nearBy : SeenAccount → SeenAccount → Bool → SeenInvoice → SeenDeal → Totals → Settings → Near
-nearBy p q e w x t s = record { parties = record { first = p; second = q; one = e }; paper = w; deal = x; totals = t; settings = s }
+abbrev pub nearWith : SeenAccount → SeenAccount → Bool → SeenInvoice → SeenDeal → Totals → Settings → Near
+nearWith p q e w x t s = record { parties = record { first = p; second = q; one = e }; paper = w; deal = x; totals = t; settings = s }
 
 pub record Fetched (b : Book) (c : Command) (k : Keys) (n : Near) : Type 0 where
   pub keys : k ≡ keysOf (modelOf b) c
@@ -58,7 +58,7 @@ pub record Fetched (b : Book) (c : Command) (k : Keys) (n : Near) : Type 0 where
 module _ {b : Book} {c : Command} {n : Names} {key other : Named} {x : SeenDeal} {w : SeenInvoice} {p q : SeenAccount} {e : Bool} where
   pub fetched : n ≡ namesOf c → x ≡ offerBy (modelOf b) (n .offer) → key ≡ paperKey (n .paper) (x .row .offer .invoice) → w ≡ invoiceBy (modelOf b) key
       → other ≡ otherKey (n .second) (x .row .offer .lender) (w .row .originator) → p ≡ accountBy (modelOf b) (n .first) → q ≡ accountBy (modelOf b) other → e ≡ same (n .first) other
-      → Fetched b c (keysBy (n .first) other key (n .offer)) (nearBy p q e w x (b .totals) (b .settings))
+      → Fetched b c (keysBy (n .first) other key (n .offer)) (nearWith p q e w x (b .totals) (b .settings))
   fetched en ex ek ew eo ep eq ee =
       let m = modelOf b in
       let ke : key ≡ paperKey (n .paper) (offerBy m (n .offer) .row .offer .invoice) = ek ∙ ap (λ z. paperKey (n .paper) (z .row .offer .invoice)) ex in
@@ -66,10 +66,10 @@ module _ {b : Book} {c : Command} {n : Names} {key other : Named} {x : SeenDeal}
       let oe = eo ∙ ap (λ z. otherKey (n .second) (z .row .offer .lender) (w .row .originator)) ex ∙ ap (λ z. otherKey (n .second) (offerBy m (n .offer) .row .offer .lender) (z .row .originator)) we in
       record {
         keys = ap (λ z. keysBy (n .first) z key (n .offer)) oe ∙ ap (λ z. keysBy (n .first) (keysIn m n .second) z (n .offer)) ke ∙ ap (λ z. keysIn m z) en;
-        view = ap (λ z. nearBy z q e w x (b .totals) (b .settings)) ep ∙ ap (λ z. nearBy (accountBy m (n .first)) z e w x (b .totals) (b .settings)) eq
-            ∙ ap (λ z. nearBy (accountBy m (n .first)) (accountBy m other) z w x (b .totals) (b .settings)) ee
-            ∙ ap (λ z. nearBy (accountBy m (n .first)) (accountBy m other) (same (n .first) other) z x (b .totals) (b .settings)) ew
-            ∙ ap (λ z. nearBy (accountBy m (n .first)) (accountBy m other) (same (n .first) other) (invoiceBy m key) z (b .totals) (b .settings)) ex;
+        view = ap (λ z. nearWith z q e w x (b .totals) (b .settings)) ep ∙ ap (λ z. nearWith (accountBy m (n .first)) z e w x (b .totals) (b .settings)) eq
+            ∙ ap (λ z. nearWith (accountBy m (n .first)) (accountBy m other) z w x (b .totals) (b .settings)) ee
+            ∙ ap (λ z. nearWith (accountBy m (n .first)) (accountBy m other) (same (n .first) other) z x (b .totals) (b .settings)) ew
+            ∙ ap (λ z. nearWith (accountBy m (n .first)) (accountBy m other) (same (n .first) other) (invoiceBy m key) z (b .totals) (b .settings)) ex;
       }
 
 -- ── What the turn answers ─────────────────────────────────────────

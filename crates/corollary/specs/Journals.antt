@@ -6,7 +6,8 @@ use native.Mathlib.Omega.{arith}
 use lib.Dec.{eqb}
 use lib.ListN.{length, length-append}
 use borrow.Author.Tests.{le-leb}
-use Rattle.refusal.specs.Choice.{pick, pick-on}
+use Rattle.refusal.specs.Choice.{pick}
+use Rattle.refusal.specs.ChoiceLaws.{pick-on}
 use Rattle.command.specs.declared.Command.{Command}
 use Rattle.wire.specs.Field.{bytesOf, fieldOf, headOf}
 use Rattle.journal.specs.Answers.{Reading, found, refused, ended}

@@ -15,13 +15,13 @@ use Rattle.journal.specs.RoundTrip.{header-back}
 use Rattle.rules.specs.Model.{Model, freshModel}
 use Rattle.book.specs.Stored.{modelOf, stored, bookTest}
 use Rattle.soundness.specs.Sound.{fresh-model}
-use Rattle.soundness.specs.Played.{played}
+use Rattle.soundness.specs.Played.{answerTo, obeyed, played, answersOf}
 use Rattle.soundness.specs.Books.{played-sound, book-sound}
 use Rattle.history.specs.Run.{from}
 use Rattle.history.specs.Demand.{Meets}
 use Rattle.history.specs.Stored.{stored-meets}
 use Rattle.replay.specs.declared.Outcome.{Outcome}
-use Rattle.replay.specs.Replay.{answerTo, obeyed, atEnd, atHeader, Replayed, halted, heard, follow, replayBy, replayFrom, replayOf, outcomeOf}
+use Rattle.replay.specs.Replay.{atEnd, atHeader, Replayed, halted, heard, follow, replayBy, replayFrom, replayOf, outcomeOf}
 use Rattle.corollary.specs.Journals.{taking, commandsBy, commandsIn, recordsOf, journalOf, AllHeld, none-left, leads, enough-bytes, header-length, commands-of-journal}
 
 -- ── Any bytes ─────────────────────────────────────────────────────
@@ -58,15 +58,11 @@ module _ (s : List ℕ) (r : Outcome) (e : r ≡ outcomeOf 0 (replayOf s)) where
 
 -- ── The journal of commands ───────────────────────────────────────
 -- every command is answered, in order, to the end
-unfoldable pub answersTo : Model → List Command → List ℕ
-answersTo m [] = []
-answersTo m (c ∷ cs) = answerTo m c ∷ answersTo (obeyed m c) cs
-
 abbrev pub whole : Model → List Command → Replayed
-whole m cs = record { answers = answersTo m cs; model = played m cs; stop = atEnd }
+whole m cs = record { answers = answersOf m cs; model = played m cs; stop = atEnd }
 
 replays : (cs : List Command) (n : ℕ) (p : List ℕ) (m : Model) → AllHeld cs → length cs ≤ n → replayBy n (p ++ recordsOf cs) (length p) m ≡ whole m cs
-unfolding replayBy recordsOf AllHeld answersTo played
+unfolding replayBy recordsOf AllHeld answersOf played
 replays [] zero p m h k = refl
 replays [] (suc n) p m h k = rw (none-left p)
 replays (c ∷ cs) zero p m h k = absurd (omega arith)

@@ -4,7 +4,8 @@ ghost use mathlib.Core.Path.{_≡_};
 ghost use mathlib.Core.Bool.{false};
 ghost use Prim.Native.Nat.{_≤_};
 ghost use lib.ListN.{length};
-ghost use Rattle.replay.specs.Text.{listingOf, shownIn};
+ghost use Rattle.replay.specs.Text.{listingOf};
+ghost use Rattle.sheet.specs.Shown.{shownIn};
 
 fn too_long() {
     io::write_all(1, b"0 14\n");

@@ -17,21 +17,22 @@ use Rattle.command.specs.Shape as Shape
 use Rattle.rules.specs.Model.{Model, accountIn, offerIn, paperOf}
 use Rattle.rules.specs.Rules.{termsIn, settling, concluding, agreeing, counteredIn, ruled, shaped}
 use Rattle.rules.specs.Rules as Rules
-use Rattle.history.specs.History.{counters, accountEntry, entryFor, lenderOf, settles, Said, deedsOn, accepted}
+use Rattle.seats.specs.Seats.{bit}
+use Rattle.history.specs.History.{counters, accountEntry, entryFor, lenderSaid, settles, Said, deedsOn, accepted}
 use Rattle.rules.specs.Rooms.{unseen-account}
 use Rattle.history.specs.Passed.{Passes, passes-right, offer-there}
-use Rattle.history.specs.Ledger.{Ledger, Bargain, noted, acceptedOf}
+use Rattle.history.specs.Ledger.{Ledger, Bargain, noted, acceptedIn}
 use Rattle.history.specs.Agrees.{Agrees}
 use Rattle.history.specs.Settled.{noted-counter}
 use Rattle.history.specs.Reads.{Reads, at-offer}
 use Rattle.history.specs.Fair.{Fair}
-use Rattle.history.specs.Listed.{Listed, one}
+use Rattle.history.specs.Listed.{Listed}
 
-there : (b : Bool) {n : ℕ} → n ≡ one b → not b ≡ false → n ≡ 1
-there b e h = e ∙ ap one (not-false b h)
+there : (b : Bool) {n : ℕ} → n ≡ bit b → not b ≡ false → n ≡ 1
+there b e h = e ∙ ap bit (not-false b h)
 
-new : (b : Bool) {n : ℕ} → n ≡ one b → b ≡ false → n ≡ 0
-new b e h = e ∙ ap one h
+new : (b : Bool) {n : ℕ} → n ≡ bit b → b ≡ false → n ≡ 0
+new b e h = e ∙ ap bit h
 
 -- an account that is not opened yet had no accepted total before
 abbrev pub Late : Ledger → Said → Type 0
@@ -39,7 +40,7 @@ Late b r = (a : ℕ) → count a (r .accounts) ≡ 0 → b .purses .accepteds a 
 
 module _ {b l : Ledger} {r : Said} {m : Model} (A : Agrees l m) (R : Reads b l r) (L : Listed r m) (N : Late b r) where
   -- the book and the history know one lender
-  lender-is : (o : ℕ) → Rules.lenderOf m o ≡ lenderOf (deedsOn o (r .deeds))
+  lender-is : (o : ℕ) → Rules.lenderOf m o ≡ lenderSaid (deedsOn o (r .deeds))
   lender-is o = ap (λ (k : Bargain). k .lender) (A .bargains .shown o ∙ R .bargains o)
 
   listed-once : {n : ℕ} (a : ℕ) → a ≡ n → not (accountIn m a .here) ≡ false → count n (r .accounts) ≡ 1
@@ -65,10 +66,10 @@ module _ {b l : Ledger} {r : Said} {m : Model} (A : Agrees l m) (R : Reads b l r
   fair-account a (Shape.blacklists p c) = tt
 
   pub fair : (c : Shape.Shape) → Passes (shaped m c .checks) → Fair r (entryFor c)
-  unfolding ruled entryFor namesFor settles settling lenderOf
+  unfolding ruled entryFor namesFor settles settling lenderSaid
   fair (Shape.opens a) p =
       let z : count a (r .accounts) ≡ 0 = new (accountIn m a .here) (L .accounts a) (search) in
-      sym (ap (λ x. x +ℤ accepted r a) (N a z) ∙ +ℤ-idl (accepted r a)) ∙ sym (R .accepteds a) ∙ sym (A .purses .accepteds a) ∙ ap acceptedOf (unseen-account (find (m .accounts) a) (search))
+      sym (ap (λ x. x +ℤ accepted r a) (N a z) ∙ +ℤ-idl (accepted r a)) ∙ sym (R .accepteds a) ∙ sym (A .purses .accepteds a) ∙ ap acceptedIn (unseen-account (find (m .accounts) a) (search))
   fair (Shape.account a u) p = fair-account a u
   fair (Shape.registers a i x) p = tt
   fair (Shape.cancels a i) p = tt

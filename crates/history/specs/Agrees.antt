@@ -3,7 +3,7 @@ use Prim.Native.Nat.{ℕ, _≤_}
 use native.Mathlib.Omega.{arith}
 use mathlib.Core.Path.{_≡_, refl}
 use Rattle.table.specs.Tables.{Table, find}
-use Rattle.negotiation.specs.Rounds.{roundLimit}
+use Rattle.negotiation.specs.Rounds.{roundSlots}
 use Rattle.negotiation.specs.Whole.{Whole}
 use Rattle.account.specs.declared.Account.{Account}
 use Rattle.invoice.specs.declared.Invoice.{Invoice}
@@ -11,11 +11,11 @@ use Rattle.offer.specs.declared.Deal.{Deal}
 use Rattle.offer.specs.Seen.{seenDeal}
 use Rattle.rules.specs.Model.{Model}
 use Rattle.history.specs.Figures.{tally}
-use Rattle.history.specs.Ledger.{Bargain, Papers, Purses, Ledger, balanceOf, offeredOf, acceptedOf, originatorOf, shut, bargainOf, start}
+use Rattle.history.specs.Ledger.{Bargain, Papers, Purses, Ledger, balanceOf, offeredOf, acceptedIn, originatorIn, shut, bargainOf, start}
 
 -- every negotiation has all the rounds that its type says
 abbrev pub Rounds : Table Deal → Type 0
-Rounds t = (o : ℕ) → Whole roundLimit (seenDeal (find t o) .row .negotiation)
+Rounds t = (o : ℕ) → Whole roundSlots (seenDeal (find t o) .row .negotiation)
 
 pub record Bargained (b : ℕ → Bargain) (t : Table Deal) : Type 0 where
   pub shown : (o : ℕ) → bargainOf (find t o) ≡ b o
@@ -23,13 +23,13 @@ pub record Bargained (b : ℕ → Bargain) (t : Table Deal) : Type 0 where
 
 -- an invoice that was settled is not Pending
 pub record Papered (p : Papers) (t : Table Invoice) : Type 0 where
-  pub originators : (i : ℕ) → originatorOf (find t i) ≡ p .originators i
+  pub originators : (i : ℕ) → originatorIn (find t i) ≡ p .originators i
   pub once : (i : ℕ) → p .sales i ≤ shut (find t i)
 
 pub record Pursed (q : Purses) (t : Table Account) : Type 0 where
   pub balances : (a : ℕ) → balanceOf (find t a) ≡ q .balances a
   pub offereds : (a : ℕ) → offeredOf (find t a) ≡ q .offereds a
-  pub accepteds : (a : ℕ) → acceptedOf (find t a) ≡ q .accepteds a
+  pub accepteds : (a : ℕ) → acceptedIn (find t a) ≡ q .accepteds a
   pub together : tally balanceOf t ≡ q .together
 
 pub record Agrees (l : Ledger) (m : Model) : Type 0 where

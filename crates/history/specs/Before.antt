@@ -12,17 +12,17 @@ use Rattle.table.specs.Tables.{Found, absent, here, Table, find, row, keys, hit
 use Rattle.table.specs.Rising.{Above, Rises, above-rises}
 use Rattle.table.specs.Sums.{count}
 use Rattle.terms.specs.declared.Terms.{Terms}
-use Rattle.negotiation.specs.Rounds.{roundLimit, asked}
+use Rattle.negotiation.specs.Rounds.{roundSlots, asked}
 use Rattle.negotiation.specs.Latest.{none-asked}
 use Rattle.invoice.specs.declared.Invoice.{Invoice}
 use Rattle.offer.specs.declared.Deal.{Deal}
 use Rattle.rules.specs.Model.{Model}
-use Rattle.history.specs.History.{Deed, creates, Entry, opens, deposits, pays, registers, deals, nothing, Said, termsOf, counterOf, lenderOf, invoiceOf, deedsOn, add, sum, offered, accepted, received, amountsOf, amounts, balance, financed, together}
+use Rattle.seats.specs.Seats.{bit}
+use Rattle.history.specs.History.{Deed, creates, Entry, opens, deposits, pays, registers, deals, nothing, Said, termsSaid, counterOf, lenderSaid, invoiceOf, deedsOn, add, sum, offered, accepted, received, amountsOf, amounts, balance, financed, together}
 use Rattle.history.specs.Since.{counteredOn, deedsBefore, originatorsBefore, saidBefore}
-use Rattle.history.specs.Ledger.{Ledger, originatorOf, bargainOf, start}
+use Rattle.history.specs.Ledger.{Ledger, originatorIn, bargainOf, start}
 use Rattle.history.specs.Reads.{bargainIn, Reads}
 use Rattle.history.specs.Fair.{Sums}
-use Rattle.history.specs.Listed.{one}
 
 -- ── Offers and originators ────────────────────────────────────────
 -- on o there was a create, and the counter k after it
@@ -31,7 +31,7 @@ module _ (i o a j : ℕ) (t : Terms) (rest : List (ℕ × Deed)) where
   deedsThen k = deedsOn o (counteredOn i k ((i, creates a j t) ∷ rest))
 
   then-said : (k : Found Terms) → eqb i o ≡ true → record { lender = a; invoice = j; terms = t; counter = k } ≡ bargainIn (deedsThen k)
-  unfolding counteredOn deedsOn lenderOf invoiceOf termsOf counterOf pick
+  unfolding counteredOn deedsOn lenderSaid invoiceOf termsSaid counterOf pick
   then-said absent e = rw e
   then-said (here x) e = rw e
 
@@ -41,20 +41,20 @@ module _ (i o a j : ℕ) (t : Terms) (rest : List (ℕ × Deed)) where
   elsewhere (here x) e = rw e
 
 pub bargains-before : (t : Table Deal) (o : ℕ) → bargainOf (find t o) ≡ bargainIn (deedsOn o (deedsBefore t))
-unfolding find deedsBefore deedsOn termsOf counterOf lenderOf invoiceOf
-bargains-before [] o = ap (λ z. record { lender = 0; invoice = 0; terms = record { amount = pos 0; rate = 0; duration = 0 }; counter = z }) (none-asked roundLimit)
+unfolding find deedsBefore deedsOn termsSaid counterOf lenderSaid invoiceOf
+bargains-before [] o = ap (λ z. record { lender = 0; invoice = 0; terms = record { amount = pos 0; rate = 0; duration = 0 }; counter = z }) (none-asked roundSlots)
 bargains-before (e ∷ t) o = go (bargains-before t o) (decide (eqb (e .0) o))
   where
-    go : bargainOf (find t o) ≡ bargainIn (deedsOn o (deedsBefore t)) → Is (eqb (e .0) o) → bargainOf (cond (eqb (e .0) o) (here (e .1)) (find t o)) ≡ bargainIn (deedsOn o (counteredOn (e .0) (asked roundLimit (e .1 .negotiation)) ((e .0, creates (e .1 .offer .lender) (e .1 .offer .invoice) (e .1 .offer .terms)) ∷ deedsBefore t)))
-    go h (is-true q) = ap (λ g. bargainOf (cond g (here (e .1)) (find t o))) q ∙ then-said (e .0) o (e .1 .offer .lender) (e .1 .offer .invoice) (e .1 .offer .terms) (deedsBefore t) (asked roundLimit (e .1 .negotiation)) q
-    go h (is-false q) = ap (λ g. bargainOf (cond g (here (e .1)) (find t o))) q ∙ h ∙ elsewhere (e .0) o (e .1 .offer .lender) (e .1 .offer .invoice) (e .1 .offer .terms) (deedsBefore t) (asked roundLimit (e .1 .negotiation)) q
+    go : bargainOf (find t o) ≡ bargainIn (deedsOn o (deedsBefore t)) → Is (eqb (e .0) o) → bargainOf (cond (eqb (e .0) o) (here (e .1)) (find t o)) ≡ bargainIn (deedsOn o (counteredOn (e .0) (asked roundSlots (e .1 .negotiation)) ((e .0, creates (e .1 .offer .lender) (e .1 .offer .invoice) (e .1 .offer .terms)) ∷ deedsBefore t)))
+    go h (is-true q) = ap (λ g. bargainOf (cond g (here (e .1)) (find t o))) q ∙ then-said (e .0) o (e .1 .offer .lender) (e .1 .offer .invoice) (e .1 .offer .terms) (deedsBefore t) (asked roundSlots (e .1 .negotiation)) q
+    go h (is-false q) = ap (λ g. bargainOf (cond g (here (e .1)) (find t o))) q ∙ h ∙ elsewhere (e .0) o (e .1 .offer .lender) (e .1 .offer .invoice) (e .1 .offer .terms) (deedsBefore t) (asked roundSlots (e .1 .negotiation)) q
 
-pub originators-before : (t : Table Invoice) (i : ℕ) → originatorOf (find t i) ≡ row 0 (find (originatorsBefore t) i)
+pub originators-before : (t : Table Invoice) (i : ℕ) → originatorIn (find t i) ≡ row 0 (find (originatorsBefore t) i)
 unfolding find originatorsBefore row
 originators-before [] i = refl
 originators-before (e ∷ t) i = go (originators-before t i) (eqb (e .0) i)
   where
-    go : originatorOf (find t i) ≡ row 0 (find (originatorsBefore t) i) → (g : Bool) → originatorOf (cond g (here (e .1)) (find t i)) ≡ row 0 (cond g (here (e .1 .originator)) (find (originatorsBefore t) i))
+    go : originatorIn (find t i) ≡ row 0 (find (originatorsBefore t) i) → (g : Bool) → originatorIn (cond g (here (e .1)) (find t i)) ≡ row 0 (cond g (here (e .1 .originator)) (find (originatorsBefore t) i))
     go h true = refl
     go h false = h
 
@@ -115,11 +115,11 @@ unlisted p i (x ∷ l) r h = go (unlisted x i l (r .1) (omega (arith, r .0))) (d
     go k (is-false e) = simp e (omega (arith, k))
 
 module _ {A : Type 0} (v : Found A → Bool) (yes : (r : A) → v (here r) ≡ true) (none : v absent ≡ false) where
-  pub keys-once : (t : Table A) → Rises (keys t) → (i : ℕ) → count i (keys t) ≡ one (v (find t i))
+  pub keys-once : (t : Table A) → Rises (keys t) → (i : ℕ) → count i (keys t) ≡ bit (v (find t i))
   unfolding keys count hit find
-  keys-once [] r i = sym (ap one none)
+  keys-once [] r i = sym (ap bit none)
   keys-once (e ∷ t) r i = go (keys-once t (above-rises (e .0) (keys t) r) i) (decide (eqb (e .0) i))
     where
-      go : count i (keys t) ≡ one (v (find t i)) → Is (eqb (e .0) i) → cond (eqb (e .0) i) 1 0 + count i (keys t) ≡ one (v (cond (eqb (e .0) i) (here (e .1)) (find t i)))
-      go h (is-true q) = simp q (omega (arith, unlisted (e .0) i (keys t) r (omega (arith, eqb-true (e .0) i q)), ap one (yes (e .1))))
+      go : count i (keys t) ≡ bit (v (find t i)) → Is (eqb (e .0) i) → cond (eqb (e .0) i) 1 0 + count i (keys t) ≡ bit (v (cond (eqb (e .0) i) (here (e .1)) (find t i)))
+      go h (is-true q) = simp q (omega (arith, unlisted (e .0) i (keys t) r (omega (arith, eqb-true (e .0) i q)), ap bit (yes (e .1))))
       go h (is-false q) = simp q (omega (arith, h))

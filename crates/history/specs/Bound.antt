@@ -16,7 +16,7 @@ use Rattle.command.specs.declared.Command.the-variants.{AmendOffer, CounterOffe
 use Rattle.rules.specs.Model.{Model, freshModel, offerIn, paperOf}
 use Rattle.command.specs.Shape.{shapeOf}
 use Rattle.rules.specs.Rules.{ruled, commanded}
-use Rattle.history.specs.History.{Deed, creates, amends, counters, accepts, Entry, opens, deposits, pays, registers, deals, nothing, entryOf, termsOf, counterOf, lenderOf, invoiceOf, settles, Settlement, Said, grow, deedsOn, settlementOf, settledBy, add, readAfter, read}
+use Rattle.history.specs.History.{Deed, creates, amends, counters, accepts, Entry, opens, deposits, pays, registers, deals, nothing, entryOf, termsSaid, counterOf, lenderSaid, invoiceOf, settles, Settlement, Said, grow, deedsOn, settlementOf, settledBy, add, readAfter, read}
 use Rattle.history.specs.Passed.{Passes, all-pass}
 use Rattle.history.specs.Ledger.{Bargain, Ledger, noted, post, ledger, bargainOf, shut}
 use Rattle.history.specs.Papers.{shut-most}
@@ -35,24 +35,24 @@ Round accepts = ⊥
 
 -- what was done on the offer up to the deed that settles it: its terms are the lender's latest; by a round, the originator's latest too
 pub record Bound (l : List Deed) (d : Deed) (s : Settlement) : Type 0 where
-  pub lender-put : s .terms ≡ termsOf l
+  pub lender-put : s .terms ≡ termsSaid l
   pub originator-put : Round d → counterOf l ≡ here (s .terms)
 
-agreed : (d : Deed) (l : List Deed) → settles (termsOf l) (counterOf l) d ≡ true → Round d → counterOf (d ∷ l) ≡ here (termsOf (d ∷ l))
-unfolding settles termsOf counterOf
+agreed : (d : Deed) (l : List Deed) → settles (termsSaid l) (counterOf l) d ≡ true → Round d → counterOf (d ∷ l) ≡ here (termsSaid (d ∷ l))
+unfolding settles termsSaid counterOf
 agreed (creates a i t) l e k = absurd k
 agreed (amends t) l e k = matches-is t (counterOf l) e
-agreed (counters t) l e k = ap here (sym (same-terms-is (termsOf l) t e))
+agreed (counters t) l e k = ap here (sym (same-terms-is (termsSaid l) t e))
 agreed accepts l e k = absurd k
 
 pub bound : (r : Said) (l : List Deed) (d : Deed) (s : Settlement) → settledBy r l d ≡ here s → Bound (d ∷ l) d s
 unfolding settledBy pick
-bound r l d s e = go (settles (termsOf l) (counterOf l) d) refl e
+bound r l d s e = go (settles (termsSaid l) (counterOf l) d) refl e
   where
-    go : (g : Bool) → settles (termsOf l) (counterOf l) d ≡ g → pick g (here (settlementOf r (d ∷ l))) absent ≡ here s → Bound (d ∷ l) d s
+    go : (g : Bool) → settles (termsSaid l) (counterOf l) d ≡ g → pick g (here (settlementOf r (d ∷ l))) absent ≡ here s → Bound (d ∷ l) d s
     go true h e =
         let q : settlementOf r (d ∷ l) ≡ s = cc in
-        let x : termsOf (d ∷ l) ≡ s .terms = ap (λ (z : Settlement). z .terms) q in
+        let x : termsSaid (d ∷ l) ≡ s .terms = ap (λ (z : Settlement). z .terms) q in
         record { lender-put = sym x; originator-put = λ k. agreed d l h k ∙ ap here x }
     go false h e = let z : _≡_ {A = ℕ} 0 1 = cc in absurd (omega arith)
 
@@ -68,7 +68,7 @@ module _ (cs : List Command) (now a o : ℕ) (t : Terms) (n : ℕ) where
   abbrev told-so-far : Said
   told-so-far = read (from freshModel cs .history)
 
-  pub amended-by-lender : answerOf after (AmendOffer now a o t n) ≡ 0 → lenderOf (deedsOn o (told-so-far .deeds)) ≡ a
+  pub amended-by-lender : answerOf after (AmendOffer now a o t n) ≡ 0 → lenderSaid (deedsOn o (told-so-far .deeds)) ≡ a
   unfolding shapeOf ruled
   amended-by-lender e =
       let p : Passes (commanded after (AmendOffer now a o t n) .checks) = all-pass (commanded after (AmendOffer now a o t n) .checks) e in

@@ -6,7 +6,7 @@ use mathlib.Core.List.{List, [], _∷_}
 use lib.IntN.{pos, _+ℤ_, +ℤ-idl}
 use Rattle.table.specs.Tables.{Found, absent, here, Table, find, keys}
 use Rattle.table.specs.Sound.{All, all-found}
-use Rattle.negotiation.specs.Rounds.{roundLimit}
+use Rattle.negotiation.specs.Rounds.{roundSlots}
 use Rattle.negotiation.specs.Whole.{Whole}
 use Rattle.negotiation.specs.Laws.{none-whole}
 use Rattle.offer.specs.Seen.{seenDeal}
@@ -18,15 +18,16 @@ use Rattle.rules.specs.Model.{Model, freshModel, accountIn}
 use Rattle.rules.specs.Rules.{commanded}
 use Rattle.command.specs.Shape.{shapeOf}
 use Rattle.soundness.specs.Sound.{ModelSound, fresh-model}
+use Rattle.seats.specs.Seats.{bit}
 use Rattle.history.specs.History.{entryOf, Said, silence, readAfter, read, sum, offered, accepted, balance, financed, together}
 use Rattle.history.specs.Since.{deedsBefore, originatorsBefore, saidBefore, readSince, MeetsSince}
 use Rattle.history.specs.Passed.{Passes}
-use Rattle.history.specs.Ledger.{Ledger, acceptedOf, start, ledger}
+use Rattle.history.specs.Ledger.{Ledger, acceptedIn, start, ledger}
 use Rattle.history.specs.Agrees.{Agrees, Rounds, begins}
 use Rattle.history.specs.Keeps.{keeps}
 use Rattle.history.specs.Reads.{Reads, reads-post}
 use Rattle.history.specs.Fair.{Sums, sums-post}
-use Rattle.history.specs.Listed.{Listed, one, accountHere, offerHere, listed}
+use Rattle.history.specs.Listed.{Listed, accountHere, offerHere, listed-after}
 use Rattle.history.specs.Accepted.{Late, fair}
 use Rattle.history.specs.Before.{base, reads-before, sums-before, keys-once, still-closed}
 use Rattle.history.specs.Run.{from, kept-run}
@@ -49,18 +50,18 @@ holds-next s h m c H p = record {
   agrees = keeps (H .agrees) (shapeOf c) p;
   reads = reads-post (H .reads) (entryOf c);
   sums = sums-post (H .reads) (H .sums) (entryOf c) (fair (H .agrees) (H .reads) (H .lists) (H .late) (shapeOf c) p);
-  lists = listed (H .lists) (shapeOf c) p;
+  lists = listed-after (H .lists) (shapeOf c) p;
   late = λ a z. H .late a (still-closed (entryOf c) (readSince s h) a z);
 }
 
 whole-rounds : (t : Table Deal) → All DealKept t → Rounds t
 whole-rounds t k o = go (find t o) refl
   where
-    go : (f : Found Deal) → find t o ≡ f → Whole roundLimit (seenDeal f .row .negotiation)
+    go : (f : Found Deal) → find t o ≡ f → Whole roundSlots (seenDeal f .row .negotiation)
     go absent e = none-whole
     go (here d) e = all-found DealKept t o d k e .whole
 
-unopened : (f : Found Account) → one (accountHere f) ≡ 0 → acceptedOf f ≡ pos 0
+unopened : (f : Found Account) → bit (accountHere f) ≡ 0 → acceptedIn f ≡ pos 0
 unopened absent e = refl
 unopened (here r) e = absurd (omega (arith, e))
 

@@ -6,10 +6,11 @@ use mathlib.Core.List.{List, _∷_}
 use lib.Dec.{eqb}
 use lib.IntN.{ℤ, pos, _+ℤ_, _-ℤ_, +ℤ-assoc, +ℤ-comm, +ℤ-idr, -ℤ-+ℤ-cancel}
 use borrow.Author.Tests.{eq-eqb, eqb-true}
-use Rattle.refusal.specs.Choice.{pick, pick-on, pick-off}
+use Rattle.refusal.specs.Choice.{pick}
+use Rattle.refusal.specs.ChoiceLaws.{pick-on, pick-off}
 use Rattle.table.specs.Tables.{absent, here}
 use Rattle.table.specs.Sums.{count}
-use Rattle.history.specs.History.{Deed, creates, amends, counters, accepts, Entry, opens, deposits, pays, registers, deals, nothing, termsOf, counterOf, lenderOf, settles, Said, grow, deedsOn, settlementOf, dealt, createdBy, add, sum, share, offered, accepted, financed}
+use Rattle.history.specs.History.{Deed, creates, amends, counters, accepts, Entry, opens, deposits, pays, registers, deals, nothing, termsSaid, counterOf, lenderSaid, settles, Said, grow, deedsOn, settlementOf, dealt, createdBy, add, sum, share, offered, accepted, financed}
 use Rattle.history.specs.Figures.{share-on, share-off, sum-none, sum-once}
 use Rattle.history.specs.Shares.{share-moves, sum-same}
 use Rattle.history.specs.Ledger.{Bargain, Ledger, raised, noted, sold, post}
@@ -23,7 +24,7 @@ Known r o accepts = Unit {0}
 
 pub record FairDeed (r : Said) (o : ℕ) (d : Deed) : Type 0 where
   pub known : Known r o d
-  pub banked : let l = deedsOn o (r .deeds) in settles (termsOf l) (counterOf l) d ≡ true → count (lenderOf (d ∷ l)) (r .accounts) ≡ 1
+  pub banked : let l = deedsOn o (r .deeds) in settles (termsSaid l) (counterOf l) d ≡ true → count (lenderSaid (d ∷ l)) (r .accounts) ≡ 1
 
 abbrev pub Fair : Said → Entry → Type 0
 Fair r (opens a) = accepted r a ≡ pos 0
@@ -64,12 +65,12 @@ module _ (w : List Deed → ℤ) (o : ℕ) (d : Deed) (all : List (ℕ × Deed))
 
 -- what an offer counts for
 abbrev present : ℕ → List Deed → ℤ
-present a l = share (lenderOf l) a (termsOf l .amount)
+present a l = share (lenderSaid l) a (termsSaid l .amount)
 
 module _ {b l : Ledger} {r : Said} (R : Reads b l r) (S : Sums b l r) where
   raised-is : (o : ℕ) (d : Deed) → Known r o d → (a : ℕ)
       → raised d (l .bargains o) (l .purses .offereds) a ≡ b .purses .offereds a +ℤ sum (λ j. present a (deedsOn j ((o, d) ∷ r .deeds))) (grow (createdBy o d) (r .offers))
-  unfolding raised createdBy grow offered sum lenderOf termsOf
+  unfolding raised createdBy grow offered sum lenderSaid termsSaid
   raised-is o (creates c i t) k a =
       let d : Deed = creates c i t in
       let before : List Deed = deedsOn o (r .deeds) in
@@ -84,11 +85,11 @@ module _ {b l : Ledger} {r : Said} (R : Reads b l r) (S : Sums b l r) where
       let before : List Deed = deedsOn o (r .deeds) in
       let f : ℕ → ℤ = λ j. present a (deedsOn j (r .deeds)) in
       let g : ℕ → ℤ = λ j. present a (deedsOn j ((o, amends t) ∷ r .deeds)) in
-      let x : ℤ = share (lenderOf before) a (t .amount -ℤ termsOf before .amount) in
+      let x : ℤ = share (lenderSaid before) a (t .amount -ℤ termsSaid before .amount) in
       ap (λ z. z +ℤ share (l .bargains o .lender) a (t .amount -ℤ l .bargains o .terms .amount)) (S .offereds a)
       ∙ ap (λ (z : Bargain). b .purses .offereds a +ℤ offered r a +ℤ share (z .lender) a (t .amount -ℤ z .terms .amount)) (R .bargains o)
       ∙ +ℤ-assoc (b .purses .offereds a) (offered r a) x
-      ∙ ap (λ z. b .purses .offereds a +ℤ z) (sym (sum-once f g o x (deed-moves (present a) o (amends t) (r .deeds) x (share-moves (lenderOf before) a (termsOf before .amount) (t .amount))) (r .offers) k))
+      ∙ ap (λ z. b .purses .offereds a +ℤ z) (sym (sum-once f g o x (deed-moves (present a) o (amends t) (r .deeds) x (share-moves (lenderSaid before) a (termsSaid before .amount) (t .amount))) (r .offers) k))
   raised-is o (counters t) k a =
       S .offereds a
       ∙ ap (λ z. b .purses .offereds a +ℤ z) (sym (sum-same (λ j. present a (deedsOn j (r .deeds))) (λ j. present a (deedsOn j ((o, counters t) ∷ r .deeds))) (deed-stays (present a) o (counters t) (r .deeds) (λ z. refl)) (r .offers)))
@@ -96,7 +97,7 @@ module _ {b l : Ledger} {r : Said} (R : Reads b l r) (S : Sums b l r) where
       S .offereds a
       ∙ ap (λ z. b .purses .offereds a +ℤ z) (sym (sum-same (λ j. present a (deedsOn j (r .deeds))) (λ j. present a (deedsOn j ((o, accepts) ∷ r .deeds))) (deed-stays (present a) o accepts (r .deeds) (λ z. refl)) (r .offers)))
 
-  settled : (o : ℕ) (d : Deed) → FairDeed r o d → let l₁ = deedsOn o (r .deeds) in settles (termsOf l₁) (counterOf l₁) d ≡ true → Sums b (sold o (noted o d l)) (dealt o d (here (settlementOf r (d ∷ l₁))) r)
+  settled : (o : ℕ) (d : Deed) → FairDeed r o d → let l₁ = deedsOn o (r .deeds) in settles (termsSaid l₁) (counterOf l₁) d ≡ true → Sums b (sold o (noted o d l)) (dealt o d (here (settlementOf r (d ∷ l₁))) r)
   unfolding offered accepted financed sum grow
   settled o d F e =
       let k : Bargain = bargainIn (d ∷ deedsOn o (r .deeds)) in

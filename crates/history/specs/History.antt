@@ -51,12 +51,12 @@ entryOf c = entryFor (Shape.shapeOf c)
 
 -- ── An offer's terms are those of its last create or amend ────────
 -- of what was done on the offer, the latest first
-unfoldable pub termsOf : List Deed → Terms
-termsOf [] = record { amount = pos 0; rate = 0; duration = 0 }
-termsOf (creates a i t ∷ l) = t
-termsOf (amends t ∷ l) = t
-termsOf (counters t ∷ l) = termsOf l
-termsOf (accepts ∷ l) = termsOf l
+unfoldable pub termsSaid : List Deed → Terms
+termsSaid [] = record { amount = pos 0; rate = 0; duration = 0 }
+termsSaid (creates a i t ∷ l) = t
+termsSaid (amends t ∷ l) = t
+termsSaid (counters t ∷ l) = termsSaid l
+termsSaid (accepts ∷ l) = termsSaid l
 
 -- the latest counter on it
 unfoldable pub counterOf : List Deed → Found Terms
@@ -67,12 +67,12 @@ counterOf (counters t ∷ l) = here t
 counterOf (accepts ∷ l) = counterOf l
 
 -- who created it, and on which invoice
-unfoldable pub lenderOf : List Deed → ℕ
-lenderOf [] = 0
-lenderOf (creates a i t ∷ l) = a
-lenderOf (amends t ∷ l) = lenderOf l
-lenderOf (counters t ∷ l) = lenderOf l
-lenderOf (accepts ∷ l) = lenderOf l
+unfoldable pub lenderSaid : List Deed → ℕ
+lenderSaid [] = 0
+lenderSaid (creates a i t ∷ l) = a
+lenderSaid (amends t ∷ l) = lenderSaid l
+lenderSaid (counters t ∷ l) = lenderSaid l
+lenderSaid (accepts ∷ l) = lenderSaid l
 
 unfoldable pub invoiceOf : List Deed → ℕ
 invoiceOf [] = 0
@@ -116,10 +116,10 @@ deedsOn o [] = []
 deedsOn o (e ∷ l) = pick (eqb (e .0) o) (e .1 ∷ deedsOn o l) (deedsOn o l)
 
 abbrev pub settlementOf : Said → List Deed → Settlement
-settlementOf r l = record { lender = lenderOf l; originator = row 0 (find (r .originators) (invoiceOf l)); invoice = invoiceOf l; terms = termsOf l }
+settlementOf r l = record { lender = lenderSaid l; originator = row 0 (find (r .originators) (invoiceOf l)); invoice = invoiceOf l; terms = termsSaid l }
 
 unfoldable pub settledBy : Said → List Deed → Deed → Found Settlement
-settledBy r l d = pick (settles (termsOf l) (counterOf l) d) (here (settlementOf r (d ∷ l))) absent
+settledBy r l d = pick (settles (termsSaid l) (counterOf l) d) (here (settlementOf r (d ∷ l))) absent
 
 unfoldable pub createdBy : ℕ → Deed → Found ℕ
 createdBy o (creates a i t) = here o
@@ -162,7 +162,7 @@ share a b x = pick (eqb a b) x (pos 0)
 
 -- Offered(L): present amounts of all offers L created
 unfoldable pub offered : Said → ℕ → ℤ
-offered r a = sum (λ o. let l = deedsOn o (r .deeds) in share (lenderOf l) a (termsOf l .amount)) (r .offers)
+offered r a = sum (λ o. let l = deedsOn o (r .deeds) in share (lenderSaid l) a (termsSaid l .amount)) (r .offers)
 
 -- Accepted(L): amounts at which L's offers settled
 unfoldable pub accepted : Said → ℕ → ℤ

@@ -10,7 +10,7 @@ use Rattle.refusal.specs.Choice.{pick}
 use Rattle.table.specs.Tables.{here, find}
 use Rattle.terms.specs.Terms.{sameTerms}
 use Rattle.terms.specs.declared.Terms.{Terms}
-use Rattle.negotiation.specs.Rounds.{roundLimit, matches, agreesOf}
+use Rattle.negotiation.specs.Rounds.{roundSlots, matches, agreesOf}
 use Rattle.negotiation.specs.Whole.{Whole}
 use Rattle.account.specs.declared.Account.{Account}
 use Rattle.account.specs.Account.{offers}
@@ -39,7 +39,7 @@ module _ {l : Ledger} {m : Model} (A : Agrees l m) where
   on-account : (a : ℕ) (new : Account) → Like (accountIn m a .row) new → Agrees l (withAccounts (put (m .accounts) a new) m)
   on-account a new h = record { bargains = A .bargains; papers = A .papers; purses = Purses.kept (A .purses) a new h; financed = A .financed }
 
-  on-offer : (o : ℕ) (new : Deal) → bargainOf (here new) ≡ bargainOf (find (m .offers) o) → Whole roundLimit (new .negotiation) → Agrees l (withOffers (put (m .offers) o new) m)
+  on-offer : (o : ℕ) (new : Deal) → bargainOf (here new) ≡ bargainOf (find (m .offers) o) → Whole roundSlots (new .negotiation) → Agrees l (withOffers (put (m .offers) o new) m)
   on-offer o new h w = record { bargains = Bargains.kept (A .bargains) o new h w; papers = A .papers; purses = A .purses; financed = A .financed }
 
   elsewhere : {n : Model} → n .offers ≡ m .offers → n .invoices ≡ m .invoices → n .accounts ≡ m .accounts → n .totals .financed ≡ m .totals .financed → Agrees l n
@@ -48,7 +48,7 @@ module _ {l : Ledger} {m : Model} (A : Agrees l m) where
   keeps-amend : (now a o : ℕ) (t : Terms) (n : ℕ) → Passes (shaped m (Shape.amends now a o t n) .checks) → Agrees (post (deals o (amends t)) l) (shaped m (Shape.amends now a o t n) .done)
   unfolding ruled post namesFor settles agreesOf
   keeps-amend now a o t n p =
-      let g : Bool = agreesOf roundLimit (offerIn m o .row .negotiation) t in
+      let g : Bool = agreesOf roundSlots (offerIn m o .row .negotiation) t in
       let e : lenderOf m o ≡ a = eqb-true (lenderOf m o) a (not-false (eqb (lenderOf m o) a) (search)) in
       let B : Agrees (noted o (amends t) l) (amendedIn m now a o t) =
       noted-amend A now o t (offer-there (find (m .offers) o) (search)) (search) a (account-there (find (m .accounts) a) (search)) (sym e) in

@@ -6,7 +6,7 @@ use lib.IntN.{ℤ, _+ℤ_, _-ℤ_, negℤ}
 use Rattle.refusal.specs.Choice.{pick}
 use Rattle.table.specs.Tables.{Found, absent, here, find, hit}
 use Rattle.terms.specs.declared.Terms.{Terms}
-use Rattle.negotiation.specs.Rounds.{roundLimit, asked}
+use Rattle.negotiation.specs.Rounds.{roundSlots, asked}
 use Rattle.account.specs.declared.Account.{Account}
 use Rattle.invoice.specs.declared.Invoice.{Invoice}
 use Rattle.offer.specs.declared.Deal.{Deal}
@@ -124,11 +124,11 @@ balanceOf s = seenAccount s .row .balance
 abbrev pub offeredOf : Found Account → ℤ
 offeredOf s = seenAccount s .row .offered
 
-abbrev pub acceptedOf : Found Account → ℤ
-acceptedOf s = seenAccount s .row .accepted
+abbrev pub acceptedIn : Found Account → ℤ
+acceptedIn s = seenAccount s .row .accepted
 
-abbrev pub originatorOf : Found Invoice → ℕ
-originatorOf s = seenInvoice s .row .originator
+abbrev pub originatorIn : Found Invoice → ℕ
+originatorIn s = seenInvoice s .row .originator
 
 unfoldable pub shut : Found Invoice → ℕ
 shut s = pick (eqb (seenInvoice s .row .status) 0) 0 1
@@ -138,17 +138,17 @@ bargainOf s = record {
   lender = seenDeal s .row .offer .lender;
   invoice = seenDeal s .row .offer .invoice;
   terms = seenDeal s .row .offer .terms;
-  counter = asked roundLimit (seenDeal s .row .negotiation);
+  counter = asked roundSlots (seenDeal s .row .negotiation);
 }
 
 abbrev pub start : Model → Ledger
 start m = record {
   bargains = λ o. bargainOf (find (m .offers) o);
-  papers = record { originators = λ i. originatorOf (find (m .invoices) i); sales = λ i. shut (find (m .invoices) i) };
+  papers = record { originators = λ i. originatorIn (find (m .invoices) i); sales = λ i. shut (find (m .invoices) i) };
   purses = record {
     balances = λ a. balanceOf (find (m .accounts) a);
     offereds = λ a. offeredOf (find (m .accounts) a);
-    accepteds = λ a. acceptedOf (find (m .accounts) a);
+    accepteds = λ a. acceptedIn (find (m .accounts) a);
     together = tally balanceOf (m .accounts);
   };
   financed = m .totals .financed;

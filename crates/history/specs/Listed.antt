@@ -11,7 +11,7 @@ use Rattle.refusal.specs.Choice.{pick}
 use Rattle.table.specs.Tables.{Found, absent, here, Table, find, insert, fmap, hit, Is, is-true, is-false, decide}
 use Rattle.table.specs.TableLaws.{find-adjust, find-insert, length-adjust, length-insert}
 use Rattle.table.specs.Sums.{count}
-use Rattle.negotiation.specs.Rounds.{roundLimit, agreesOf}
+use Rattle.negotiation.specs.Rounds.{roundSlots, agreesOf}
 use Rattle.terms.specs.Terms.{sameTerms}
 use Rattle.account.specs.declared.Account.{Account}
 use Rattle.account.specs.Account.{noAccount, offers}
@@ -22,6 +22,7 @@ use Rattle.offer.specs.Seen.{seenDeal}
 use Rattle.command.specs.Shape as Shape
 use Rattle.rules.specs.Model.{Model, accountIn, offerIn, withAccounts, withOffers}
 use Rattle.rules.specs.Rules.{termsIn, settling, concluding, agreeing, amendedIn, counteredIn, ruled, shaped}
+use Rattle.seats.specs.Seats.{bit}
 use Rattle.history.specs.History.{Said, grow, createdBy, accountEntry, entryFor, add}
 use Rattle.history.specs.Figures.{put}
 use Rattle.rules.specs.Rooms.{unseen-account, unseen-deal}
@@ -33,13 +34,9 @@ accountHere s = seenAccount s .here
 abbrev pub offerHere : Found Deal → Bool
 offerHere s = seenDeal s .here
 
-abbrev pub one : Bool → ℕ
-one true = 1
-one false = 0
-
 pub record Listed (r : Said) (m : Model) : Type 0 where
-  pub accounts : (a : ℕ) → count a (r .accounts) ≡ one (accountHere (find (m .accounts) a))
-  pub offers : (o : ℕ) → count o (r .offers) ≡ one (offerHere (find (m .offers) o))
+  pub accounts : (a : ℕ) → count a (r .accounts) ≡ bit (accountHere (find (m .accounts) a))
+  pub offers : (o : ℕ) → count o (r .offers) ≡ bit (offerHere (find (m .offers) o))
   pub room : length (m .accounts) ≤ 64
 
 -- a test that every row passes and no absent one, and the rows that pass it
@@ -53,14 +50,14 @@ module _ {A : Type 0} (v : Found A → Bool) (yes : (r : A) → v (here r) ≡ t
       go true (here r) = yes new ∙ sym (yes r)
       go false s = refl
 
-  here-insert : (r : A) (l : List ℕ) → find t i ≡ absent → ((j : ℕ) → count j l ≡ one (v (find t j))) → (j : ℕ) → count j (i ∷ l) ≡ one (v (find (insert t i r) j))
+  here-insert : (r : A) (l : List ℕ) → find t i ≡ absent → ((j : ℕ) → count j l ≡ bit (v (find t j))) → (j : ℕ) → count j (i ∷ l) ≡ bit (v (find (insert t i r) j))
   unfolding count hit
   here-insert r l n h j = rw (find-insert t i j r n) (go (decide (eqb i j)))
     where
-      go : Is (eqb i j) → cond (eqb i j) 1 0 + count j l ≡ one (v (cond (eqb i j) (here r) (find t j)))
+      go : Is (eqb i j) → cond (eqb i j) 1 0 + count j l ≡ bit (v (cond (eqb i j) (here r) (find t j)))
       go (is-true e) =
-          let q : one (v (find t j)) ≡ 0 = ap (λ z. one (v z)) (ap (find t) (sym (eqb-true i j e)) ∙ n) ∙ ap one none in
-          let y : one (v (here r)) ≡ 1 = ap one (yes r) in
+          let q : bit (v (find t j)) ≡ 0 = ap (λ z. bit (v z)) (ap (find t) (sym (eqb-true i j e)) ∙ n) ∙ ap bit none in
+          let y : bit (v (here r)) ≡ 1 = ap bit (yes r) in
           simp e (omega (arith, h j))
       go (is-false e) = simp e (omega (arith, h j))
 
@@ -95,8 +92,8 @@ same-agreeing false now o m = aside refl refl
 module _ {r : Said} {m : Model} (L : Listed r m) where
   still : {s : Said} {n : Model} → s .accounts ≡ r .accounts → s .offers ≡ r .offers → Same m n → Listed s n
   still {s} {n} p q f = record {
-    accounts = λ j. ap (count j) p ∙ L .accounts j ∙ ap one (sym (f .accounts j));
-    offers = λ j. ap (count j) q ∙ L .offers j ∙ ap one (sym (f .offers j));
+    accounts = λ j. ap (count j) p ∙ L .accounts j ∙ ap bit (sym (f .accounts j));
+    offers = λ j. ap (count j) q ∙ L .offers j ∙ ap bit (sym (f .offers j));
     room = omega (arith, f .size, L .room);
   }
 
@@ -108,26 +105,26 @@ module _ {r : Said} {m : Model} (L : Listed r m) where
   listed-account a (Shape.lenderRepaid b f) = still refl refl (by-account a _)
   listed-account a (Shape.blacklists p c) = still refl refl (by-account a _)
 
-  pub listed : (c : Shape.Shape) → Passes (shaped m c .checks) → Listed (add (entryFor c) r) (shaped m c .done)
+  pub listed-after : (c : Shape.Shape) → Passes (shaped m c .checks) → Listed (add (entryFor c) r) (shaped m c .done)
   unfolding ruled entryFor add grow createdBy
-  listed (Shape.opens a) p = record {
+  listed-after (Shape.opens a) p = record {
     accounts = here-insert accountHere (λ r. refl) refl (m .accounts) a noAccount (r .accounts) (unseen-account (find (m .accounts) a) (search)) (L .accounts);
     offers = L .offers;
     room = omega (arith, length-insert (m .accounts) a noAccount, leb-false 64 (length (m .accounts)) (search));
   }
-  listed (Shape.account a u) p = listed-account a u
-  listed (Shape.registers a i x) p = still refl refl (aside refl refl)
-  listed (Shape.cancels a i) p = still refl refl (aside refl refl)
-  listed (Shape.creates a o i t e) p =
+  listed-after (Shape.account a u) p = listed-account a u
+  listed-after (Shape.registers a i x) p = still refl refl (aside refl refl)
+  listed-after (Shape.cancels a i) p = still refl refl (aside refl refl)
+  listed-after (Shape.creates a o i t e) p =
       let f = by-account {m = m} a (offers (t .amount) 1 (accountIn m a .row)) in
       record {
-        accounts = λ j. L .accounts j ∙ ap one (sym (f .accounts j));
+        accounts = λ j. L .accounts j ∙ ap bit (sym (f .accounts j));
         offers = here-insert offerHere (λ r. refl) refl (m .offers) o (newDeal a i t e) (r .offers) (unseen-deal (find (m .offers) o) (search)) (L .offers);
         room = omega (arith, f .size, L .room);
       }
-  listed (Shape.offer o u) p = still refl refl (by-offer o _)
-  listed (Shape.accepts now a o) p = still refl refl (same-settling now o m)
-  listed (Shape.amends now a o t n) p = still refl refl (then (by-offer o _) (then (by-account a _) (same-agreeing (agreesOf roundLimit (offerIn m o .row .negotiation) t) now o (amendedIn m now a o t))))
-  listed (Shape.counters now a o t n) p = still refl refl (then (by-offer o _) (same-agreeing (sameTerms (termsIn m o) t) now o (counteredIn m now o t)))
-  listed (Shape.totals a x f) p = still refl refl (aside refl refl)
-  listed (Shape.settings u) p = still refl refl (aside refl refl)
+  listed-after (Shape.offer o u) p = still refl refl (by-offer o _)
+  listed-after (Shape.accepts now a o) p = still refl refl (same-settling now o m)
+  listed-after (Shape.amends now a o t n) p = still refl refl (then (by-offer o _) (then (by-account a _) (same-agreeing (agreesOf roundSlots (offerIn m o .row .negotiation) t) now o (amendedIn m now a o t))))
+  listed-after (Shape.counters now a o t n) p = still refl refl (then (by-offer o _) (same-agreeing (sameTerms (termsIn m o) t) now o (counteredIn m now o t)))
+  listed-after (Shape.totals a x f) p = still refl refl (aside refl refl)
+  listed-after (Shape.settings u) p = still refl refl (aside refl refl)

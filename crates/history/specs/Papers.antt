@@ -5,14 +5,15 @@ use mathlib.Core.Path.{_≡_, refl, sym, ap, _∙_}
 use mathlib.Core.Bool.{Bool, true, false, cond}
 use lib.Dec.{eqb}
 use borrow.Author.Tests.{eqb-true}
-use Rattle.refusal.specs.Choice.{pick, pick-on, pick-off}
+use Rattle.refusal.specs.Choice.{pick}
+use Rattle.refusal.specs.ChoiceLaws.{pick-on, pick-off}
 use Rattle.table.specs.Tables.{Found, absent, here, Table, find, insert, fmap, hit, Is, is-true, is-false, decide}
 use Rattle.table.specs.TableLaws.{find-adjust}
 use Rattle.invoice.specs.declared.Invoice.{Invoice}
 use Rattle.invoice.specs.Invoice.{inStatus}
 use Rattle.invoice.specs.Seen.{seenInvoice}
 use Rattle.history.specs.Figures.{put, at-put, at-insert, at-kept}
-use Rattle.history.specs.Ledger.{Papers, issued, sellingOff, originatorOf, shut}
+use Rattle.history.specs.Ledger.{Papers, issued, sellingOff, originatorIn, shut}
 use Rattle.history.specs.Agrees.{Papered}
 
 pub shut-most : (s : Found Invoice) → shut s ≤ 1
@@ -34,7 +35,7 @@ module _ {p : Papers} {t : Table Invoice} (P : Papered p t) (i : ℕ) where
   pub cancelled : Papered p (put t i (inStatus 2 there))
   unfolding fmap shut pick
   cancelled = record {
-    originators = λ j. at-kept originatorOf t i (inStatus 2 there) refl j ∙ P .originators j;
+    originators = λ j. at-kept originatorIn t i (inStatus 2 there) refl j ∙ P .originators j;
     once = λ j. rw find-adjust (go j (eqb i j) (find t j) (P .once j));
   }
     where
@@ -45,7 +46,7 @@ module _ {p : Papers} {t : Table Invoice} (P : Papered p t) (i : ℕ) where
 
   pub issued-by : (a : ℕ) (new : Invoice) → new .originator ≡ a → find t i ≡ absent → Papered (issued a i p) (insert t i new)
   issued-by a new e n = record {
-    originators = λ j. at-insert originatorOf t i new n j ∙ ap (λ z. pick (eqb i j) z (originatorOf (find t j))) e ∙ ap (λ z. pick (eqb i j) a z) (P .originators j);
+    originators = λ j. at-insert originatorIn t i new n j ∙ ap (λ z. pick (eqb i j) z (originatorIn (find t j))) e ∙ ap (λ z. pick (eqb i j) a z) (P .originators j);
     once = λ j. rw (at-insert shut t i new n j) (go j (eqb i j) refl);
   }
     where
@@ -57,7 +58,7 @@ module _ {p : Papers} {t : Table Invoice} (P : Papered p t) (i : ℕ) where
   pub sold-off : find t i ≡ here there → eqb (there .status) 0 ≡ true → Papered (sellingOff i p) (put t i (inStatus 1 there))
   unfolding hit shut
   sold-off n e = record {
-    originators = λ j. at-kept originatorOf t i (inStatus 1 there) refl j ∙ P .originators j;
+    originators = λ j. at-kept originatorIn t i (inStatus 1 there) refl j ∙ P .originators j;
     once = λ j. rw (at-put shut t i there (inStatus 1 there) n j) (go j (decide (eqb i j)));
   }
     where

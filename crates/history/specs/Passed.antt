@@ -3,7 +3,7 @@ use mathlib.Core.Path.{_≡_, refl}
 use mathlib.Core.Bool.{false, not}
 use mathlib.Core.List.{List, [], _∷_, _++_}
 use Rattle.refusal.specs.Refusal.{Check, first}
-use Rattle.refusal.specs.Rule.{passed}
+use Rattle.refusal.specs.RuleLaws.{passed}
 use Rattle.table.specs.Tables.{Found, absent, here}
 use Rattle.account.specs.declared.Account.{Account}
 use Rattle.invoice.specs.declared.Invoice.{Invoice}

@@ -6,15 +6,16 @@ use mathlib.Core.List.{List, _∷_}
 use lib.Dec.{eqb}
 use lib.IntN.{ℤ, _+ℤ_, negℤ, +ℤ-assoc, negℤ-+ℤ}
 use borrow.Author.Tests.{eq-eqb}
-use Rattle.refusal.specs.Choice.{pick, pick-on, pick-off}
+use Rattle.refusal.specs.Choice.{pick}
+use Rattle.refusal.specs.ChoiceLaws.{pick-on, pick-off}
 use Rattle.table.specs.Tables.{Found, absent, here, find, row}
-use Rattle.history.specs.History.{Deed, creates, amends, counters, accepts, Entry, opens, deposits, pays, registers, deals, nothing, termsOf, counterOf, lenderOf, invoiceOf, settles, Settlement, Said, grow, deedsOn, settlementOf, settledBy, dealt, add, sum, share, accepted, received, amountsOf, amounts, balance, together}
+use Rattle.history.specs.History.{Deed, creates, amends, counters, accepts, Entry, opens, deposits, pays, registers, deals, nothing, termsSaid, counterOf, lenderSaid, invoiceOf, settles, Settlement, Said, grow, deedsOn, settlementOf, settledBy, dealt, add, sum, share, accepted, received, amountsOf, amounts, balance, together}
 use Rattle.history.specs.Figures.{swap}
 use Rattle.history.specs.Shares.{after-three, first-grows, second-grows, last-two-grow, share-neg}
 use Rattle.history.specs.Ledger.{Bargain, said, Ledger, noted, sold, post}
 
 abbrev pub bargainIn : List Deed → Bargain
-bargainIn l = record { lender = lenderOf l; invoice = invoiceOf l; terms = termsOf l; counter = counterOf l }
+bargainIn l = record { lender = lenderSaid l; invoice = invoiceOf l; terms = termsSaid l; counter = counterOf l }
 
 -- b has the figures that were there before
 pub record Reads (b l : Ledger) (r : Said) : Type 0 where
@@ -25,7 +26,7 @@ pub record Reads (b l : Ledger) (r : Said) : Type 0 where
   pub together : l .purses .together ≡ b .purses .together +ℤ together r
 
 said-deed : (d : Deed) (l : List Deed) → said d (bargainIn l) ≡ bargainIn (d ∷ l)
-unfolding said lenderOf invoiceOf termsOf counterOf
+unfolding said lenderSaid invoiceOf termsSaid counterOf
 said-deed (creates a i t) l = refl
 said-deed (amends t) l = refl
 said-deed (counters t) l = refl
@@ -75,12 +76,12 @@ module _ {b l : Ledger} {r : Said} (R : Reads b l r) where
         }
 
     -- the ledger and the history know alike whether it settles
-    pub either-way : (P : Ledger → Found Settlement → Type 0) → (settles (termsOf before) (counterOf before) d ≡ true → P (sold o (noted o d l)) (here (settlementOf r (d ∷ before)))) → P (noted o d l) absent
+    pub either-way : (P : Ledger → Found Settlement → Type 0) → (settles (termsSaid before) (counterOf before) d ≡ true → P (sold o (noted o d l)) (here (settlementOf r (d ∷ before)))) → P (noted o d l) absent
         → P (post (deals o d) l) (settledBy r before d)
     unfolding post settledBy pick
     either-way P f g =
         subst (λ (k : Bargain). P (pick (settles (k .terms) (k .counter) d) (sold o (noted o d l)) (noted o d l)) (settledBy r before d)) (sym (R .bargains o))
-        (go (settles (termsOf before) (counterOf before) d) f)
+        (go (settles (termsSaid before) (counterOf before) d) f)
       where
         go : (b : Bool) → (b ≡ true → P (sold o (noted o d l)) (here (settlementOf r (d ∷ before)))) → P (pick b (sold o (noted o d l)) (noted o d l)) (pick b (here (settlementOf r (d ∷ before))) absent)
         go true f = f refl

@@ -5,7 +5,7 @@ use mathlib.Core.List.{List, [], _∷_}
 use lib.IntN.{_+ℤ_, _-ℤ_}
 use Rattle.table.specs.Tables.{Found, absent, here, Table, keys}
 use Rattle.terms.specs.declared.Terms.{Terms}
-use Rattle.negotiation.specs.Rounds.{roundLimit, asked}
+use Rattle.negotiation.specs.Rounds.{roundSlots, asked}
 use Rattle.invoice.specs.declared.Invoice.{Invoice}
 use Rattle.offer.specs.declared.Deal.{Deal}
 use Rattle.command.specs.declared.Command.{Command}
@@ -21,7 +21,7 @@ counteredOn o (here t) l = (o, counters t) ∷ l
 -- each offer was created with its terms
 unfoldable pub deedsBefore : Table Deal → List (ℕ × Deed)
 deedsBefore [] = []
-deedsBefore (e ∷ t) = counteredOn (e .0) (asked roundLimit (e .1 .negotiation)) ((e .0, creates (e .1 .offer .lender) (e .1 .offer .invoice) (e .1 .offer .terms)) ∷ deedsBefore t)
+deedsBefore (e ∷ t) = counteredOn (e .0) (asked roundSlots (e .1 .negotiation)) ((e .0, creates (e .1 .offer .lender) (e .1 .offer .invoice) (e .1 .offer .terms)) ∷ deedsBefore t)
 
 unfoldable pub originatorsBefore : Table Invoice → List (ℕ × ℕ)
 originatorsBefore [] = []

@@ -12,7 +12,7 @@ use Rattle.soundness.specs.Sound.{fresh-model}
 use Rattle.soundness.specs.Played.{played}
 use Rattle.soundness.specs.Calls.{called, called-played}
 use Rattle.history.specs.Figures.{tally}
-use Rattle.history.specs.Ledger.{balanceOf, offeredOf, acceptedOf}
+use Rattle.history.specs.Ledger.{balanceOf, offeredOf, acceptedIn}
 use Rattle.history.specs.Run.{from, run-played}
 use Rattle.history.specs.Demand.{Meets, holds, demand-3}
 
@@ -20,7 +20,7 @@ use Rattle.history.specs.Demand.{Meets, holds, demand-3}
 same-figures : {h : List Command} {m n : Model} → n .accounts ≡ m .accounts → n .totals ≡ m .totals → Meets h m → Meets h n
 same-figures p q F = record {
   offereds = λ a. ap (λ t. offeredOf (find t a)) p ∙ F .offereds a;
-  accepteds = λ a. ap (λ t. acceptedOf (find t a)) p ∙ F .accepteds a;
+  accepteds = λ a. ap (λ t. acceptedIn (find t a)) p ∙ F .accepteds a;
   balances = λ a. ap (λ t. balanceOf (find t a)) p ∙ F .balances a;
   all-balances = ap (tally balanceOf) p ∙ F .all-balances;
   financed-total = ap (λ t. t .financed) q ∙ F .financed-total;

@@ -17,20 +17,30 @@ use Rattle.invoice.specs.declared.InvoicePosted.{InvoicePosted}
 abbrev pub noInvoice : Invoice
 noInvoice = record { originator = 0; amount = pos 0; status = 0 }
 
+-- where an invoice stands
+abbrev pub invoicePending : ℕ
+invoicePending = 0
+
+abbrev pub invoiceFinanced : ℕ
+invoiceFinanced = 1
+
+abbrev pub invoiceCancelled : ℕ
+invoiceCancelled = 2
+
 abbrev pub invoiceOf : ℕ → ℤ → Invoice
-invoiceOf a x = record { originator = a; amount = x; status = 0 }
+invoiceOf a x = record { originator = a; amount = x; status = invoicePending }
 
 abbrev pub inStatus : ℕ → Invoice → Invoice
 inStatus s r = record { originator = r .originator; amount = r .amount; status = s }
 
 abbrev pub financed : Invoice → Invoice
-financed r = inStatus 1 r
+financed r = inStatus invoiceFinanced r
 
 abbrev pub covers : Invoice → Terms → Bool
 covers r t = leZ (t .amount) (r .amount)
 
 unfoldable pub invoiceSound : Invoice → Bool
-invoiceSound r = inAmount (r .amount) && leb (r .status) 2
+invoiceSound r = inAmount (r .amount) && leb (r .status) invoiceCancelled
 
 unfoldable pub invoiceZero : Invoice → Bool
 invoiceZero r = (eqb (r .originator) 0 && isZero (r .amount)) && eqb (r .status) 0
@@ -48,7 +58,7 @@ cancelOf s caller = record {
   checks =
       (not (s .here) gives notFound)
       ∷ (not (eqb (s .row .originator) caller) gives unauthorized)
-      ∷ (not (eqb (s .row .status) 0) gives invalidTransition)
+      ∷ (not (eqb (s .row .status) invoicePending) gives invalidTransition)
       ∷ [];
-  done = inStatus 2 (s .row);
+  done = inStatus invoiceCancelled (s .row);
 }

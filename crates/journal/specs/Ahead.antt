@@ -1,13 +1,13 @@
 -- What a walk over a journal goes by: a command leads on, within the journal; a fault is at the place itself. Assumes nothing.
 use mathlib.Core.Path.{_≡_, refl}
-use mathlib.Core.Bool.{Bool, true, false, _&&_}
+use mathlib.Core.Bool.{_&&_}
 use mathlib.Core.List.{List, [], _∷_}
 use Prim.Native.Nat.{ℕ, _+_, _*_, _≤_, _<_}
 use native.Mathlib.Omega.{arith}
 use lib.ListN.{length, getD, drop}
 use lib.Dec.{eqb, leb}
 use borrow.Author.Tests.{leb-true, leb-false}
-use Rattle.refusal.specs.Choice.{pick}
+use Rattle.refusal.specs.ChoiceLaws.{either}
 use Rattle.refusal.specs.Refusal.{number, journalMalformed}
 use Rattle.wire.specs.Field.{begins}
 use Rattle.wire.specs.FieldLaws.{and-left, begins-room}
@@ -20,11 +20,6 @@ unfoldable pub Goes : List ℕ → ℕ → Reading → Type 0
 Goes s at (found c next) = (at < next) × (next ≤ length s)
 Goes s at (refused n p) = (n ≡ number journalMalformed) × ((p ≡ at) × (at < length s))
 Goes s at ended = length s ≤ at
-
-either : {A : Type 0} (P : A → Type 0) (t : Bool) (x y : A) → (t ≡ true → P x) → (t ≡ false → P y) → P (pick t x y)
-unfolding pick
-either P true x y f g = f refl
-either P false x y f g = g refl
 
 made-goes : (rs : List Row) (s : List ℕ) (at t : ℕ) (f : Values) (next : ℕ) → at < next → next ≤ length s → Goes s at (madeIn rs t f at next)
 unfolding madeIn Goes

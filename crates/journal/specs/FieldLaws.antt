@@ -7,7 +7,7 @@ use native.Mathlib.Numerals.{add-one}
 use lib.ListN.{length, getD, drop, set}
 use lib.Seq.{drop-cons, drop-drop, drop-length}
 use borrow.Author.Tests.{le-leb, lt-leb}
-use Rattle.refusal.specs.Choice.{pick-on, pick-off}
+use Rattle.refusal.specs.ChoiceLaws.{pick-on, pick-off}
 use Rattle.wire.specs.Field.{numberAt, begins}
 use Rattle.journal.specs.Table.{topOf}
 use Rattle.journal.specs.Format.{fieldIn, wellIn, numbersIn, zeros, gatheredIn}

@@ -8,7 +8,8 @@ use lib.ListN.{length, getD, drop, set}
 use lib.Seq.{drop-drop}
 use lib.Dec.{leb}
 use borrow.Author.Tests.{le-leb, lt-leb, leb-true}
-use Rattle.refusal.specs.Choice.{pick, pick-on, pick-off}
+use Rattle.refusal.specs.Choice.{pick}
+use Rattle.refusal.specs.ChoiceLaws.{pick-on, pick-off}
 use Rattle.wire.specs.Field.{numberAt, begins}
 use Rattle.wire.specs.FieldLaws.{and-left, and-right}
 use Rattle.journal.specs.Answers.{Reading, ended, malformed}

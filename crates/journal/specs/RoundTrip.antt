@@ -8,11 +8,13 @@ use lib.ListN.{length, getD, take, drop, set, length-append}
 use lib.Seq.{drop-at, drop-append-seam, length-take-le}
 use lib.Dec.{eqb}
 use borrow.Author.Tests.{le-leb, eq-eqb}
-use Rattle.refusal.specs.Choice.{pick, pick-on}
+use Rattle.refusal.specs.Choice.{pick}
+use Rattle.refusal.specs.ChoiceLaws.{pick-on}
 use Rattle.command.specs.declared.Command.{Command}
-use Rattle.wire.specs.Field.{numberAt, bytesOf, headOf, fieldOf, begins, placed, laid}
+use Rattle.wire.specs.Field.{numberAt, bytesOf, headOf, fieldOf, begins}
+use Rattle.refusal.specs.Placed.{placed, laid}
 use Rattle.wire.specs.FieldLaws.{length-field}
-use Rattle.wire.specs.PlaceLaws.{laid-in}
+use Rattle.refusal.specs.PlacedLaws.{laid-in}
 use Rattle.wire.specs.FieldTrip.{body-past, begins-field, number-past}
 use Rattle.journal.specs.Answers.{found}
 use Rattle.journal.specs.Table.{isNarrow, topOf, named, fieldsOf, made, partsOf}

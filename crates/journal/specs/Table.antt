@@ -133,8 +133,8 @@ partsOf (SetSeats t s h x) = (0x56, t ∷ s ∷ h ∷ x ∷ [])
 unfoldable pub padded : List ℕ → List ℕ
 padded l = l ++ replicate (9 - length l) 0
 
-abbrev pub listed : List ℕ → Listed
-listed l = (length l, padded l)
+abbrev pub rowFields : List ℕ → Listed
+rowFields l = (length l, padded l)
 
 abbrev pub sent : ℕ × List ℕ → Parts
 sent p = (p .0, padded (p .1))

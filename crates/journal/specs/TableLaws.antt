@@ -8,7 +8,8 @@ use lib.ListN.{length, getD, take, replicate}
 use lib.Seq.{take-append-seam}
 use lib.Dec.{eqb, leb, ltb}
 use borrow.Author.Tests.{ne-eqb, leb-true, ltb-true}
-use Rattle.refusal.specs.Choice.{pick, pick-off}
+use Rattle.refusal.specs.Choice.{pick}
+use Rattle.refusal.specs.ChoiceLaws.{pick-off}
 use Rattle.wire.specs.FieldLaws.{and-left, and-right}
 use Rattle.journal.specs.Answers.{malformed}
 use Rattle.journal.specs.Table.{Row, rows, fieldsIn, fieldsOf, madeIn, made, padded}

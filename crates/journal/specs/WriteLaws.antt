@@ -7,13 +7,14 @@ use native.Mathlib.Numerals.{add-one}
 use lib.ListN.{length, getD, take, drop, replicate, length-append}
 use lib.Seq.{length-take-le, getD-drop}
 use borrow.Author.Tests.{le-leb, lt-leb}
-use Rattle.refusal.specs.Choice.{on, off}
+use Rattle.refusal.specs.ChoiceLaws.{on, off}
 use Rattle.refusal.specs.Refusal.{number, bufferShort}
 use Rattle.command.specs.declared.Command.{Command}
-use Rattle.wire.specs.Field.{bytesOf, headOf, fieldOf, placed, laid}
+use Rattle.wire.specs.Field.{bytesOf, headOf, fieldOf}
+use Rattle.refusal.specs.Placed.{placed, laid}
 use Rattle.wire.specs.FieldLaws.{length-field}
-use Rattle.wire.specs.PlaceLaws.{placed-twice, laid-in, laid-out}
-use Rattle.journal.specs.Table.{fieldsOf, partsOf, padded, listed, sent}
+use Rattle.refusal.specs.PlacedLaws.{laid-out, laid-in, placed-twice}
+use Rattle.journal.specs.Table.{fieldsOf, partsOf, padded, rowFields, sent}
 use Rattle.journal.specs.declared.table.Listed.{Listed}
 use Rattle.journal.specs.declared.writing.Parts.{Parts}
 use Rattle.journal.specs.TableLaws.{take-padded}
@@ -66,7 +67,7 @@ record-placed t fs vs l at h =
 abbrev pub stored : List ℕ → ℕ → ℕ → List ℕ → Listed → List ℕ
 stored l at t vs r = placed (at + 3) (fieldsOut (take (r .0) (r .1)) vs) (placed at (headOf t (11 * r .0)) l)
 
-pub parts-placed : (t : ℕ) (vs l : List ℕ) (at : ℕ) {r : Listed} → r ≡ listed (fieldsOf t) → at + (3 + 11 * r .0) ≤ length l → stored l at t vs r ≡ placed at (recordOf t vs) l
+pub parts-placed : (t : ℕ) (vs l : List ℕ) (at : ℕ) {r : Listed} → r ≡ rowFields (fieldsOf t) → at + (3 + 11 * r .0) ≤ length l → stored l at t vs r ≡ placed at (recordOf t vs) l
 parts-placed t vs l at {r} d h =
     ap (λ (q : Listed). stored l at t vs q) d ∙ record-placed t (fieldsOf t) vs l at (omega (arith, ap (λ (q : Listed). q .0) d))
 

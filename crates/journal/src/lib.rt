@@ -5,7 +5,7 @@ pub mod writing;
 
 use command::Command;
 ghost use mathlib.Core.Path.{_≡_};
-ghost use Rattle.wire.specs.Field.{laid};
+ghost use Rattle.refusal.specs.Placed.{laid};
 ghost use Rattle.journal.specs.Answers.{opening, reading, written};
 ghost use Rattle.journal.specs.Format.{headerOf, openingOf, readAt, recordOf, bytesFor, writing};
 

@@ -1,13 +1,13 @@
 // The table of records, which reading and writing go by.
 ghost use mathlib.Core.Path.{_≡_};
-ghost use Rattle.journal.specs.Table.{fieldsOf, topOf, listed};
+ghost use Rattle.journal.specs.Table.{fieldsOf, topOf, rowFields};
 
 // The number of fields of a record, and their tags in ascending order.
 pub struct Listed(pub usize, pub [u8; 9]);
 
 // The fields of a record by its tag. None: no record has this tag.
 pub fn fields(tag: u8) -> Listed
-    ensures { λ r. ⌜ r ≡ listed (fieldsOf tag) ⌝ }
+    ensures { λ r. ⌜ r ≡ rowFields (fieldsOf tag) ⌝ }
 {
     match tag {
         0x21 => Listed(2, [0x01, 0x02, 0, 0, 0, 0, 0, 0, 0]),

@@ -4,7 +4,7 @@ use money::bits;
 ghost use mathlib.Core.Path.{_≡_};
 ghost use Prim.Native.Nat.{_+_, _*_, _≤_};
 ghost use lib.ListN.{length, take};
-ghost use Rattle.wire.specs.Field.{placed};
+ghost use Rattle.refusal.specs.Placed.{placed};
 ghost use Rattle.journal.specs.Table.{sent, partsOf};
 ghost use Rattle.journal.specs.Format.{fieldsOut};
 

@@ -4,6 +4,7 @@ use mathlib.Core.Path.{_≡_}
 use mathlib.Core.Bool.{true, _&&_, _||_}
 use lib.ListN.{getD}
 use lib.Dec.{eqb}
+use Rattle.terms.specs.Status.{statusAccepted, statusFinanced}
 use Rattle.refusal.specs.Choice.{pick}
 use Rattle.money.specs.Range.{inAmount, magnitudeOf}
 use Rattle.table.specs.Tables.{Table, total}
@@ -12,7 +13,7 @@ use Rattle.offer.specs.declared.Offer.{Offer}
 use Rattle.lists.specs.declared.OfferRows.{OfferRows}
 
 unfoldable pub activeIn : ℕ → Offer → ℕ
-activeIn lender o = pick (eqb (o .lender) lender && (eqb (o .status) 1 || eqb (o .status) 3)) (magnitudeOf (o .terms .amount)) 0
+activeIn lender o = pick (eqb (o .lender) lender && (eqb (o .status) statusAccepted || eqb (o .status) statusFinanced)) (magnitudeOf (o .terms .amount)) 0
 
 abbrev pub activeOf : ℕ → Table Offer → ℕ
 activeOf lender t = total (activeIn lender) t

@@ -1,4 +1,3 @@
-pub mod Placed
 pub mod Pick
 pub mod Written
 pub mod Sum

@@ -16,7 +16,7 @@ use Rattle.lists.specs.declared.OfferNumbers.{OfferNumbers}
 use Rattle.lists.specs.declared.Wanted.{Wanted}
 use Rattle.lists.specs.declared.Listed.{Listed}
 use Rattle.lists.specs.declared.Listed.the-variants.{Offers, Unlisted, Short, Unsound}
-use Rattle.lists.specs.Placed.{placed}
+use Rattle.refusal.specs.Placed.{placed}
 use Rattle.lists.specs.Pick.{pickFrom}
 use Rattle.lists.specs.Written.{spread}
 use Rattle.lists.specs.Wanted.{wants, known}
@@ -62,14 +62,14 @@ abbrev pub listing : Wanted → Table Offer → Table Offer
 listing w t = pickFrom (taking w) 0 t
 
 -- the buffer with their numbers laid over its start
-unfoldable pub laid : Wanted → Table Offer → List ℕ → List ℕ
-laid w t l = placed 0 (spread tenOf (listing w t)) l
+unfoldable pub filled : Wanted → Table Offer → List ℕ → List ℕ
+filled w t l = placed 0 (spread tenOf (listing w t)) l
 
 -- unlisted status 3, too short 14; else how many, and the buffer
 abbrev pub listRule : Wanted → Table Offer → List ℕ → Rule (List ℕ × List ℕ)
 listRule w t l = record {
   checks = (not (known w) gives invalidInput) ∷ (ltb (length l) (10 * length (listing w t)) gives bufferShort) ∷ [];
-  done = (length (listing w t) ∷ [], laid w t l);
+  done = (length (listing w t) ∷ [], filled w t l);
 }
 
 -- a query's answer: its number, 0 where it is no refusal, and its values

@@ -2,6 +2,7 @@
 use Prim.Native.Nat.{ℕ, _-_}
 use mathlib.Core.Bool.{Bool, true, _&&_}
 use lib.Dec.{leb, ltb, eqb}
+use Rattle.terms.specs.Status.{statusPending, statusListed}
 use Rattle.offer.specs.declared.Offer.{Offer}
 use Rattle.lists.specs.declared.Wanted.{Wanted}
 use Rattle.lists.specs.declared.Wanted.the-variants.{Invoice, Lender, Status, PendingOf, Page}
@@ -16,7 +17,7 @@ unfoldable pub wants : Wanted → ℕ → Offer → Bool
 wants (Invoice i) place o = eqb (o .invoice) i
 wants (Lender l) place o = eqb (o .lender) l
 wants (Status s) place o = eqb (o .status) s
-wants (PendingOf i) place o = eqb (o .invoice) i && eqb (o .status) 0
+wants (PendingOf i) place o = eqb (o .invoice) i && eqb (o .status) statusPending
 wants Wants.All place o = true
 wants (Page offset limit) place o = paged offset limit place
 
@@ -24,7 +25,7 @@ wants (Page offset limit) place o = paged offset limit place
 unfoldable pub known : Wanted → Bool
 known (Invoice i) = true
 known (Lender l) = true
-known (Status s) = leb s 5
+known (Status s) = statusListed s
 known (PendingOf i) = true
 known Wants.All = true
 known (Page offset limit) = true

@@ -7,7 +7,8 @@ use native.Mathlib.Nat.{mul-le-mul-left, mul-add, mul-one}
 use native.Mathlib.Omega.{arith}
 use lib.ListN.{length, take, getD, length-append}
 use lib.Seq.{take-all}
-use Rattle.lists.specs.Placed.{placed, length-placed, placed-twice, placed-none}
+use Rattle.refusal.specs.PlacedLaws.{length-placed, placed-twice, placed-none}
+use Rattle.refusal.specs.Placed.{placed}
 use Rattle.lists.specs.Pick.{pickFrom, pick-fewer, pick-on, pick-off, Walked, walk-start, walk-on, walk-off, walk-room}
 
 -- f of each entry, one after another
@@ -28,11 +29,11 @@ length-spread f k g (e ∷ t) = length-append (f e) (spread f t) ∙ omega (arit
 -- the invariant of a walk that writes what it takes from the start of l₀ on
 pub record Wrote {A : Type 0} (q : ℕ → A → Bool) (f : A → List ℕ) (t : List A) (l₀ : List ℕ) (i n : ℕ) (l : List ℕ) : Type 0 where
   pub walked : Walked q t i n
-  pub laid : l ≡ placed 0 (spread f (pickFrom q 0 (take i t))) l₀
+  pub numbers : l ≡ placed 0 (spread f (pickFrom q 0 (take i t))) l₀
 
 pub write-start : {A : Type 0} (q : ℕ → A → Bool) (f : A → List ℕ) (t : List A) (l : List ℕ) → Wrote q f t l 0 0 l
 unfolding pickFrom spread
-write-start q f t l = record { walked = walk-start q t; laid = placed-none 0 l }
+write-start q f t l = record { walked = walk-start q t; numbers = placed-none 0 l }
 
 module _ {A : Type 0} {q : ℕ → A → Bool} {f : A → List ℕ} {t : List A} {l₀ : List ℕ} {i n : ℕ} {l : List ℕ} (w : Wrote q f t l₀ i n l)
     (k : ℕ) (g : (a : A) → length (f a) ≡ k) (room : k * length (pickFrom q 0 t) ≤ length l₀) where
@@ -42,14 +43,14 @@ module _ {A : Type 0} {q : ℕ → A → Bool} {f : A → List ℕ} {t : List A}
   pub write-length : length l ≡ length l₀
   write-length =
       let h : k * n ≤ k * length (pickFrom q 0 t) = rw (w .walked .counted) (mul-le-mul-left k (pick-fewer q t i)) in
-      ap length (w .laid) ∙ length-placed 0 (spread f (pickFrom q 0 (take i t))) l₀ (omega (arith, written))
+      ap length (w .numbers) ∙ length-placed 0 (spread f (pickFrom q 0 (take i t))) l₀ (omega (arith, written))
 
   pub write-done : length t ≤ i → l ≡ placed 0 (spread f (pickFrom q 0 t)) l₀
-  write-done h = rw (take-all i t h) at (w .laid)
+  write-done h = rw (take-all i t h) at (w .numbers)
 
   module _ (d : A) (h : i < length t) where
     pub write-off : q i (getD t i d) ≡ false → Wrote q f t l₀ (i + 1) n l
-    write-off e = record { walked = walk-off (w .walked) d h e; laid = rw (pick-off q t i d h e) (w .laid) }
+    write-off e = record { walked = walk-off (w .walked) d h e; numbers = rw (pick-off q t i d h e) (w .numbers) }
 
     module _ (e : q i (getD t i d) ≡ true) where
       fits : k * n + k ≤ length l₀
@@ -65,12 +66,12 @@ module _ {A : Type 0} {q : ℕ → A → Bool} {f : A → List ℕ} {t : List A}
       unfolding spread
       write-on l′ p = record {
         walked = walk-on (w .walked) d h e;
-        laid =
+        numbers =
             let s = spread f (pickFrom q 0 (take i t)) in
             let a = f (getD t i d) in
             let m : 0 + (length s + length a) ≤ length l₀ = omega (arith, written, g (getD t i d), fits) in
             let z : length s ≡ 0 + length s = omega arith in
-            p ∙ ap (λ (z : List ℕ). placed (k * n) a z) (w .laid) ∙ ap (λ (j : ℕ). placed j a (placed 0 s l₀)) (sym written ∙ z)
+            p ∙ ap (λ (z : List ℕ). placed (k * n) a z) (w .numbers) ∙ ap (λ (j : ℕ). placed j a (placed 0 s l₀)) (sym written ∙ z)
             ∙ placed-twice 0 s a l₀ m
             ∙ ap (λ (z : List ℕ). placed 0 z l₀) (ap (λ (z : List ℕ). s ++ z) (sym (append-nil a)) ∙ sym (spread-append f (pickFrom q 0 (take i t)) (getD t i d ∷ [])) ∙ ap (spread f) (sym (pick-on q t i d h e)));
       }

@@ -4,9 +4,9 @@ ghost use mathlib.Core.List.{[]};
 ghost use Prim.Native.Nat.{_+_, _*_, _≤_};
 ghost use lib.ListN.{length};
 ghost use Rattle.refusal.specs.Rule.{answered};
-ghost use Rattle.lists.specs.Placed.{placed};
+ghost use Rattle.refusal.specs.Placed.{placed};
 ghost use Rattle.lists.specs.Wanted.{paged, wants, known};
-ghost use Rattle.lists.specs.Listing.{offersOf, InUse, numbersOf, inOrder, listing, laid, listRule, listedSays, told};
+ghost use Rattle.lists.specs.Listing.{offersOf, InUse, numbersOf, inOrder, listing, filled, listRule, listedSays, told};
 ghost use Rattle.lists.specs.Active.{activeIn, activeOf, InRange};
 
 // How many numbers an offer is.
@@ -111,7 +111,7 @@ impl Wanted {
             Wanted::Invoice(i) => invoice == i,
             Wanted::Lender(l) => lender == l,
             Wanted::Status(s) => status == s,
-            Wanted::PendingOf(i) => (invoice == i) & (status == offer::PENDING),
+            Wanted::PendingOf(i) => (invoice == i) & (status == terms::PENDING),
             Wanted::All => true,
             Wanted::Page(offset, limit) => in_page(offset, limit, place),
         }
@@ -122,7 +122,7 @@ impl Wanted {
         ensures { λ r. ⌜ r ≡ known self ⌝ }
     {
         match self {
-            Wanted::Status(s) => s <= offer::DEFAULTED,
+            Wanted::Status(s) => s <= terms::DEFAULTED,
             _ => true,
         }
     }
@@ -145,7 +145,7 @@ pub fn active(o: Offer, lender: u64) -> u64
 {
     let l = o.lender;
     let s = o.status;
-    if (l == lender) & ((s == offer::ACCEPTED) | (s == offer::FINANCED)) {
+    if (l == lender) & ((s == terms::ACCEPTED) | (s == terms::FINANCED)) {
         let t = o.terms;
         return money::magnitude(t.amount);
     }
@@ -183,7 +183,7 @@ impl OfferRows {
 
     fn write(self, w: Wanted, out: &mut [u64])
         requires { ⌜ 10 * length (listing w (offersOf self)) ≤ length (now out) ⌝ }
-        ensures { λ _. ⌜ now (out .exit) ≡ laid w (offersOf self) (now (out .entry)) ⌝ }
+        ensures { λ _. ⌜ now (out .exit) ≡ filled w (offersOf self) (now (out .entry)) ⌝ }
     {
         let m = self.in_use();
         let mut n: usize = 0;

@@ -12,7 +12,7 @@ use Rattle.invoice.specs.Seen.{putInvoice}
 use Rattle.offer.specs.Offer.{settledDeal}
 use Rattle.offer.specs.Seen.{putDeal}
 use Rattle.settings.specs.declared.Totals.{Totals}
-use Rattle.parties.specs.Settlement.{seenAt}
+use Rattle.parties.specs.Settlement.{seenIn}
 use Rattle.parties.specs.Parties.{sideOf, partiesOf}
 use Rattle.parties.specs.declared.Parties.{Parties}
 use Rattle.terms.specs.declared.Terms.{Terms}
@@ -45,7 +45,7 @@ unfolding pick
 second-lends m o a e = ap (λ z. dealKeys (Id z) (Id (lenderOf m o)) m o) (sym e)
 
 -- ── The two sides ─────────────────────────────────────────────────
-pub side-by : (lends : Bool) (a b : ℕ) (t : Table Account) → (sideOf (partiesOf (pick lends a b) (pick lends b a) t) lends ≡ seenAt t a) × (sideOf (partiesOf (pick lends a b) (pick lends b a) t) (not lends) ≡ seenAt t b)
+pub side-by : (lends : Bool) (a b : ℕ) (t : Table Account) → (sideOf (partiesOf (pick lends a b) (pick lends b a) t) lends ≡ seenIn t a) × (sideOf (partiesOf (pick lends a b) (pick lends b a) t) (not lends) ≡ seenIn t b)
 unfolding sideOf pick
 side-by true a b t = (refl, refl)
 side-by false a b t = (refl, refl)

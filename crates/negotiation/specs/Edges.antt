@@ -15,7 +15,7 @@ use Rattle.terms.specs.Installment.{installmentAmount, installmentOf}
 use Rattle.terms.specs.Schedule.{secondsOf, scheduleOk}
 use Rattle.terms.specs.Due.{elapsedOf, nextOf, numberOf, dueArguments, dueOf}
 use Rattle.negotiation.specs.declared.Negotiation.{Negotiation}
-use Rattle.negotiation.specs.Rounds.{roundLimit, noRound, deadlineOf, statusOf}
+use Rattle.negotiation.specs.Rounds.{roundSlots, noRound, deadlineOf, statusOf}
 
 pub data Edge : Type 0 where
   -- amount, rate and count, with the installment
@@ -35,7 +35,7 @@ abbrev day : ℕ → ℕ → Terms
 day amount rate = record { amount = pos amount; rate = rate; duration = 86400 }
 
 abbrev oneRound : ℕ → Negotiation
-oneRound deadline = record { rounds = replicate roundLimit noRound; deadline = deadline; len = 1; outcome = 0 }
+oneRound deadline = record { rounds = replicate roundSlots noRound; deadline = deadline; len = 1; outcome = 0 }
 
 abbrev financed : ℕ
 financed = 3

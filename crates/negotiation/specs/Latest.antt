@@ -9,7 +9,8 @@ use lib.ListN.{getD, set}
 use lib.Seq.{getD-set-same, getD-set-other}
 use lib.Dec.{leb, eqb}
 use borrow.Author.Tests.{leb-false, le-ltb}
-use Rattle.refusal.specs.Choice.{pick, pick-on, pick-off}
+use Rattle.refusal.specs.Choice.{pick}
+use Rattle.refusal.specs.ChoiceLaws.{pick-on, pick-off}
 use Rattle.money.specs.Facts.{never}
 use Rattle.terms.specs.Answers.{same-terms-is, is-same-terms}
 use Rattle.terms.specs.declared.Terms.{Terms}

@@ -9,7 +9,8 @@ use lib.Seq.{ext-getD}
 use lib.Dec.{leb, eqb}
 use lib.IntN.{ℤ, pos}
 use borrow.Author.Tests.{eqb-true, leb-false, le-leb}
-use Rattle.refusal.specs.Choice.{pick, pick-off}
+use Rattle.refusal.specs.Choice.{pick}
+use Rattle.refusal.specs.ChoiceLaws.{pick-off}
 use Rattle.money.specs.Facts.{both, zero-is}
 use Rattle.terms.specs.Terms.{termsOk}
 use Rattle.terms.specs.declared.Terms.{Terms}
@@ -18,7 +19,7 @@ use Rattle.table.specs.Test.{rowsTest}
 use Rattle.table.specs.TestMore.{rows-more}
 use Rattle.negotiation.specs.declared.Round.{Round}
 use Rattle.negotiation.specs.declared.Negotiation.{Negotiation}
-use Rattle.negotiation.specs.Rounds.{roundLimit, noRound, noNegotiation, roundOf, deadlineOf, addedOf, closedAs, acceptedOf, roundSound, roundZero, negotiationSound, negotiationZero}
+use Rattle.negotiation.specs.Rounds.{roundSlots, noRound, noNegotiation, roundOf, deadlineOf, addedOf, closedAs, acceptedOf, roundSound, roundZero, negotiationSound, negotiationZero}
 use Rattle.negotiation.specs.Whole.{Whole}
 
 zeros : {a : ℤ} {d t p q : ℕ} → a ≡ pos 0 → d ≡ 0 → t ≡ 0 → p ≡ 0 → q ≡ 0
@@ -35,31 +36,31 @@ round-zero r e =
     let a = both _ _ (b .0) in
     zeros (zero-is _ (a .0)) (eqb-true _ _ (a .1)) (eqb-true _ _ (b .1)) (eqb-true _ _ (c .1)) (eqb-true _ _ (d .1))
 
-nothing : {rs : List Round} {d n o : ℕ} → rs ≡ replicate roundLimit noRound → d ≡ 0 → n ≡ 0 → o ≡ 0
+nothing : {rs : List Round} {d n o : ℕ} → rs ≡ replicate roundSlots noRound → d ≡ 0 → n ≡ 0 → o ≡ 0
     → _≡_ {A = Negotiation} (record { rounds = rs; deadline = d; len = n; outcome = o }) noNegotiation
 nothing {rs} {d} {n} {o} e f g h i = record { rounds = e i; deadline = f i; len = g i; outcome = h i }
 
 -- a zero negotiation is none, and none is zero, sound and whole
-pub negotiation-zero : (n : Negotiation) → Whole roundLimit n → negotiationZero roundLimit n ≡ true → n ≡ noNegotiation
+pub negotiation-zero : (n : Negotiation) → Whole roundSlots n → negotiationZero roundSlots n ≡ true → n ≡ noNegotiation
 unfolding negotiationZero
 negotiation-zero n w e =
     let c = both _ _ e in
     let b = both _ _ (c .0) in
     let a = both _ _ (b .0) in
-    nothing (ext-getD noRound (n .rounds) (replicate roundLimit noRound) (w .long)
-    (λ i h. round-zero (getD (n .rounds) i noRound) (all-at (λ j. roundZero (getD (n .rounds) j noRound)) roundLimit (a .0) i (omega (arith, w .long)))
-    ∙ sym (getD-replicate roundLimit i noRound noRound (omega (arith, w .long)))))
+    nothing (ext-getD noRound (n .rounds) (replicate roundSlots noRound) (w .long)
+    (λ i h. round-zero (getD (n .rounds) i noRound) (all-at (λ j. roundZero (getD (n .rounds) j noRound)) roundSlots (a .0) i (omega (arith, w .long)))
+    ∙ sym (getD-replicate roundSlots i noRound noRound (omega (arith, w .long)))))
     (eqb-true _ _ (a .1)) (eqb-true _ _ (b .1)) (eqb-true _ _ (c .1))
 
-pub none-zero : negotiationZero roundLimit noNegotiation ≡ true
+pub none-zero : negotiationZero roundSlots noNegotiation ≡ true
 unfolding negotiationZero roundZero
 none-zero = refl
 
-pub none-sound : negotiationSound roundLimit noNegotiation ≡ true
+pub none-sound : negotiationSound roundSlots noNegotiation ≡ true
 unfolding negotiationSound roundZero
 none-sound = refl
 
-pub none-whole : Whole roundLimit noNegotiation
+pub none-whole : Whole roundSlots noNegotiation
 none-whole = record { long = refl }
 
 -- a round of valid terms, of either party

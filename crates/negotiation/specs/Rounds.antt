@@ -1,4 +1,4 @@
--- Document 01, module 3: the rounds of an offer, where its negotiation stands, what stands against a round, a round added, agreement. The limit of rounds is a parameter.
+-- Document 01, module 3: the rounds of an offer, where its negotiation stands, what stands against a round, a round added, agreement. How many places there are for rounds, and how many are allowed, are parameters.
 use Prim.Native.Nat.{ℕ, zero, suc, _+_, min}
 use mathlib.Core.Bool.{Bool, false, not, _&&_, _||_}
 use mathlib.Core.List.{List, [], _∷_}
@@ -16,6 +16,11 @@ use Rattle.table.specs.Test.{rowsTest}
 use Rattle.negotiation.specs.declared.Round.{Round}
 use Rattle.negotiation.specs.declared.Negotiation.{Negotiation}
 
+-- an offer has places for this many rounds
+abbrev pub roundSlots : ℕ
+roundSlots = 12
+
+-- and gets at most this many
 abbrev pub roundLimit : ℕ
 roundLimit = 12
 
@@ -23,7 +28,7 @@ abbrev pub noRound : Round
 noRound = record { amount = pos 0; duration = 0; time = 0; rate = 0; party = 0 }
 
 abbrev pub noNegotiation : Negotiation
-noNegotiation = record { rounds = replicate roundLimit noRound; deadline = 0; len = 0; outcome = 0 }
+noNegotiation = record { rounds = replicate roundSlots noRound; deadline = 0; len = 0; outcome = 0 }
 
 abbrev pub termsOf : Round → Terms
 termsOf r = record { amount = r .amount; rate = r .rate; duration = r .duration }
@@ -53,8 +58,8 @@ negotiable limit n pending now round =
     ∷ []
 
 unfoldable pub addedOf : ℕ → Negotiation → Round → ℕ → Negotiation
-addedOf limit n r window =
-    pick (leb limit (n .len)) n
+addedOf slots n r window =
+    pick (leb slots (n .len)) n
     (record {
       rounds = set (n .rounds) (n .len) r;
       deadline = deadlineOf (n .len) (r .time) window (n .deadline);
@@ -75,7 +80,7 @@ latestBelow rs zero = absent
 latestBelow rs (suc k) = pick (eqb (getD rs k noRound .party) 1) (here (termsOf (getD rs k noRound))) (latestBelow rs k)
 
 abbrev pub asked : ℕ → Negotiation → Found Terms
-asked limit n = pick (ltb limit (n .len)) absent (latestBelow (n .rounds) (n .len))
+asked slots n = pick (ltb slots (n .len)) absent (latestBelow (n .rounds) (n .len))
 
 -- agreement: the same three terms
 unfoldable pub matches : Terms → Found Terms → Bool
@@ -83,7 +88,7 @@ matches t absent = false
 matches t (here u) = sameTerms u t
 
 unfoldable pub agreesOf : ℕ → Negotiation → Terms → Bool
-agreesOf limit n t = matches t (asked limit n)
+agreesOf slots n t = matches t (asked slots n)
 
 -- ── What a sound book holds of it ─────────────────────────────────
 unfoldable pub roundSound : Round → Bool
@@ -93,10 +98,10 @@ unfoldable pub roundZero : Round → Bool
 roundZero r = (((isZero (r .amount) && eqb (r .duration) 0) && eqb (r .time) 0) && eqb (r .rate) 0) && eqb (r .party) 0
 
 unfoldable pub negotiationSound : ℕ → Negotiation → Bool
-negotiationSound limit n =
-    (leb (n .len) limit && rowsTest roundSound roundZero noRound limit (n .len) (n .rounds))
+negotiationSound slots n =
+    (leb (n .len) slots && rowsTest roundSound roundZero noRound slots (n .len) (n .rounds))
     && (eqb (n .outcome) 0 || (leb 2 (n .outcome) && leb (n .outcome) 4))
 
 unfoldable pub negotiationZero : ℕ → Negotiation → Bool
-negotiationZero limit n =
-    ((allBelow limit (λ i. roundZero (getD (n .rounds) i noRound)) && eqb (n .deadline) 0) && eqb (n .len) 0) && eqb (n .outcome) 0
+negotiationZero slots n =
+    ((allBelow slots (λ i. roundZero (getD (n .rounds) i noRound)) && eqb (n .deadline) 0) && eqb (n .len) 0) && eqb (n .outcome) 0

@@ -1,8 +1,11 @@
 use terms::Terms;
 ghost use mathlib.Core.Path.{_≡_};
 ghost use Rattle.refusal.specs.Refusal.{first};
-ghost use Rattle.negotiation.specs.Rounds.{termsOf, roundOf, deadlineOf, statusOf, negotiable, addedOf, acceptedOf, closedAs, agreesOf, roundLimit, roundSound, roundZero, noNegotiation, negotiationSound, negotiationZero};
+ghost use Rattle.negotiation.specs.Rounds.{termsOf, roundOf, deadlineOf, statusOf, negotiable, addedOf, acceptedOf, closedAs, agreesOf, roundLimit, roundSlots, roundSound, roundZero, noNegotiation, negotiationSound, negotiationZero};
 ghost use Rattle.negotiation.specs.Whole.{Whole};
+
+// An offer has places for this many rounds, and gets at most so many.
+pub const ROUND_SLOTS: u32 = 12;
 
 pub const ROUND_LIMIT: u32 = 12;
 
@@ -157,10 +160,10 @@ impl Negotiation {
     }
 
     pub fn added(mut self, r: Round, window: u64) -> Negotiation
-        ensures { λ s. ⌜ s ≡ addedOf roundLimit self r window ⌝ }
+        ensures { λ s. ⌜ s ≡ addedOf roundSlots self r window ⌝ }
     {
         let n = self.len;
-        if ROUND_LIMIT <= n {
+        if ROUND_SLOTS <= n {
             return self;
         }
         let i = n as usize;
@@ -198,10 +201,10 @@ impl Negotiation {
 
     // Whether the originator's latest round has these terms.
     pub fn agrees(self, t: Terms) -> bool
-        ensures { λ r. ⌜ r ≡ agreesOf roundLimit self t ⌝ }
+        ensures { λ r. ⌜ r ≡ agreesOf roundSlots self t ⌝ }
     {
         let n = self.len;
-        if ROUND_LIMIT < n {
+        if ROUND_SLOTS < n {
             return false;
         }
         let mut i = n as usize;
@@ -218,7 +221,7 @@ impl Negotiation {
     }
 
     pub fn sound(self) -> bool
-        ensures { λ r. ⌜ r ≡ negotiationSound roundLimit self ⌝ }
+        ensures { λ r. ⌜ r ≡ negotiationSound roundSlots self ⌝ }
     {
         let n = self.len as usize;
         let mut ok = true;
@@ -235,8 +238,8 @@ impl Negotiation {
     }
 
     pub fn zero(self) -> bool
-        ensures tested { λ r. ⌜ r ≡ negotiationZero roundLimit self ⌝ }
-        ensures whole { λ r. ⌜ Whole roundLimit self ⌝ }
+        ensures tested { λ r. ⌜ r ≡ negotiationZero roundSlots self ⌝ }
+        ensures whole { λ r. ⌜ Whole roundSlots self ⌝ }
     {
         let mut ok = true;
         let mut i = 0;

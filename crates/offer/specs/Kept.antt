@@ -6,16 +6,18 @@ use lib.Dec.{leb, eqb}
 use lib.IntN.{ℤ}
 use borrow.Author.Tests.{eqb-true, ltb-false, le-leb, not-false}
 use Rattle.money.specs.Range.{inTotal, inInstallment, isZero}
-use Rattle.refusal.specs.Choice.{pick, pick-on, pick-off}
+use Rattle.refusal.specs.Choice.{pick}
+use Rattle.refusal.specs.ChoiceLaws.{pick-on, pick-off}
 use Rattle.refusal.specs.Refusal.{first}
-use Rattle.refusal.specs.Rule.{Rule, after, passed}
+use Rattle.refusal.specs.Rule.{Rule, after}
+use Rattle.refusal.specs.RuleLaws.{passed}
 use Rattle.terms.specs.Terms.{termsOk, countOk}
-use Rattle.terms.specs.Schedule.{listed}
+use Rattle.terms.specs.Schedule.{periodListed}
 use Rattle.terms.specs.Installment.{installmentOf}
 use Rattle.terms.specs.Laws.{terms-in, installment-valid, installment-in, made-ok}
 use Rattle.terms.specs.declared.Terms.{Terms}
 use Rattle.terms.specs.declared.Schedule.{Schedule}
-use Rattle.negotiation.specs.Rounds.{roundLimit, negotiable, roundOf, addedOf, acceptedOf, closedAs}
+use Rattle.negotiation.specs.Rounds.{roundLimit, roundSlots, negotiable, roundOf, addedOf, acceptedOf, closedAs}
 use Rattle.negotiation.specs.Laws.{stored, round-sound, added-sound, added-whole, closed-sound, closed-whole, accepted-sound, accepted-whole}
 use Rattle.negotiation.specs.declared.Negotiation.{Negotiation}
 use Rattle.account.specs.declared.Account.{Account}
@@ -32,7 +34,7 @@ unfolding settledDeal
 settled-kept now d h =
     let r = kept-ranges h in
     negotiation-kept (offer-kept h (withFunded now (withStatus 1 (d .offer))) (r .terms-in) (r .repaid-in) refl)
-    (acceptedOf (d .negotiation)) (accepted-sound roundLimit (d .negotiation) (r .rounds-in)) (accepted-whole roundLimit (d .negotiation) (h .whole))
+    (acceptedOf (d .negotiation)) (accepted-sound roundSlots (d .negotiation) (r .rounds-in)) (accepted-whole roundSlots (d .negotiation) (h .whole))
 
 -- ── A round more ──────────────────────────────────────────────────
 -- where one may be added there is room for it
@@ -40,12 +42,12 @@ pub room-left : (limit : ℕ) (n : Negotiation) (pending : Bool) (now round : �
 room-left limit n pending now round e = passed _ _ _ (passed _ _ _ (passed _ _ _ (passed _ _ _ e .1) .1) .1) .0
 
 round-kept : (now window : ℕ) (t : Terms) (party : ℕ) {d : Deal} → leb party 1 ≡ true → termsOk t ≡ true → leb roundLimit (d .negotiation .len) ≡ false → DealKept d
-    → DealKept (record { offer = d .offer; negotiation = addedOf roundLimit (d .negotiation) (roundOf now t party) window; schedule = d .schedule })
+    → DealKept (record { offer = d .offer; negotiation = addedOf roundSlots (d .negotiation) (roundOf now t party) window; schedule = d .schedule })
 round-kept now window t party {d} l k room h =
     let n = d .negotiation in
-    negotiation-kept h (addedOf roundLimit n (roundOf now t party) window)
-    (added-sound roundLimit n (h .whole) room (roundOf now t party) window (round-sound now t party l k) (kept-ranges h .rounds-in))
-    (added-whole roundLimit n (h .whole) room (roundOf now t party) window)
+    negotiation-kept h (addedOf roundSlots n (roundOf now t party) window)
+    (added-sound roundSlots n (h .whole) room (roundOf now t party) window (round-sound now t party l k) (kept-ranges h .rounds-in))
+    (added-whole roundSlots n (h .whole) room (roundOf now t party) window)
 
 pub amended-kept : (s : SeenDeal) (now caller : ℕ) (lender : Account) (t : Terms) (round window : ℕ)
     → DealKept (s .row) → first (amendChecks s now caller lender t round) ≡ 0 → DealKept (amendedDeal now window t (s .row))
@@ -102,7 +104,7 @@ pub close-keeps : (s : SeenDeal) (now caller : ℕ) (paper : SeenInvoice) → Ke
 close-keeps s now caller paper h e =
     let n = s .row .negotiation in
     let o = outcomeAt (standing s now) in
-    negotiation-kept h (closedAs o n) (closed-sound roundLimit o n (outcome-stored (standing s now)) (kept-ranges h .rounds-in)) (closed-whole roundLimit o n (h .whole))
+    negotiation-kept h (closedAs o n) (closed-sound roundSlots o n (outcome-stored (standing s now)) (kept-ranges h .rounds-in)) (closed-whole roundSlots o n (h .whole))
 
 -- an installment that is not 0, of valid terms
 stored-installment : (t : Terms) (count : ℕ) → termsOk t ≡ true → countOk count ≡ true → isZero (installmentOf t count .1) ≡ false
@@ -120,7 +122,7 @@ schedule-keeps s now caller count code first paper h e =
     let k = not-false (countOk count) (a .0) in
     let x = stored-installment t count (kept-ranges h .terms-in) k (z .0) in
     let made : Schedule = record { count = count; code = code; installment = installmentOf t count .1; first = first } in
-    schedule-kept h made (made-ok made k (not-false (listed code) (b .0)) x)
+    schedule-kept h made (made-ok made k (not-false (periodListed code) (b .0)) x)
 
 pub status-update-keeps : (s : SeenDeal) (allowed : Bool) (code : ℕ) → Keeps (s .row) (statusUpdateOf s allowed code)
 status-update-keeps s allowed code h e =

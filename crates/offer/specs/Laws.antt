@@ -11,7 +11,7 @@ use Rattle.terms.specs.Terms.{termsOk}
 use Rattle.terms.specs.Schedule.{scheduleOk, scheduleZero}
 use Rattle.terms.specs.declared.Terms.{Terms}
 use Rattle.terms.specs.declared.Schedule.{Schedule}
-use Rattle.negotiation.specs.Rounds.{roundLimit, noNegotiation, negotiationSound}
+use Rattle.negotiation.specs.Rounds.{roundSlots, noNegotiation, negotiationSound}
 use Rattle.negotiation.specs.Whole.{Whole}
 use Rattle.negotiation.specs.Laws.{negotiation-zero, none-zero, none-sound, none-whole}
 use Rattle.negotiation.specs.declared.Negotiation.{Negotiation}
@@ -61,7 +61,7 @@ parts : (d : Deal) → d .offer ≡ noOffer → d .negotiation ≡ noNegotiation
 parts d o n s i = record { offer = o i; negotiation = n i; schedule = s i }
 
 -- a zero row is the row of no offer, and that one is zero
-pub deal-zero : (d : Deal) → Whole roundLimit (d .negotiation) → dealZero d ≡ true → d ≡ noDeal
+pub deal-zero : (d : Deal) → Whole roundSlots (d .negotiation) → dealZero d ≡ true → d ≡ noDeal
 unfolding dealZero
 deal-zero d w e =
     let b = both _ _ e in
@@ -76,14 +76,14 @@ no-deal-zero = rw none-zero
 -- a row passes the test, and its negotiation has room for all its rounds
 pub record DealKept (d : Deal) : Type 0 where
   pub test : dealSound d ≡ true
-  pub whole : Whole roundLimit (d .negotiation)
+  pub whole : Whole roundSlots (d .negotiation)
 
 -- what that says of each part
 pub record Ranges (d : Deal) : Type 0 where
   pub terms-in : termsOk (d .offer .terms) ≡ true
   pub repaid-in : inTotal (d .offer .repaid) ≡ true
   pub status-in : leb (d .offer .status) 5 ≡ true
-  pub rounds-in : negotiationSound roundLimit (d .negotiation) ≡ true
+  pub rounds-in : negotiationSound roundSlots (d .negotiation) ≡ true
   pub schedule-in : scheduleZero (d .schedule) || scheduleOk (d .schedule) ≡ true
 
 pub kept-ranges : {d : Deal} → DealKept d → Ranges d
@@ -95,7 +95,7 @@ kept-ranges {d} h =
     let a = both _ _ (b .0) in
     record { terms-in = a .0; repaid-in = a .1; status-in = b .1; rounds-in = c .1; schedule-in = e .1 }
 
-pub ranges-kept : {d : Deal} → Ranges d → Whole roundLimit (d .negotiation) → DealKept d
+pub ranges-kept : {d : Deal} → Ranges d → Whole roundSlots (d .negotiation) → DealKept d
 unfolding dealSound
 ranges-kept {d} r w = record { test = rw (r .terms-in, r .repaid-in, r .status-in, r .rounds-in, r .schedule-in); whole = w }
 
@@ -110,7 +110,7 @@ module _ {d : Deal} (h : DealKept d) where
       let r = kept-ranges h in
       ranges-kept (record { terms-in = a; repaid-in = b; status-in = s; rounds-in = r .rounds-in; schedule-in = r .schedule-in }) (h .whole)
 
-  pub negotiation-kept : (n : Negotiation) → negotiationSound roundLimit n ≡ true → Whole roundLimit n → DealKept (withNegotiation n d)
+  pub negotiation-kept : (n : Negotiation) → negotiationSound roundSlots n ≡ true → Whole roundSlots n → DealKept (withNegotiation n d)
   negotiation-kept n s w =
       let r = kept-ranges h in
       ranges-kept (record { terms-in = r .terms-in; repaid-in = r .repaid-in; status-in = r .status-in; rounds-in = s; schedule-in = r .schedule-in }) w

@@ -4,17 +4,17 @@ use mathlib.Core.Bool.{Bool, not, _&&_, _||_}
 use lib.Dec.{leb, eqb}
 use lib.IntN.{ℤ, pos}
 use Rattle.money.specs.Range.{inTotal, isZero}
+use Rattle.terms.specs.Status.{statusPending, statusAccepted, statusListed}
 use Rattle.terms.specs.Terms.{termsOk}
 use Rattle.terms.specs.Schedule.{scheduleOk, scheduleZero}
 use Rattle.terms.specs.declared.Terms.{Terms}
 use Rattle.terms.specs.declared.Schedule.{Schedule}
-use Rattle.negotiation.specs.Rounds.{roundLimit, noNegotiation, roundOf, addedOf, acceptedOf, negotiationSound, negotiationZero}
+use Rattle.negotiation.specs.Rounds.{roundSlots, noNegotiation, roundOf, addedOf, acceptedOf, negotiationSound, negotiationZero}
 use Rattle.negotiation.specs.declared.Negotiation.{Negotiation}
 use Rattle.offer.specs.declared.Offer.{Offer}
 use Rattle.offer.specs.declared.Deal.{Deal}
 use Rattle.offer.specs.declared.DealPosted.{DealPosted}
 
--- status: 0 Pending, 1 Accepted, 2 Rejected, 3 Financed, 4 Repaid, 5 Defaulted
 abbrev pub noOffer : Offer
 noOffer = record { terms = record { amount = pos 0; rate = 0; duration = 0 }; invoice = 0; lender = 0; expires = 0; funded = 0; repaid = pos 0; status = 0 }
 
@@ -26,7 +26,7 @@ noDeal = record { offer = noOffer; negotiation = noNegotiation; schedule = noSch
 
 abbrev pub newDeal : ℕ → ℕ → Terms → ℕ → Deal
 newDeal lender invoice t expires = record {
-  offer = record { terms = t; invoice = invoice; lender = lender; expires = expires; funded = 0; repaid = pos 0; status = 0 };
+  offer = record { terms = t; invoice = invoice; lender = lender; expires = expires; funded = 0; repaid = pos 0; status = statusPending };
   negotiation = noNegotiation;
   schedule = noSchedule;
 }
@@ -54,7 +54,7 @@ abbrev pub withSchedule : Schedule → Deal → Deal
 withSchedule s d = record { offer = d .offer; negotiation = d .negotiation; schedule = s }
 
 abbrev pub pending : Deal → Bool
-pending d = eqb (d .offer .status) 0
+pending d = eqb (d .offer .status) statusPending
 
 -- expires_at ≠ 0 and now ≥ expires_at
 unfoldable pub expired : Offer → ℕ → Bool
@@ -62,20 +62,20 @@ expired o now = not (eqb (o .expires) 0) && leb (o .expires) now
 
 -- settlement: Accepted is stored if there are rounds and no outcome; status Accepted, funded_at = now
 unfoldable pub settledDeal : ℕ → Deal → Deal
-settledDeal now d = record { offer = withFunded now (withStatus 1 (d .offer)); negotiation = acceptedOf (d .negotiation); schedule = d .schedule }
+settledDeal now d = record { offer = withFunded now (withStatus statusAccepted (d .offer)); negotiation = acceptedOf (d .negotiation); schedule = d .schedule }
 
 -- amend: the offer takes the terms; the round is added
 unfoldable pub amendedDeal : ℕ → ℕ → Terms → Deal → Deal
-amendedDeal now window t d = record { offer = withTerms t (d .offer); negotiation = addedOf roundLimit (d .negotiation) (roundOf now t 0) window; schedule = d .schedule }
+amendedDeal now window t d = record { offer = withTerms t (d .offer); negotiation = addedOf roundSlots (d .negotiation) (roundOf now t 0) window; schedule = d .schedule }
 
 -- counter: the round is added
 unfoldable pub counteredDeal : ℕ → ℕ → Terms → Deal → Deal
-counteredDeal now window t d = record { offer = d .offer; negotiation = addedOf roundLimit (d .negotiation) (roundOf now t 1) window; schedule = d .schedule }
+counteredDeal now window t d = record { offer = d .offer; negotiation = addedOf roundSlots (d .negotiation) (roundOf now t 1) window; schedule = d .schedule }
 
 -- ── What a sound book holds of it ─────────────────────────────────
 unfoldable pub dealSound : Deal → Bool
 dealSound d =
-    (((termsOk (d .offer .terms) && inTotal (d .offer .repaid)) && leb (d .offer .status) 5) && negotiationSound roundLimit (d .negotiation))
+    (((termsOk (d .offer .terms) && inTotal (d .offer .repaid)) && statusListed (d .offer .status)) && negotiationSound roundSlots (d .negotiation))
     && (scheduleZero (d .schedule) || scheduleOk (d .schedule))
 
 unfoldable pub offerZero : Offer → Bool
@@ -84,7 +84,7 @@ offerZero o =
     && eqb (o .funded) 0) && isZero (o .repaid)) && eqb (o .status) 0
 
 unfoldable pub dealZero : Deal → Bool
-dealZero d = (offerZero (d .offer) && negotiationZero roundLimit (d .negotiation)) && scheduleZero (d .schedule)
+dealZero d = (offerZero (d .offer) && negotiationZero roundSlots (d .negotiation)) && scheduleZero (d .schedule)
 
 abbrev pub posted : ℕ → Deal → DealPosted
 posted n d = record { answer = n; row = d }

@@ -2,20 +2,21 @@
 use Prim.Native.Nat.{ℕ}
 use mathlib.Core.Bool.{Bool, not, _&&_, _||_}
 use mathlib.Core.List.{List, [], _∷_, _++_}
-use lib.Dec.{leb, ltb, eqb}
+use lib.Dec.{leb, eqb}
 use lib.IntN.{ℤ}
 use Rattle.money.specs.Range.{inTotal, isZero}
 use Rattle.refusal.specs.Choice.{pick}
 use Rattle.refusal.specs.Refusal.{Check, _gives_, blacklisted, invalidInput, notFound, alreadyExists, unauthorized, invalidTransition, offerExpired, outOfRange, noRoom}
 use Rattle.refusal.specs.Rule.{Rule}
+use Rattle.terms.specs.Status.{statusRejected, statusRepaid, statusDefaulted, statusListed}
 use Rattle.terms.specs.Terms.{termsOk, countOk}
-use Rattle.terms.specs.Schedule.{listed}
+use Rattle.terms.specs.Schedule.{periodListed}
 use Rattle.terms.specs.Installment.{installmentOf}
 use Rattle.terms.specs.declared.Terms.{Terms}
 use Rattle.negotiation.specs.Rounds.{roundLimit, statusOf, negotiable, closedAs}
 use Rattle.account.specs.declared.Account.{Account}
 use Rattle.account.specs.declared.SeenAccount.{SeenAccount}
-use Rattle.invoice.specs.Invoice.{covers}
+use Rattle.invoice.specs.Invoice.{invoicePending, covers}
 use Rattle.invoice.specs.declared.SeenInvoice.{SeenInvoice}
 use Rattle.offer.specs.declared.Deal.{Deal}
 use Rattle.offer.specs.declared.SeenDeal.{SeenDeal}
@@ -27,7 +28,7 @@ createChecks caller lender t paper exists full =
     (lender .blacklisted gives blacklisted)
     ∷ (not (termsOk t) gives invalidInput)
     ∷ (not (paper .here) gives notFound)
-    ∷ (not (eqb (paper .row .status) 0) gives invalidTransition)
+    ∷ (not (eqb (paper .row .status) invoicePending) gives invalidTransition)
     ∷ (eqb (paper .row .originator) caller gives invalidInput)
     ∷ (not (covers (paper .row) t) gives invalidInput)
     ∷ (exists gives alreadyExists)
@@ -42,7 +43,7 @@ withdrawOf s caller = record {
       ∷ (not (eqb (s .row .offer .lender) caller) gives unauthorized)
       ∷ (not (pending (s .row)) gives invalidTransition)
       ∷ [];
-  done = withOffer (withStatus 2 (s .row .offer)) (s .row);
+  done = withOffer (withStatus statusRejected (s .row .offer)) (s .row);
 }
 
 -- Reject: 4; 7; invoice 4; not originator 6
@@ -54,7 +55,7 @@ rejectOf s caller paper = record {
       ∷ (not (paper .here) gives notFound)
       ∷ (not (eqb (paper .row .originator) caller) gives unauthorized)
       ∷ [];
-  done = withOffer (withStatus 2 (s .row .offer)) (s .row);
+  done = withOffer (withStatus statusRejected (s .row .offer)) (s .row);
 }
 
 -- Accept: 4; not Pending 7; expiry 8; invoice 4; 6; invoice not Pending 7; then settle
@@ -65,7 +66,7 @@ acceptChecks s now caller paper =
     ∷ (expired (s .row .offer) now gives offerExpired)
     ∷ (not (paper .here) gives notFound)
     ∷ (not (eqb (paper .row .originator) caller) gives unauthorized)
-    ∷ (not (eqb (paper .row .status) 0) gives invalidTransition)
+    ∷ (not (eqb (paper .row .status) invoicePending) gives invalidTransition)
     ∷ []
 
 -- Amend: caller blacklisted 2; terms 3; 4; not lender 6; negotiable
@@ -91,7 +92,7 @@ counterChecks s now caller originator t round paper =
 abbrev pub agreementChecks : Deal → ℕ → SeenInvoice → SeenAccount → SeenAccount → List Check
 agreementChecks d now paper lender originator =
     (not (paper .here) gives notFound)
-    ∷ (not (eqb (paper .row .status) 0) gives invalidTransition)
+    ∷ (not (eqb (paper .row .status) invoicePending) gives invalidTransition)
     ∷ (expired (d .offer) now gives offerExpired)
     ∷ (not (lender .here) gives notFound)
     ∷ (lender .row .blacklisted gives blacklisted)
@@ -126,9 +127,9 @@ abbrev pub scheduleChecks : SeenDeal → ℕ → ℕ → ℕ → ℕ → ℕ →
 scheduleChecks s now caller count code first paper =
     (not (countOk count) gives invalidInput)
     ∷ (leb first now gives invalidInput)
-    ∷ (not (listed code) gives invalidInput)
+    ∷ (not (periodListed code) gives invalidInput)
     ∷ (not (s .here) gives notFound)
-    ∷ ((eqb (s .row .offer .status) 2 || eqb (s .row .offer .status) 4) || eqb (s .row .offer .status) 5 gives invalidTransition)
+    ∷ ((eqb (s .row .offer .status) statusRejected || eqb (s .row .offer .status) statusRepaid) || eqb (s .row .offer .status) statusDefaulted gives invalidTransition)
     ∷ (not (paper .here) gives notFound)
     ∷ (not (eqb (s .row .offer .lender) caller || eqb (paper .row .originator) caller) gives unauthorized)
     ∷ []
@@ -142,7 +143,7 @@ scheduleOf s now caller count code first paper = record {
 -- Repayment's first update: caller 6; unlisted code 3; row 4. It sets the status
 abbrev pub statusUpdateOf : SeenDeal → Bool → ℕ → Rule Deal
 statusUpdateOf s allowed code = record {
-  checks = (not allowed gives unauthorized) ∷ (ltb 5 code gives invalidInput) ∷ (not (s .here) gives notFound) ∷ [];
+  checks = (not allowed gives unauthorized) ∷ (not (statusListed code) gives invalidInput) ∷ (not (s .here) gives notFound) ∷ [];
   done = withOffer (withStatus code (s .row .offer)) (s .row);
 }
 

@@ -15,23 +15,10 @@ ghost use Rattle.refusal.specs.Refusal.{first};
 ghost use Rattle.refusal.specs.Refusal as Refusal;
 ghost use Rattle.refusal.specs.Rule.{answered};
 ghost use Rattle.terms.specs.Installment.{installmentOf};
-ghost use Rattle.negotiation.specs.Rounds.{roundLimit};
+ghost use Rattle.negotiation.specs.Rounds.{roundSlots};
 ghost use Rattle.negotiation.specs.Whole.{Whole};
 ghost use Rattle.offer.specs.Offer.{noOffer, offerZero, noDeal, newDeal, dealSound, dealZero, expired, posted, settledDeal, amendedDeal, counteredDeal};
 ghost use Rattle.offer.specs.Rules.{createChecks, withdrawOf, rejectOf, acceptChecks, amendChecks, counterChecks, agreementChecks, outcomeAt, closeOf, scheduleChecks, scheduleOf, statusUpdateOf, repaidUpdateOf};
-
-// Where an offer stands.
-pub const PENDING: u32 = 0;
-
-pub const ACCEPTED: u32 = 1;
-
-pub const REJECTED: u32 = 2;
-
-pub const FINANCED: u32 = 3;
-
-pub const REPAID: u32 = 4;
-
-pub const DEFAULTED: u32 = 5;
 
 pub struct Offer {
     pub terms: Terms,
@@ -83,7 +70,7 @@ impl Offer {
             expires: 0,
             funded: 0,
             repaid: 0,
-            status: PENDING,
+            status: terms::PENDING,
         }
     }
 
@@ -141,7 +128,7 @@ impl Deal {
                 expires,
                 funded: 0,
                 repaid: 0,
-                status: PENDING,
+                status: terms::PENDING,
             },
             negotiation: n,
             schedule: Schedule {
@@ -166,12 +153,12 @@ impl Deal {
         let p = self.schedule;
         let d = terms::schedule_zero(p);
         let e = terms::schedule_ok(p);
-        a & b & (s <= DEFAULTED) & c & (d | e)
+        a & b & (s <= terms::DEFAULTED) & c & (d | e)
     }
 
     pub fn zero(self) -> bool
         ensures tested { λ r. ⌜ r ≡ dealZero self ⌝ }
-        ensures whole { λ r. ⌜ Whole roundLimit (self .negotiation) ⌝ }
+        ensures whole { λ r. ⌜ Whole roundSlots (self .negotiation) ⌝ }
     {
         let o = self.offer;
         let a = o.zero();
@@ -189,7 +176,7 @@ impl Deal {
         let n = self.negotiation;
         let next = n.accepted();
         let mut o = self.offer;
-        o.status = ACCEPTED;
+        o.status = terms::ACCEPTED;
         o.funded = now;
         self.offer = o;
         self.negotiation = next;
@@ -330,17 +317,17 @@ impl SeenDeal {
         if !self.here {
             return refused(row, refusal::NOT_FOUND);
         }
-        let mut o = row.offer;
-        let l = o.lender;
-        if !(l == caller) {
+        let mut withdrawn = row.offer;
+        let lender = withdrawn.lender;
+        if !(lender == caller) {
             return refused(row, refusal::UNAUTHORIZED);
         }
-        let s = o.status;
-        if !(s == PENDING) {
+        let status = withdrawn.status;
+        if !(status == terms::PENDING) {
             return refused(row, refusal::INVALID_TRANSITION);
         }
-        o.status = REJECTED;
-        row.offer = o;
+        withdrawn.status = terms::REJECTED;
+        row.offer = withdrawn;
         DealPosted { answer: 0, row }
     }
 
@@ -351,21 +338,21 @@ impl SeenDeal {
         if !self.here {
             return refused(row, refusal::NOT_FOUND);
         }
-        let mut o = row.offer;
-        let s = o.status;
-        if !(s == PENDING) {
+        let mut rejected = row.offer;
+        let status = rejected.status;
+        if !(status == terms::PENDING) {
             return refused(row, refusal::INVALID_TRANSITION);
         }
         if !paper.here {
             return refused(row, refusal::NOT_FOUND);
         }
-        let i = paper.row;
-        let g = i.originator;
-        if !(g == caller) {
+        let invoice = paper.row;
+        let originator = invoice.originator;
+        if !(originator == caller) {
             return refused(row, refusal::UNAUTHORIZED);
         }
-        o.status = REJECTED;
-        row.offer = o;
+        rejected.status = terms::REJECTED;
+        row.offer = rejected;
         DealPosted { answer: 0, row }
     }
 
@@ -379,7 +366,7 @@ impl SeenDeal {
         let d = self.row;
         let o = d.offer;
         let s = o.status;
-        if !(s == PENDING) {
+        if !(s == terms::PENDING) {
             return refusal::INVALID_TRANSITION;
         }
         if o.expired(now) {
@@ -421,7 +408,7 @@ impl SeenDeal {
         }
         let s = o.status;
         let n = d.negotiation;
-        n.refusal(s == PENDING, now, round)
+        n.refusal(s == terms::PENDING, now, round)
     }
 
     // The number of what stands against the originator's round, 0 where nothing does.
@@ -457,7 +444,7 @@ impl SeenDeal {
         let o = d.offer;
         let s = o.status;
         let n = d.negotiation;
-        n.refusal(s == PENDING, now, round)
+        n.refusal(s == terms::PENDING, now, round)
     }
 
     pub fn close(self, now: u64, caller: u64, paper: SeenInvoice) -> DealPosted
@@ -471,7 +458,7 @@ impl SeenDeal {
             return refused(row, refusal::INVALID_TRANSITION);
         }
         let p = o.status;
-        let s = n.status(p == PENDING, now);
+        let s = n.status(p == terms::PENDING, now);
         if s == negotiation::NONE {
             return refused(row, refusal::NOT_FOUND);
         }
@@ -520,7 +507,7 @@ impl SeenDeal {
         let d = self.row;
         let o = d.offer;
         let s = o.status;
-        if (s == REJECTED) | (s == REPAID) | (s == DEFAULTED) {
+        if (s == terms::REJECTED) | (s == terms::REPAID) | (s == terms::DEFAULTED) {
             return refusal::INVALID_TRANSITION;
         }
         if !paper.here {
@@ -574,7 +561,7 @@ impl SeenDeal {
         if !allowed {
             return refused(row, refusal::UNAUTHORIZED);
         }
-        if DEFAULTED < code {
+        if !(code <= terms::DEFAULTED) {
             return refused(row, refusal::INVALID_INPUT);
         }
         if !self.here {

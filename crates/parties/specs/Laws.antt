@@ -3,7 +3,8 @@ use Prim.Native.Nat.{ℕ}
 use mathlib.Core.Path.{_≡_, refl, sym, ap, _∙_}
 use mathlib.Core.Bool.{Bool, true, false, not, cond}
 use borrow.Author.Tests.{not-true, not-false}
-use Rattle.refusal.specs.Choice.{pick, pick-on, pick-off}
+use Rattle.refusal.specs.Choice.{pick}
+use Rattle.refusal.specs.ChoiceLaws.{pick-on, pick-off}
 use lib.Dec.{eqb}
 use Rattle.refusal.specs.Rule.{answered}
 use Rattle.terms.specs.declared.Terms.{Terms}

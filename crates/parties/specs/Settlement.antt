@@ -11,14 +11,14 @@ use Rattle.account.specs.declared.SeenAccount.{SeenAccount}
 use Rattle.account.specs.Rules.{debitOf, creditOf, acceptOf}
 use Rattle.account.specs.Seen.{seenAccount}
 
-abbrev pub seenAt : Table Account → ℕ → SeenAccount
-seenAt t a = seenAccount (find t a)
+abbrev pub seenIn : Table Account → ℕ → SeenAccount
+seenIn t a = seenAccount (find t a)
 
 -- a rule for the row of one account, which must be there (4)
 abbrev pub onRow : ℕ → (Account → Rule Account) → Table Account → Rule (Table Account)
 onRow a f t = record {
-  checks = (not (seenAt t a .here) gives notFound) ∷ f (seenAt t a .row) .checks;
-  done = adjust t a (λ old. f (seenAt t a .row) .done);
+  checks = (not (seenIn t a .here) gives notFound) ∷ f (seenIn t a .row) .checks;
+  done = adjust t a (λ old. f (seenIn t a .row) .done);
 }
 
 -- Settlement's transfer, lender to originator: allowance 9, lender balance 10, receiver 11, debit before credit if both are one row; then the lender's accepted total grows, else 11

@@ -4,8 +4,10 @@ use mathlib.Core.Path.{_≡_, refl, sym, ap, _∙_}
 use mathlib.Core.Bool.{Bool, true, false, not, cond}
 use lib.Dec.{eqb}
 use borrow.Author.Tests.{not-true, not-false, eqb-true, eqb-false}
-use Rattle.refusal.specs.Refusal.{number, notFound, first, fails, passes}
-use Rattle.refusal.specs.Rule.{Rule, next, answered, refused, accepted}
+use Rattle.refusal.specs.Refusal.{number, notFound, first}
+use Rattle.refusal.specs.RefusalLaws.{fails, passes}
+use Rattle.refusal.specs.Rule.{Rule, next, answered}
+use Rattle.refusal.specs.RuleLaws.{refused, accepted}
 use Rattle.refusal.specs.Chain.{after-done, next-stops, next-goes}
 use Rattle.terms.specs.declared.Terms.{Terms}
 use Rattle.table.specs.Tables.{Found, absent, here, Table, find, adjust, fmap}
@@ -16,13 +18,13 @@ use Rattle.account.specs.declared.SeenAccount.{SeenAccount}
 use Rattle.account.specs.declared.AccountPosted.{AccountPosted}
 use Rattle.account.specs.Rules.{posted, debitOf, creditOf, acceptOf}
 use Rattle.table.specs.declared.Named.the-variants.{Id}
-use Rattle.parties.specs.Settlement.{seenAt, onRow, settleAccounts}
+use Rattle.parties.specs.Settlement.{seenIn, onRow, settleAccounts}
 use Rattle.parties.specs.declared.Parties.{Parties}
 use Rattle.parties.specs.Parties.{putFirst, putSecond, partiesOf, partied, postedParties}
 use Rattle.parties.specs.Laws.{first-put, second-put}
 
 -- the number of a step on the row s, which is the one of t at i
-module _ (t : Table Account) (i : ℕ) (f : Account → Rule Account) {s : SeenAccount} (e : s ≡ seenAt t i) where
+module _ (t : Table Account) (i : ℕ) (f : Account → Rule Account) {s : SeenAccount} (e : s ≡ seenIn t i) where
   pub row-missing : not (s .here) ≡ true → number notFound ≡ first (onRow i f t .checks)
   row-missing n = fails notFound _ (ap (λ (z : SeenAccount). not (z .here)) (sym e) ∙ n)
 
@@ -34,7 +36,7 @@ module _ (t : Table Account) (i : ℕ) (f : Account → Rule Account) {s : SeenA
     pub row-answer : p .answer ≡ first (onRow i f t .checks)
     row-answer = passes notFound _ (ap (λ (z : SeenAccount). not (z .here)) (sym e) ∙ y) (answer-is ∙ ap (λ (z : SeenAccount). first (f (z .row) .checks)) e)
 
-    pub row-done : p .answer ≡ 0 → p .row ≡ f (seenAt t i .row) .done
+    pub row-done : p .answer ≡ 0 → p .row ≡ f (seenIn t i .row) .done
     unfolding answered
     row-done z = ap (λ (w : AccountPosted). w .row) q ∙ after-done (f (s .row)) (s .row) (sym answer-is ∙ z) ∙ ap (λ (w : SeenAccount). f (w .row) .done) e
 
@@ -49,10 +51,10 @@ accept x r = acceptOf r x
 
 -- what is seen after one of the rows was put back
 module _ (a b : ℕ) (t : Table Account) {p p′ : Parties} (q : AccountPosted) (e : p ≡ partiesOf a b t) where
-  pub first-step : (f : Account → Rule Account) → p′ ≡ putFirst p (q .row) → q .row ≡ f (seenAt t a .row) .done → p′ ≡ partiesOf a b (onRow a f t .done)
+  pub first-step : (f : Account → Rule Account) → p′ ≡ putFirst p (q .row) → q .row ≡ f (seenIn t a .row) .done → p′ ≡ partiesOf a b (onRow a f t .done)
   first-step f h d = h ∙ ap (λ z. putFirst z (q .row)) e ∙ ap (putFirst (partiesOf a b t)) d ∙ first-put (Id a) (Id b) t _
 
-  pub second-step : (f : Account → Rule Account) → p′ ≡ putSecond p (q .row) → q .row ≡ f (seenAt t b .row) .done → p′ ≡ partiesOf a b (onRow b f t .done)
+  pub second-step : (f : Account → Rule Account) → p′ ≡ putSecond p (q .row) → q .row ≡ f (seenIn t b .row) .done → p′ ≡ partiesOf a b (onRow b f t .done)
   second-step f h d = h ∙ ap (λ z. putSecond z (q .row)) e ∙ ap (putSecond (partiesOf a b t)) d ∙ second-put (Id a) (Id b) t _
 
 -- where a step refuses, the answer is its own and nothing is changed; where all pass, what is seen is the last one's
@@ -89,7 +91,7 @@ pub zero-of : {n : ℕ} → not (eqb n 0) ≡ false → n ≡ 0
 zero-of r = eqb-true _ _ (not-false _ r)
 
 -- a row that is there stays there
-pub still-here : (t : Table Account) (i j : ℕ) (g : Account → Account) → not (seenAt t i .here) ≡ false → not (seenAt (adjust t j g) i .here) ≡ false
+pub still-here : (t : Table Account) (i j : ℕ) (g : Account → Account) → not (seenIn t i .here) ≡ false → not (seenIn (adjust t j g) i .here) ≡ false
 unfolding fmap
 still-here t i j g = rw find-adjust (go (eqb j i) (find t i))
   where

@@ -39,8 +39,8 @@ abbrev pub offersIn : Model → Table Offer
 offersIn m = map (λ e. (e .0, e .1 .offer)) (m .offers)
 
 -- the answer, and the buffer after it
-abbrev pub listed : Book → Wanted → List ℕ → Reply × List ℕ
-listed b w l = answered told ([], l) (onSound b (λ m. listRule w (offersIn m) l))
+abbrev pub listRead : Book → Wanted → List ℕ → Reply × List ℕ
+listRead b w l = answered told ([], l) (onSound b (λ m. listRule w (offersIn m) l))
 
 -- ── `get_lender_active_total` sums Accepted and Financed. An unopened lender's figures are zeros ──
 abbrev pub activeRead : ℕ → Model → Rule (List ℕ)

@@ -18,7 +18,7 @@ ghost use Rattle.negotiation.specs.Rounds.{noNegotiation};
 ghost use Rattle.lists.specs.Listing.{listedSays};
 ghost use Rattle.lists.specs.declared.Wanted.the-variants.{Invoice, Lender, Status, PendingOf, All, Page};
 ghost use Rattle.query.specs.Numbers.{offersOnly, scheduleNumbers, lenderNumbers, totalsNumbers, dueIn, flag};
-ghost use Rattle.query.specs.Reads.{listed, asked, onSound, offerRead, scheduleRead, negotiationRead, deadlineRead, statusRead, dueRead, lenderRead, activeRead, countRead, totalsRead, windowRead, seatsRead, thresholdRead, pauseRead};
+ghost use Rattle.query.specs.Reads.{listRead, asked, onSound, offerRead, scheduleRead, negotiationRead, deadlineRead, statusRead, dueRead, lenderRead, activeRead, countRead, totalsRead, windowRead, seatsRead, thresholdRead, pauseRead};
 ghost use Rattle.query.specs.Says.{numberTold, numberSays, offerSays, scheduleSays, lenderSays, totalsSays, negotiationTold};
 
 // The numbers of a schedule: how many installments, the code of their period, the amount of each, when the first is due.
@@ -139,7 +139,7 @@ fn offers_only(t: Offers) -> OfferRows
 }
 
 pub fn list(book: Book, w: Wanted, out: &mut [u64]) -> Listed
-    ensures { λ r. ⌜ (listedSays r, now (out .exit)) ≡ listed book w (now (out .entry)) ⌝ }
+    ensures { λ r. ⌜ (listedSays r, now (out .exit)) ≡ listRead book w (now (out .entry)) ⌝ }
 {
     if !book.sound() {
         return Listed::Unsound;
@@ -150,37 +150,37 @@ pub fn list(book: Book, w: Wanted, out: &mut [u64]) -> Listed
 }
 
 pub fn get_offers_by_invoice(book: Book, invoice: u64, out: &mut [u64]) -> Listed
-    ensures { λ r. ⌜ (listedSays r, now (out .exit)) ≡ listed book (Invoice invoice) (now (out .entry)) ⌝ }
+    ensures { λ r. ⌜ (listedSays r, now (out .exit)) ≡ listRead book (Invoice invoice) (now (out .entry)) ⌝ }
 {
     list(book, Wanted::Invoice(invoice), out)
 }
 
 pub fn get_offers_by_lender(book: Book, lender: u64, out: &mut [u64]) -> Listed
-    ensures { λ r. ⌜ (listedSays r, now (out .exit)) ≡ listed book (Lender lender) (now (out .entry)) ⌝ }
+    ensures { λ r. ⌜ (listedSays r, now (out .exit)) ≡ listRead book (Lender lender) (now (out .entry)) ⌝ }
 {
     list(book, Wanted::Lender(lender), out)
 }
 
 pub fn get_offers_by_status(book: Book, status: u32, out: &mut [u64]) -> Listed
-    ensures { λ r. ⌜ (listedSays r, now (out .exit)) ≡ listed book (Status status) (now (out .entry)) ⌝ }
+    ensures { λ r. ⌜ (listedSays r, now (out .exit)) ≡ listRead book (Status status) (now (out .entry)) ⌝ }
 {
     list(book, Wanted::Status(status), out)
 }
 
 pub fn get_pending_offers_by_invoice(book: Book, invoice: u64, out: &mut [u64]) -> Listed
-    ensures { λ r. ⌜ (listedSays r, now (out .exit)) ≡ listed book (PendingOf invoice) (now (out .entry)) ⌝ }
+    ensures { λ r. ⌜ (listedSays r, now (out .exit)) ≡ listRead book (PendingOf invoice) (now (out .entry)) ⌝ }
 {
     list(book, Wanted::PendingOf(invoice), out)
 }
 
 pub fn get_all_offers(book: Book, out: &mut [u64]) -> Listed
-    ensures { λ r. ⌜ (listedSays r, now (out .exit)) ≡ listed book All (now (out .entry)) ⌝ }
+    ensures { λ r. ⌜ (listedSays r, now (out .exit)) ≡ listRead book All (now (out .entry)) ⌝ }
 {
     list(book, Wanted::All, out)
 }
 
 pub fn get_offers_paginated(book: Book, offset: u64, limit: u64, out: &mut [u64]) -> Listed
-    ensures { λ r. ⌜ (listedSays r, now (out .exit)) ≡ listed book (Page offset limit) (now (out .entry)) ⌝ }
+    ensures { λ r. ⌜ (listedSays r, now (out .exit)) ≡ listRead book (Page offset limit) (now (out .entry)) ⌝ }
 {
     list(book, Wanted::Page(offset, limit), out)
 }
@@ -266,7 +266,7 @@ pub fn get_negotiation_status(book: Book, now: u64, id: u64) -> NumberAnswer
     let o = d.offer;
     let status = o.status;
     let g = d.negotiation;
-    let n = g.status(status == offer::PENDING, now);
+    let n = g.status(status == terms::PENDING, now);
     NumberAnswer::Number(n as u64)
 }
 

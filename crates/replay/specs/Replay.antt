@@ -4,23 +4,14 @@ use Prim.Native.Nat.{ℕ, zero, suc, _+_}
 use lib.Dec.{eqb}
 use lib.ListN.{length}
 use Rattle.refusal.specs.Choice.{pick}
-use Rattle.refusal.specs.Refusal.{number, journalMalformed, first}
-use Rattle.refusal.specs.Rule.{after}
-use Rattle.command.specs.declared.Command.{Command}
+use Rattle.refusal.specs.Refusal.{number, journalMalformed}
 use Rattle.journal.specs.Answers.{Reading, found, refused, ended}
 use Rattle.journal.specs.Format.{openingOf, readAt}
 use Rattle.book.specs.declared.Book.{Book}
 use Rattle.rules.specs.Model.{Model, freshModel}
-use Rattle.rules.specs.Rules.{commanded}
+use Rattle.soundness.specs.Played.{answerTo, obeyed}
 use Rattle.book.specs.Stored.{stored}
 use Rattle.replay.specs.declared.Outcome.{Outcome}
-
--- a command's answer, and the book after it
-abbrev pub answerTo : Model → Command → ℕ
-answerTo m c = first (commanded m c .checks)
-
-abbrev pub obeyed : Model → Command → Model
-obeyed m c = after m (commanded m c)
 
 -- replay stops at the journal's end, at a header that is none, or at a malformed record, whose tag is at an offset
 pub data Stop : Type 0 where

@@ -9,7 +9,8 @@ use Rattle.journal.specs.Answers.{Reading, found, refused, ended}
 use Rattle.journal.specs.Format.{readAt}
 use Rattle.journal.specs.Ahead.{Goes, goes}
 use Rattle.rules.specs.Model.{Model}
-use Rattle.replay.specs.Replay.{atEnd, atRecord, Replayed, answerTo, obeyed, halted, heard, follow, replayBy, replayFrom}
+use Rattle.replay.specs.Replay.{atEnd, atRecord, Replayed, halted, heard, follow, replayBy, replayFrom}
+use Rattle.soundness.specs.Played.{answerTo, obeyed}
 
 -- the rest counts only past the place
 follow-same : (s : List ℕ) (at : ℕ) (m : Model) (f g : ℕ → Model → Replayed) → ((next : ℕ) (x : Model) → at < next → f next x ≡ g next x)

@@ -7,7 +7,8 @@ use native.Mathlib.Omega.{arith}
 use lib.Dec.{eqb, leb}
 use lib.ListN.{length, length-append}
 use borrow.Author.Tests.{eqb-true, leb-true, le-leb}
-use Rattle.refusal.specs.Choice.{pick, pick-on}
+use Rattle.refusal.specs.Choice.{pick}
+use Rattle.refusal.specs.ChoiceLaws.{pick-on}
 use Rattle.refusal.specs.Refusal.{Refusal, paused, blacklisted, invalidInput, notFound, alreadyExists, unauthorized, invalidTransition, offerExpired, allowanceShort, balanceShort, outOfRange, noRoom, journalMalformed, bufferShort, bookUnsound, number, Check, first}
 use Rattle.refusal.specs.Rule.{after}
 use Rattle.table.specs.Tables.{keys}
@@ -24,10 +25,12 @@ use Rattle.command.specs.Shape.{Shape, shapeOf}
 use Rattle.rules.specs.Rules.{ruled}
 use Rattle.soundness.specs.Sound.{ModelSound, fresh-model}
 use Rattle.soundness.specs.Keeps.{stays-sound}
-use Rattle.replay.specs.Replay.{answerTo, obeyed, atHeader, halted, follow, replayBy, replayFrom, replayOf}
+use Rattle.replay.specs.Replay.{atHeader, halted, follow, replayBy, replayFrom, replayOf}
+use Rattle.soundness.specs.Played.{answerTo, obeyed}
 use Rattle.replay.specs.declared.Listed.{Listed}
 use Rattle.replay.specs.declared.Listed.the-variants.{Done}
-use Rattle.replay.specs.Text.{bookText, textOf, listingOf, listed, listedIn, shownIn}
+use Rattle.replay.specs.Text.{bookText, textOf, listingOf, listingSays}
+use Rattle.sheet.specs.Shown.{listedIn, shownIn}
 use Rattle.replay.specs.TextLaws.{text-heard, text-bad, text-bare, text-end}
 use Rattle.replay.specs.Ahead.{opened}
 use Rattle.replay.specs.Shown.{in-room, same-listed}
@@ -124,7 +127,7 @@ module _ (s : List ℕ) (short : length s < 18446744073709551616) where
 
 -- a buffer with the room for it, as the code tests that: k bytes, and past them as many as the journal has
 pub at-once : (s : List ℕ) {k : ℕ} {l n : List ℕ} {r : Pen} → Wrote true (listingOf s) l (penAt 0 false) n r → length s < 18446744073709551616 → k ≤ length l → leb (length s) (length l - k) ≡ true → extra ≤ k
-    → (listed (Done (r .at)) ≡ listedIn (listingOf s) l) × (n ≡ shownIn (listingOf s) l)
+    → (listingSays (Done (r .at)) ≡ listedIn (listingOf s) l) × (n ≡ shownIn (listingOf s) l)
 unfolding listingRoom
 at-once s {k} {l} w h m e x = in-room (omega (arith, listing-most s h, leb-true (length s) (length l - k) e)) w
 
@@ -137,7 +140,7 @@ pub desk-most : {k : ℕ} (s : List ℕ) → k ≡ length (listingOf s) → leng
 desk-most s e h = omega (arith, desk-room s h)
 
 -- so `listing` is never short there
-pub never-short : (s l : List ℕ) {x : Listed} → length s ≤ 32768 → length l ≡ 40960 → listed x ≡ listedIn (listingOf s) l → x ≡ Done (length (listingOf s))
+pub never-short : (s l : List ℕ) {x : Listed} → length s ≤ 32768 → length l ≡ 40960 → listingSays x ≡ listedIn (listingOf s) l → x ≡ Done (length (listingOf s))
 unfolding listedIn
 never-short s l {x} h e p =
     same-listed x (Done (length (listingOf s))) (p ∙ pick-on _ _ (le-leb (length (listingOf s)) (length l) (omega (arith, desk-room s h))))

@@ -7,22 +7,23 @@ use native.Mathlib.Omega.{arith}
 use lib.Dec.{leb}
 use lib.ListN.{length}
 use borrow.Author.Tests.{lt-leb, le-leb, ltb-true, ltb-false}
-use Rattle.refusal.specs.Choice.{on, off}
+use Rattle.refusal.specs.ChoiceLaws.{on, off}
 use Rattle.sheet.specs.declared.Pen.{Pen}
 use Rattle.sheet.specs.Sheet.{Wrote, penAt}
 use Rattle.sheet.specs.Laid.{dry, wet}
 use Rattle.replay.specs.declared.Listed.{Listed}
 use Rattle.replay.specs.declared.Listed.the-variants.{Done, Short}
-use Rattle.replay.specs.Text.{listed, listedIn, shownIn}
+use Rattle.replay.specs.Text.{listingSays}
+use Rattle.sheet.specs.Shown.{listedIn, shownIn}
 
-pub no-space : {t l m : List ℕ} {q : Pen} → Wrote false t l (penAt 0 false) m q → q .short ≡ true → (listed Short ≡ listedIn t l) × (m ≡ shownIn t l)
+pub no-space : {t l m : List ℕ} {q : Pen} → Wrote false t l (penAt 0 false) m q → q .short ≡ true → (listingSays Short ≡ listedIn t l) × (m ≡ shownIn t l)
 unfolding listedIn shownIn
 no-space {t} {l} w h =
     let e : leb (length t) (length l) ≡ false = lt-leb (length t) (length l) (ltb-true (length l) (length t) (sym (dry w .1) ∙ h)) in
     (off _ e refl, off _ e (dry w .0))
 
 -- the text fits, and it was written at once
-pub in-room : {t l n : List ℕ} {r : Pen} → length t ≤ length l → Wrote true t l (penAt 0 false) n r → (listed (Done (r .at)) ≡ listedIn t l) × (n ≡ shownIn t l)
+pub in-room : {t l n : List ℕ} {r : Pen} → length t ≤ length l → Wrote true t l (penAt 0 false) n r → (listingSays (Done (r .at)) ≡ listedIn t l) × (n ≡ shownIn t l)
 unfolding listedIn shownIn
 in-room {t} {l} {n} {r} f y =
     let e : leb (length t) (length l) ≡ true = le-leb (length t) (length l) f in
@@ -30,15 +31,15 @@ in-room {t} {l} {n} {r} f y =
 
 -- or it was measured before
 pub in-space : {t l m n : List ℕ} {q r : Pen} → Wrote false t l (penAt 0 false) m q → q .short ≡ false → Wrote true t m (penAt 0 false) n r
-    → (listed (Done (r .at)) ≡ listedIn t l) × (n ≡ shownIn t l)
+    → (listingSays (Done (r .at)) ≡ listedIn t l) × (n ≡ shownIn t l)
 in-space {t} {l} {m} {n} {q} {r} w h x = in-room (ltb-false (length l) (length t) (sym (dry w .1) ∙ h)) (rw (dry w .0) at x)
 
 -- the number and the count say which answer it is
-pub same-listed : (x y : Listed) → listed x ≡ listed y → x ≡ y
+pub same-listed : (x y : Listed) → listingSays x ≡ listingSays y → x ≡ y
 same-listed (Done m) (Done n) e = ap Done (ap (λ (p : ℕ × ℕ). p .1) e)
 same-listed (Done m) Short e = let z = ap (λ (p : ℕ × ℕ). p .0) e in absurd (omega arith)
 same-listed Short (Done n) e = let z = ap (λ (p : ℕ × ℕ). p .0) e in absurd (omega arith)
 same-listed Short Short e = refl
 
-pub one-listing : (t l : List ℕ) {m n : List ℕ} {x y : Listed} → (listed x ≡ listedIn t l) × (m ≡ shownIn t l) → (listed y ≡ listedIn t l) × (n ≡ shownIn t l) → (x ≡ y) × (m ≡ n)
+pub one-listing : (t l : List ℕ) {m n : List ℕ} {x y : Listed} → (listingSays x ≡ listedIn t l) × (m ≡ shownIn t l) → (listingSays y ≡ listedIn t l) × (n ≡ shownIn t l) → (x ≡ y) × (m ≡ n)
 one-listing t l {x = x} {y = y} p q = (same-listed x y (p .0 ∙ sym (q .0)), p .1 ∙ sym (q .1))

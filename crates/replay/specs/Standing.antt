@@ -21,7 +21,7 @@ use Rattle.command.specs.Shape.{shapeOf}
 use Rattle.book.specs.Stored.{modelOf, stored, stepOf, Shelved}
 use Rattle.book.specs.Shelving.{fits-of, shelved-stored, model-stored}
 use Rattle.rules.specs.Fitting.{Fits, fits-kept}
-use Rattle.replay.specs.Replay.{answerTo, obeyed}
+use Rattle.soundness.specs.Played.{answerTo, obeyed}
 use Rattle.replay.specs.Ahead.{ahead}
 
 -- ── The book ──────────────────────────────────────────────────────

@@ -1,9 +1,7 @@
 -- Document 01, "Journal and replay": all that a replay prints, and what the listing into a lent buffer answers and leaves.
 use mathlib.Core.List.{List, [], _∷_, _++_}
 use Prim.Native.Nat.{ℕ, suc, _+_}
-use lib.Dec.{leb}
-use lib.ListN.{length, drop}
-use Rattle.refusal.specs.Choice.{pick}
+use lib.ListN.{length}
 use Rattle.refusal.specs.Refusal.{number, bufferShort}
 use Rattle.lines.specs.Lines.{answerLine, markLine, accountLines, totalsLine}
 use Rattle.rules.specs.Model.{Model}
@@ -34,13 +32,6 @@ unfoldable pub listingOf : List ℕ → List ℕ
 listingOf s = textOf 0 (replayOf s)
 
 -- the answer's number, and how many bytes were written
-abbrev pub listed : Listed → ℕ × ℕ
-listed (Done n) = (0, n)
-listed Short = (number bufferShort, 0)
-
--- what is answered for a text t and a buffer l: the length of t, or 14; and the buffer after it: t and what stood past it, or l as it was
-unfoldable pub listedIn : List ℕ → List ℕ → ℕ × ℕ
-listedIn t l = pick (leb (length t) (length l)) (0, length t) (number bufferShort, 0)
-
-unfoldable pub shownIn : List ℕ → List ℕ → List ℕ
-shownIn t l = pick (leb (length t) (length l)) (t ++ drop (length t) l) l
+abbrev pub listingSays : Listed → ℕ × ℕ
+listingSays (Done n) = (0, n)
+listingSays Short = (number bufferShort, 0)

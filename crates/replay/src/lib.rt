@@ -18,7 +18,8 @@ ghost use Rattle.sheet.specs.Sheet.{Wrote, penAt};
 ghost use Rattle.book.specs.Stored.{modelOf};
 ghost use Rattle.rules.specs.Model.{freshModel};
 ghost use Rattle.replay.specs.Replay.{replayFrom, replayOf, outcomeOf, ending};
-ghost use Rattle.replay.specs.Text.{bookText, textOf, listingOf, listed, listedIn, shownIn};
+ghost use Rattle.replay.specs.Text.{bookText, textOf, listingOf, listingSays};
+ghost use Rattle.sheet.specs.Shown.{listedIn, shownIn};
 
 // How many bytes were written, or that the buffer is too short.
 pub enum Listed {
@@ -261,7 +262,7 @@ const ROOM: usize = 7347;
 
 // Writes the listing where it fits, else leaves the buffer as it is. It is measured first only where it might be short.
 pub fn listing(s: &[u8], out: &mut [u8]) -> Listed
-    ensures { λ r. ⌜ (listed r ≡ listedIn (listingOf (now (s .entry))) (now (out .entry))) × (now (out .exit) ≡ shownIn (listingOf (now (s .entry))) (now (out .entry))) ⌝ }
+    ensures { λ r. ⌜ (listingSays r ≡ listedIn (listingOf (now (s .entry))) (now (out .entry))) × (now (out .exit) ≡ shownIn (listingOf (now (s .entry))) (now (out .entry))) ⌝ }
 {
     if out.len() >= ROOM && out.len() - ROOM >= s.len() {
         let all = walk(s, out, true);

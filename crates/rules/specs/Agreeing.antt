@@ -5,15 +5,16 @@ use mathlib.Core.Bool.{Bool, true, false, not}
 use mathlib.Core.List.{_++_}
 use lib.Dec.{eqb}
 use borrow.Author.Tests.{eqb-true, not-false}
-use Rattle.refusal.specs.Choice.{pick-on, pick-off}
+use Rattle.refusal.specs.ChoiceLaws.{pick-on, pick-off}
 use Rattle.refusal.specs.Refusal.{first}
-use Rattle.refusal.specs.Rule.{sure, passed, both-pass}
+use Rattle.refusal.specs.Rule.{sure}
+use Rattle.refusal.specs.RuleLaws.{passed, both-pass}
 use Rattle.table.specs.Tables.{Found, absent, here, Table, find, adjust, fmap}
 use Rattle.table.specs.SameId.{find-put}
 use Rattle.table.specs.NamedLaws.{never}
 use Rattle.terms.specs.Terms.{sameTerms}
 use Rattle.terms.specs.declared.Terms.{Terms}
-use Rattle.negotiation.specs.Rounds.{roundLimit, agreesOf}
+use Rattle.negotiation.specs.Rounds.{roundSlots, agreesOf}
 use Rattle.account.specs.Rules.{reofferOf}
 use Rattle.account.specs.declared.Account.{Account}
 use Rattle.offer.specs.Offer.{amendedDeal, counteredDeal}
@@ -69,7 +70,7 @@ module _ (m : Model) (now a o : ℕ) (t : Terms) (n : ℕ) where
   amend-first h =
       let l = amendChecks (offerIn m o) now a (accountIn m a .row) t n in
       let r = reofferOf (accountIn m a .row) (termsIn m o) t .checks in
-      both-pass l r (both-pass (l ++ r) (agreeing (agreesOf roundLimit (offerIn m o .row .negotiation) t) now o (amendedIn m now a o t) .checks) h .0) .0
+      both-pass l r (both-pass (l ++ r) (agreeing (agreesOf roundSlots (offerIn m o .row .negotiation) t) now o (amendedIn m now a o t) .checks) h .0) .0
 
   pub counter-first : first (countering m now a o t n .checks) ≡ 0 → first (counterChecks (offerIn m o) now a (accountIn m a .row) t n (paperOf m o)) ≡ 0
   counter-first h = both-pass (counterChecks (offerIn m o) now a (accountIn m a .row) t n (paperOf m o)) (agreeing (sameTerms (termsIn m o) t) now o (counteredIn m now o t) .checks) h .0

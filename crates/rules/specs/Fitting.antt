@@ -4,7 +4,7 @@ use mathlib.Core.Path.{_≡_}
 use mathlib.Core.Bool.{Bool, true, false}
 use Rattle.refusal.specs.Choice.{pick}
 use Rattle.refusal.specs.Refusal.{first}
-use Rattle.refusal.specs.Rule.{both-pass}
+use Rattle.refusal.specs.RuleLaws.{both-pass}
 use Rattle.table.specs.Tables.{Table}
 use Rattle.table.specs.Keeping.{Fine, fine-adjust, fine-insert}
 use Rattle.account.specs.declared.Account as Accounts

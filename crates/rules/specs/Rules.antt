@@ -9,7 +9,7 @@ use Rattle.refusal.specs.Rule.{Rule, next, sure}
 use Rattle.table.specs.Tables.{adjust, insert, full}
 use Rattle.terms.specs.Terms.{sameTerms}
 use Rattle.terms.specs.declared.Terms.{Terms}
-use Rattle.negotiation.specs.Rounds.{roundLimit, agreesOf}
+use Rattle.negotiation.specs.Rounds.{roundSlots, agreesOf}
 use Rattle.account.specs.Account.{noAccount}
 use Rattle.account.specs.declared.Account as Account
 use Rattle.account.specs.Rules.{depositOf, payoutOf, approveOf, offerOf, reofferOf, lenderRepaidOf, blacklistOf}
@@ -115,7 +115,7 @@ amending m now a o t round = next
       checks = amendChecks (offerIn m o) now a (accountIn m a .row) t round ++ reofferOf (accountIn m a .row) (termsIn m o) t .checks;
       done = amendedIn m now a o t;
     })
-    (agreeing (agreesOf roundLimit (offerIn m o .row .negotiation) t) now o)
+    (agreeing (agreesOf roundSlots (offerIn m o .row .negotiation) t) now o)
 
 -- ── Counter: the round is added; it agrees when equal to the offer's present terms ──
 abbrev pub counteredIn : Model → ℕ → ℕ → Terms → Model

@@ -6,7 +6,8 @@ use lib.Dec.{eqb}
 use borrow.Author.Tests.{eqb-true}
 use Rattle.refusal.specs.Choice.{pick}
 use Rattle.refusal.specs.Refusal.{first}
-use Rattle.refusal.specs.Rule.{after, both-pass}
+use Rattle.refusal.specs.Rule.{after}
+use Rattle.refusal.specs.RuleLaws.{both-pass}
 use Rattle.table.specs.Tables.{Table}
 use Rattle.table.specs.Touching.{Puts, Touched, put, let-in, untouched, at-first, at-second, puts-none, puts-first, puts-second, puts-swap}
 use Rattle.table.specs.declared.Named.the-variants.{Id}

@@ -8,7 +8,7 @@ use lib.Dec.{eqb}
 use lib.Arith.{lt-one, digits-div, digits-mod}
 use lib.Bits.{bitAnd, and-step, and-zero-r}
 use lib.Count.{ones, ones-step}
-use Rattle.seats.specs.Seats.{hasSeat, one, countBelow, presentOf, seatsOf}
+use Rattle.seats.specs.Seats.{hasSeat, bit, countBelow, presentOf, countSeats}
 
 two-pos : 0 < 2
 two-pos = zero-lt-suc 1
@@ -17,9 +17,9 @@ two-pos = zero-lt-suc 1
 same-count : (k : ℕ) (s t : ℕ → Bool) → ((i : ℕ) → s i ≡ t i) → countBelow k s ≡ countBelow k t
 unfolding countBelow
 same-count zero s t h = refl
-same-count (suc k) s t h = ap₂ (λ (x : ℕ) (b : Bool). x + one b) (same-count k s t h) (h k)
+same-count (suc k) s t h = ap₂ (λ (x : ℕ) (b : Bool). x + bit b) (same-count k s t h) (h k)
 
-lowest-first : (k : ℕ) (t : ℕ → Bool) → countBelow (suc k) t ≡ one (t 0) + countBelow k (λ i. t (suc i))
+lowest-first : (k : ℕ) (t : ℕ → Bool) → countBelow (suc k) t ≡ bit (t 0) + countBelow k (λ i. t (suc i))
 unfolding countBelow
 lowest-first zero t = omega arith
 lowest-first (suc k) t = omega (arith, lowest-first k t)
@@ -28,7 +28,7 @@ lowest-first (suc k) t = omega (arith, lowest-first k t)
 halved : (n i : ℕ) → hasSeat n (suc i) ≡ hasSeat (n / 2) i
 halved n i = ap (λ (x : ℕ). eqb (x % 2) 1) (ap (λ (x : ℕ). n / x) (pow-suc 2 i ∙ mul-comm (2 ^ i) 2) ∙ sym (div-div-eq-div-mul n 2 (2 ^ i)))
 
-both-bits : (a b : ℕ) → a < 2 → b < 2 → min a b ≡ one (eqb a 1 && eqb b 1)
+both-bits : (a b : ℕ) → a < 2 → b < 2 → min a b ≡ bit (eqb a 1 && eqb b 1)
 both-bits zero b h k = zero-min b
 both-bits (suc zero) zero h k = refl
 both-bits (suc zero) (suc zero) h k = refl
@@ -45,10 +45,10 @@ module _ (p c : ℕ) where
   least : min (p % 2) (c % 2) < 2
   least = lt-of-le-of-lt (min-le-left (p % 2) (c % 2)) (mod-lt p two-pos)
 
-  and-low : bitAnd p c % 2 ≡ one (hasSeat p 0 && hasSeat c 0)
+  and-low : bitAnd p c % 2 ≡ bit (hasSeat p 0 && hasSeat c 0)
   and-low =
       ap (λ (x : ℕ). x % 2) (and-step p c) ∙ digits-mod (bitAnd (p / 2) (c / 2)) least ∙ both-bits (p % 2) (c % 2) (mod-lt p two-pos) (mod-lt c two-pos)
-      ∙ ap₂ (λ (x y : ℕ). one (eqb (x % 2) 1 && eqb (y % 2) 1)) (sym (div-one p)) (sym (div-one c))
+      ∙ ap₂ (λ (x y : ℕ). bit (eqb (x % 2) 1 && eqb (y % 2) 1)) (sym (div-one p)) (sym (div-one c))
 
   and-half : bitAnd p c / 2 ≡ bitAnd (p / 2) (c / 2)
   and-half = ap (λ (x : ℕ). x / 2) (and-step p c) ∙ digits-div (bitAnd (p / 2) (c / 2)) least
@@ -68,6 +68,6 @@ and-self true = refl
 and-self false = refl
 
 -- seats presented against themselves
-pub all-present : (n : ℕ) → presentOf n n ≡ seatsOf n
-unfolding presentOf seatsOf
+pub all-present : (n : ℕ) → presentOf n n ≡ countSeats n
+unfolding presentOf countSeats
 all-present n = same-count 32 (λ i. hasSeat n i && hasSeat n i) (hasSeat n) (λ i. and-self (hasSeat n i))

@@ -2,15 +2,17 @@
 use Prim.Native.Nat.{ℕ, _+_}
 use native.Mathlib.Omega.{arith}
 use mathlib.Core.Path.{_≡_, refl}
-use mathlib.Core.Bool.{Bool, true, false, not}
+use mathlib.Core.Bool.{Bool, true}
 use lib.Dec.{leb}
-use lib.IntN.{ℤ, _+ℤ_}
+use lib.IntN.{ℤ}
 use borrow.Author.Needs.{needs}
 use borrow.Author.Tests.{leb-false, le-leb, not-false}
-use Rattle.money.specs.Range.{inTotal, movable}
+use Rattle.money.specs.Range.{countLimit, inTotal}
+use Rattle.money.specs.Moves.{moves-in}
 use Rattle.money.specs.Facts.{both}
 use Rattle.refusal.specs.Refusal.{first}
-use Rattle.refusal.specs.Rule.{Rule, passed}
+use Rattle.refusal.specs.Rule.{Rule}
+use Rattle.refusal.specs.RuleLaws.{passed}
 use Rattle.terms.specs.declared.Terms.{Terms}
 use Rattle.seats.specs.Seats.{thresholdOk, seatsOf as seatCount, countBelow}
 use Rattle.settings.specs.declared.Settings.{Settings}
@@ -71,7 +73,7 @@ pub record TotalsRanges (t : Totals) : Type 0 where
   pub financed-in : inTotal (t .financed) ≡ true
   pub repaid-in : inTotal (t .repaid) ≡ true
   pub fees-in : inTotal (t .fees) ≡ true
-  pub offers-in : leb (t .offers) 1000000 ≡ true
+  pub offers-in : leb (t .offers) countLimit ≡ true
 
 pub totals-ranges : {t : Totals} → totalsSound t ≡ true → TotalsRanges t
 unfolding totalsSound
@@ -85,14 +87,11 @@ pub ranges-totals : {t : Totals} → TotalsRanges t → totalsSound t ≡ true
 unfolding totalsSound
 ranges-totals {t} h = rw (h .financed-in, h .repaid-in, h .fees-in, h .offers-in)
 
-moves-in : (t x : ℤ) → not (movable t x) ≡ false → inTotal (t +ℤ x) ≡ true
-moves-in t x e = both (inTotal t) (inTotal (t +ℤ x)) (not-false (movable t x) e) .1
-
 pub count-keeps : (t : Totals) → Keeps totalsSound t (countOf t)
 count-keeps t h e =
     let k = totals-ranges h in
-    let l = leb-false 1000000 (t .offers) (passed _ _ _ e .0) in
-    let a = le-leb (t .offers + 1) 1000000 (omega arith) in
+    let l = leb-false countLimit (t .offers) (passed _ _ _ e .0) in
+    let a = le-leb (t .offers + 1) countLimit (omega arith) in
     ranges-totals (search needs)
 
 pub finance-keeps : (t : Totals) (x : Terms) → Keeps totalsSound t (financeOf t x)

@@ -4,7 +4,7 @@ use mathlib.Core.Bool.{Bool, not, _&&_}
 use mathlib.Core.List.{[], _∷_}
 use lib.Dec.{leb}
 use lib.IntN.{ℤ, pos, _+ℤ_}
-use Rattle.money.specs.Range.{inTotal, movable}
+use Rattle.money.specs.Range.{countLimit, inTotal, movable}
 use Rattle.refusal.specs.Refusal.{_gives_, unauthorized, outOfRange}
 use Rattle.refusal.specs.Rule.{Rule}
 use Rattle.terms.specs.declared.Terms.{Terms}
@@ -15,7 +15,7 @@ abbrev pub noTotals : Totals
 noTotals = record { financed = pos 0; repaid = pos 0; fees = pos 0; offers = 0 }
 
 unfoldable pub totalsSound : Totals → Bool
-totalsSound t = ((inTotal (t .financed) && inTotal (t .repaid)) && inTotal (t .fees)) && leb (t .offers) 1000000
+totalsSound t = ((inTotal (t .financed) && inTotal (t .repaid)) && inTotal (t .fees)) && leb (t .offers) countLimit
 
 abbrev pub counted : ℕ → Totals → TotalsPosted
 counted n t = record { answer = n; row = t }
@@ -23,7 +23,7 @@ counted n t = record { answer = n; row = t }
 -- create: the book's total_offers grows by 1, else 11
 abbrev pub countOf : Totals → Rule Totals
 countOf t = record {
-  checks = (leb 1000000 (t .offers) gives outOfRange) ∷ [];
+  checks = (leb countLimit (t .offers) gives outOfRange) ∷ [];
   done = record { financed = t .financed; repaid = t .repaid; fees = t .fees; offers = t .offers + 1 };
 }
 

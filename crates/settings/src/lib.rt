@@ -4,8 +4,6 @@ ghost use Rattle.refusal.specs.Rule.{answered};
 ghost use Rattle.settings.specs.Settings.{freshSettings, settingsSound, adminPasses, isRepayer, posted, pauseOf, windowOf, repayerOf, seatsOf};
 ghost use Rattle.settings.specs.Totals.{noTotals, totalsSound, counted, countOf, financeOf, repayOf};
 
-pub const COUNT_LIMIT: u32 = 1000000;
-
 pub const SHORTEST_WINDOW: u64 = 3600;
 
 pub const LONGEST_WINDOW: u64 = 2592000;
@@ -192,7 +190,7 @@ impl Totals {
         let b = money::in_total_range(self.repaid);
         let c = money::in_total_range(self.fees);
         let n = self.offers;
-        a & b & c & (n <= COUNT_LIMIT)
+        a & b & c & (n <= money::COUNT_LIMIT)
     }
 
     // One offer more.
@@ -200,7 +198,7 @@ impl Totals {
         ensures { λ r. ⌜ r ≡ answered counted self (countOf self) ⌝ }
     {
         let n = self.offers;
-        if COUNT_LIMIT <= n {
+        if money::COUNT_LIMIT <= n {
             return TotalsPosted {
                 answer: refusal::OUT_OF_RANGE,
                 row: self,

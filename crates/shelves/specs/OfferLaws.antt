@@ -12,7 +12,7 @@ use Rattle.table.specs.Columns.{Level, level, length-join, getD-join}
 use Rattle.table.specs.Parts.{join-columns}
 use Rattle.table.specs.Keeping.{Keeping, shelf-fine}
 use Rattle.table.specs.TestLaws.{shelf-of, rows-of, passes, everywhere}
-use Rattle.negotiation.specs.Rounds.{roundLimit, noNegotiation}
+use Rattle.negotiation.specs.Rounds.{roundSlots, noNegotiation}
 use Rattle.negotiation.specs.Whole.{Whole}
 use Rattle.negotiation.specs.Laws.{none-whole}
 use Rattle.offer.specs.Offer.{noOffer, noSchedule, noDeal, dealSound, dealZero}
@@ -44,7 +44,7 @@ module _ (a : Offers) (w : WholeDeals a) (t : dealsTest a ≡ true) where
   rows-long : length (rowsOf a) ≡ 64
   rows-long = length-join dealOf (a .rows) (a .negotiations) (a .schedules) even ∙ w .rows-long
 
-  whole-at : (i : ℕ) → i < 64 → Whole roundLimit (getD (rowsOf a) i noDeal .negotiation)
+  whole-at : (i : ℕ) → i < 64 → Whole roundSlots (getD (rowsOf a) i noDeal .negotiation)
   whole-at i h = rw (getD-join dealOf (a .rows) (a .negotiations) (a .schedules) even i noOffer noNegotiation noSchedule) (w .whole i h)
 
   pub deals-shelf : DealShelf a
@@ -65,7 +65,7 @@ deals-pass {a} s o = passes dealSound dealZero noDeal no-deal-zero (s .shelf) (a
 -- the arrays are as long as their types say, and every negotiation there has all its rounds
 pub deals-whole : {a : Offers} → DealShelf a → All DealKept (dealsOf a) → WholeDeals a
 deals-whole {a} s o =
-    let whole-row : Deal → Type 0 = λ d. Whole roundLimit (d .negotiation) in
+    let whole-row : Deal → Type 0 = λ d. Whole roundSlots (d .negotiation) in
     let long = offers-long s in
     record {
       ids-long = ap length (sym (s .shelf .ids-kept)) ∙ length-padded 0 key 64 (dealsOf a);

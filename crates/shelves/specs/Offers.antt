@@ -8,7 +8,7 @@ use Rattle.table.specs.Tables.{Table}
 use Rattle.table.specs.Shelf.{tableOf, shelve, Shelf}
 use Rattle.table.specs.Columns.{join, column, Level}
 use Rattle.table.specs.Test.{idsTest, rowsTest}
-use Rattle.negotiation.specs.Rounds.{roundLimit, noNegotiation}
+use Rattle.negotiation.specs.Rounds.{roundSlots, noNegotiation}
 use Rattle.negotiation.specs.Whole.{Whole}
 use Rattle.negotiation.specs.declared.Negotiation.{Negotiation}
 use Rattle.terms.specs.declared.Schedule.{Schedule}
@@ -46,4 +46,4 @@ pub record WholeDeals (a : Offers) : Type 0 where
   pub rows-long : length (a .rows) ≡ 64
   pub negotiations-long : length (a .negotiations) ≡ 64
   pub schedules-long : length (a .schedules) ≡ 64
-  pub whole : (k : ℕ) → k < 64 → Whole roundLimit (getD (a .negotiations) k noNegotiation)
+  pub whole : (k : ℕ) → k < 64 → Whole roundSlots (getD (a .negotiations) k noNegotiation)

@@ -7,7 +7,9 @@ use native.Mathlib.Omega.{arith}
 use lib.Dec.{eqb, leb, ltb}
 use lib.ListN.{length, getD, set}
 use borrow.Author.Tests.{ltb-false}
-use Rattle.refusal.specs.Choice.{pick, on, off}
+use Rattle.sheet.specs.Shown.{listedIn}
+use Rattle.refusal.specs.Choice.{pick}
+use Rattle.refusal.specs.ChoiceLaws.{on, off}
 use Rattle.refusal.specs.Refusal.{number, journalMalformed, bufferShort}
 use Rattle.lists.specs.Listing.{Reply}
 use Rattle.book.specs.declared.Book.{Book}
@@ -68,11 +70,11 @@ fault-by true w e = let z = ap (λ (p : ℕ × ℕ). p .0) e in omega arith
 fault-by false w e = let z = ap (λ (p : ℕ × ℕ). p .0) e in omega arith
 
 pub fault : (o : Text.Outcome) (l : List ℕ) {k : ℕ} → _≡_ {A = ℕ × ℕ} (number journalMalformed, k) (Text.answerFor o l) → k ≡ faultOf o
-unfolding Text.answerFor faultOf
+unfolding Text.answerFor listedIn faultOf
 fault (Text.whole w) l e = absurd (fault-by (leb (length w) (length l)) w e)
 fault (Text.faulty at) l e = ap (λ (p : ℕ × ℕ). p .1) e
 
 pub no-fault : (o : Text.Outcome) (l : List ℕ) {n k : ℕ} → (n ≡ number journalMalformed → ⊥) → _≡_ {A = ℕ × ℕ} (n, k) (Text.answerFor o l) → 0 ≡ faultOf o
-unfolding Text.answerFor faultOf
+unfolding Text.answerFor listedIn faultOf
 no-fault (Text.whole w) l h e = refl
 no-fault (Text.faulty at) l h e = absurd (h (ap (λ (p : ℕ × ℕ). p .0) e))

@@ -9,7 +9,7 @@ use Rattle.refusal.specs.Refusal.{number, invalidInput, journalMalformed, buffe
 use Rattle.lists.specs.Listing.{Reply}
 use Rattle.lists.specs.declared.Wanted.the-variants.{Invoice, Lender, Status, PendingOf, All, Page}
 use Rattle.book.specs.declared.Book.{Book}
-use Rattle.query.specs.Reads.{listed}
+use Rattle.query.specs.Reads.{listRead}
 use Rattle.replay.specs.declared.Outcome.{Outcome}
 use Rattle.replay.specs.Replay.{replayOf, outcomeOf}
 use Rattle.text.specs.Answers as Text
@@ -46,7 +46,7 @@ abbrev pub told : Reply × List ℕ → ℕ × List ℕ
 told r = (coded (r .0 .0) (getD (r .0 .1) 0 0), r .1)
 
 unfoldable pub offersFor : Asked → List ℕ → Book → ℕ × List ℕ
-offersFor (For w) l b = told (listed b w l)
+offersFor (For w) l b = told (listRead b w l)
 offersFor Unlisted l b = (minus (number invalidInput), l)
 
 -- ── A read of four numbers over the start of a buffer; too short gives 14 ──

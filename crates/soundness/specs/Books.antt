@@ -2,7 +2,7 @@
 use mathlib.Core.Path.{_≡_, ap, _∙_}
 use mathlib.Core.Bool.{true}
 use mathlib.Core.List.{List, [], _∷_}
-use Rattle.refusal.specs.Choice.{pick-on}
+use Rattle.refusal.specs.ChoiceLaws.{pick-on}
 use Rattle.refusal.specs.Rule.{answered}
 use Rattle.shelves.specs.Sized.{Sized}
 use Rattle.shelves.specs.Accounts.{storedAccounts, accountsTest}

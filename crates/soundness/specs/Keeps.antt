@@ -5,9 +5,11 @@ use mathlib.Core.Bool.{Bool, true, false}
 use mathlib.Core.List.{_++_}
 use lib.Dec.{eqb}
 use borrow.Author.Tests.{not-false, eqb-true}
-use Rattle.refusal.specs.Choice.{pick, pick-on, pick-off}
+use Rattle.refusal.specs.Choice.{pick}
+use Rattle.refusal.specs.ChoiceLaws.{pick-on, pick-off}
 use Rattle.refusal.specs.Refusal.{first}
-use Rattle.refusal.specs.Rule.{Rule, after, passed, both-pass}
+use Rattle.refusal.specs.Rule.{Rule, after}
+use Rattle.refusal.specs.RuleLaws.{passed, both-pass}
 use Rattle.money.specs.Range.{inAmount}
 use Rattle.table.specs.Tables.{here, full}
 use Rattle.table.specs.Sound.{all-insert}

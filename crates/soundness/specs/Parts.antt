@@ -4,7 +4,8 @@ use mathlib.Core.Path.{_≡_, refl}
 use mathlib.Core.Bool.{Bool, true, false}
 use Rattle.refusal.specs.Choice.{pick}
 use Rattle.refusal.specs.Refusal.{first}
-use Rattle.refusal.specs.Rule.{Rule, passed, both-pass}
+use Rattle.refusal.specs.Rule.{Rule}
+use Rattle.refusal.specs.RuleLaws.{passed, both-pass}
 use Rattle.table.specs.Tables.{Table, find, adjust}
 use Rattle.table.specs.Sound.{All}
 use Rattle.terms.specs.declared.Terms.{Terms}
@@ -24,7 +25,7 @@ use Rattle.settings.specs.declared.Totals.{Totals}
 use Rattle.settings.specs.Settings.{settingsSound}
 use Rattle.settings.specs.Totals.{totalsSound}
 use Rattle.settings.specs.Laws as Settings
-use Rattle.parties.specs.Settlement.{seenAt, onRow, settleAccounts}
+use Rattle.parties.specs.Settlement.{seenIn, onRow, settleAccounts}
 use Rattle.account.specs.Seen.{seenAccount}
 use Rattle.invoice.specs.Seen.{seenInvoice}
 use Rattle.offer.specs.Seen.{seenDeal}
@@ -48,7 +49,7 @@ pub deal-put : (t : Table Deal) (o : ℕ) (x : Deal) → All DealKept t → (Dea
 deal-put t o x = put-sound DealKept (λ o. seenDeal o .row) (λ r. refl) t o x
 
 on-row : (a : ℕ) (f : Account → Rule Account) (t : Table Account) → ((r : Account) → Account.Keeps r (f r)) → Good t → first (onRow a f t .checks) ≡ 0 → Good (onRow a f t .done)
-on-row a f t k g e = account-put t a (f (seenAt t a .row) .done) g (λ s. k (seenAt t a .row) s (passed _ _ _ e .1))
+on-row a f t k g e = account-put t a (f (seenIn t a .row) .done) g (λ s. k (seenIn t a .row) s (passed _ _ _ e .1))
 
 -- settlement's transfer
 moved-sound : (t : Table Account) (lender originator : ℕ) (x : Terms) → Good t → first (settleAccounts t lender originator x .checks) ≡ 0 → Good (settleAccounts t lender originator x .done)

@@ -1,10 +1,23 @@
--- The book after any commands, refused ones among them
+-- The book after any commands, refused ones among them, and their answers.
+use Prim.Native.Nat.{ℕ}
 use mathlib.Core.List.{List, [], _∷_}
+use Rattle.refusal.specs.Refusal.{first}
 use Rattle.refusal.specs.Rule.{after}
 use Rattle.command.specs.declared.Command.{Command}
 use Rattle.rules.specs.Model.{Model}
 use Rattle.rules.specs.Rules.{commanded}
 
+-- a command's answer, and the book after it
+abbrev pub answerTo : Model → Command → ℕ
+answerTo m c = first (commanded m c .checks)
+
+abbrev pub obeyed : Model → Command → Model
+obeyed m c = after m (commanded m c)
+
 unfoldable pub played : Model → List Command → Model
 played m [] = m
-played m (c ∷ cs) = played (after m (commanded m c)) cs
+played m (c ∷ cs) = played (obeyed m c) cs
+
+unfoldable pub answersOf : Model → List Command → List ℕ
+answersOf m [] = []
+answersOf m (c ∷ cs) = answerTo m c ∷ answersOf (obeyed m c) cs

@@ -1,4 +1,4 @@
--- Document 01's session of ten commands, computed on the definitions: its answers and the figures it leaves
+-- Document 01's session of ten commands, computed on the definitions: its answers and the figures it played
 use Prim.Native.Nat.{ℕ}
 use mathlib.Core.Path.{_≡_, refl}
 use mathlib.Core.List.{List, [], _∷_}
@@ -16,15 +16,8 @@ use Rattle.command.specs.Names.{accountNames, offerNames, settingsNames, namesF
 use Rattle.command.specs.declared.Command.{Command}
 use Rattle.command.specs.declared.Command.the-variants.{OpenAccount, Deposit, Approve, RegisterInvoice, CreateOffer, AcceptOffer, AmendOffer, CounterOffer}
 use Rattle.rules.specs.Model.{Model, freshModel, accountIn}
-use Rattle.rules.specs.Rules.{settling, concluding, agreeing, accountRule, offerRule, settingsRule, ruled, commanded}
-
-unfoldable pub answersOf : Model → List Command → List ℕ
-answersOf m [] = []
-answersOf m (c ∷ cs) = first (commanded m c .checks) ∷ answersOf (after m (commanded m c)) cs
-
-unfoldable pub leaves : Model → List Command → Model
-leaves m [] = m
-leaves m (c ∷ cs) = leaves (after m (commanded m c)) cs
+use Rattle.soundness.specs.Played.{played, answersOf}
+use Rattle.rules.specs.Rules.{settling, concluding, agreeing, accountRule, offerRule, settingsRule, ruled}
 
 abbrev terms : ℕ → Terms
 terms x = record { amount = pos x; rate = 500; duration = 86400 }
@@ -52,14 +45,14 @@ session-answers = refl
 abbrev figures : Model → ℕ → List ℤ
 figures m a = accountIn m a .row .balance ∷ accountIn m a .row .allowance ∷ accountIn m a .row .offered ∷ accountIn m a .row .accepted ∷ []
 
-pub session-lender : figures (leaves freshModel session) 1 ≡ pos 4100 ∷ pos 4100 ∷ pos 900 ∷ pos 900 ∷ []
-unfolding leaves session pick first after find adjust insert termsOk sameTerms deadlineOf statusOf addedOf acceptedOf latestBelow matches agreesOf expired settledDeal amendedDeal counteredDeal settling concluding agreeing shapeOf accountNames offerNames settingsNames namesFor accountRule offerRule settingsRule ruled
+pub session-lender : figures (played freshModel session) 1 ≡ pos 4100 ∷ pos 4100 ∷ pos 900 ∷ pos 900 ∷ []
+unfolding played session pick first after find adjust insert termsOk sameTerms deadlineOf statusOf addedOf acceptedOf latestBelow matches agreesOf expired settledDeal amendedDeal counteredDeal settling concluding agreeing shapeOf accountNames offerNames settingsNames namesFor accountRule offerRule settingsRule ruled
 session-lender = refl
 
-pub session-originator : figures (leaves freshModel session) 2 ≡ pos 900 ∷ pos 0 ∷ pos 0 ∷ pos 0 ∷ []
-unfolding leaves session pick first after find adjust insert termsOk sameTerms deadlineOf statusOf addedOf acceptedOf latestBelow matches agreesOf expired settledDeal amendedDeal counteredDeal settling concluding agreeing shapeOf accountNames offerNames settingsNames namesFor accountRule offerRule settingsRule ruled
+pub session-originator : figures (played freshModel session) 2 ≡ pos 900 ∷ pos 0 ∷ pos 0 ∷ pos 0 ∷ []
+unfolding played session pick first after find adjust insert termsOk sameTerms deadlineOf statusOf addedOf acceptedOf latestBelow matches agreesOf expired settledDeal amendedDeal counteredDeal settling concluding agreeing shapeOf accountNames offerNames settingsNames namesFor accountRule offerRule settingsRule ruled
 session-originator = refl
 
-pub session-totals : leaves freshModel session .totals ≡ record { financed = pos 900; repaid = pos 0; fees = pos 0; offers = 1 }
-unfolding leaves session pick first after find adjust insert termsOk sameTerms deadlineOf statusOf addedOf acceptedOf latestBelow matches agreesOf expired settledDeal amendedDeal counteredDeal settling concluding agreeing shapeOf accountNames offerNames settingsNames namesFor accountRule offerRule settingsRule ruled
+pub session-totals : played freshModel session .totals ≡ record { financed = pos 900; repaid = pos 0; fees = pos 0; offers = 1 }
+unfolding played session pick first after find adjust insert termsOk sameTerms deadlineOf statusOf addedOf acceptedOf latestBelow matches agreesOf expired settledDeal amendedDeal counteredDeal settling concluding agreeing shapeOf accountNames offerNames settingsNames namesFor accountRule offerRule settingsRule ruled
 session-totals = refl

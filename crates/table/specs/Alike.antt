@@ -79,5 +79,5 @@ module _ {A : Type 0} where
     shows i (is-false p) (is-true q) = rw p (find-by t b i _ ∙ ap (λ e. cond e (fmap (λ old. g (findBy u b)) (find t i)) (find t i)) q ∙ ap (λ k. fmap (λ old. g (findBy u k)) (find t i)) (is-named b i q) ∙ same-ids i)
     shows i (is-false p) (is-false q) = rw p (find-by t b i _ ∙ ap (λ e. cond e (fmap (λ old. g (findBy u b)) (find t i)) (find t i)) q ∙ elsewhere i p q)
 
-    pub laid : putBy mid a (g (findBy u a)) ≡ u
-    laid = alike (putBy mid a (g (findBy u a))) u (rises-by mid a _ (rises-by t b _ rt)) ru (λ i. find-by mid a i _ ∙ shows i (decide (isId a i)) (decide (isId b i)))
+    pub put-back : putBy mid a (g (findBy u a)) ≡ u
+    put-back = alike (putBy mid a (g (findBy u a))) u (rises-by mid a _ (rises-by t b _ rt)) ru (λ i. find-by mid a i _ ∙ shows i (decide (isId a i)) (decide (isId b i)))

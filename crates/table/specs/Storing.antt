@@ -6,7 +6,7 @@ use Rattle.table.specs.Tables.{Found, here, Table, insert, has, Room}
 use Rattle.table.specs.Keeping.{Fine, Keeping}
 use Rattle.table.specs.Named.{idOf, findBy, putBy}
 use Rattle.table.specs.NamedLaws.{fine-by, put-again}
-use Rattle.table.specs.Touching.{Touched, laid, grown}
+use Rattle.table.specs.Touching.{Touched, put-back, grown}
 use Rattle.table.specs.declared.Named.{Named}
 use Rattle.table.specs.declared.Named.the-variants.{Id}
 
@@ -43,7 +43,7 @@ module _ {A S : Type 0} {n : ℕ} {of : S → Table A} {stored : Table A → S} 
   good = rw e (K .good fine-mid)
 
   pub stays : not was && is ≡ false → v ≡ stored u
-  stays q = e ∙ ap stored (as-seen ∙ sym (laid g h t a b (l .fine .rises) (l .touched) (came-is q)))
+  stays q = e ∙ ap stored (as-seen ∙ sym (put-back g h t a b (l .fine .rises) (l .touched) (came-is q)))
 
   pub named : not was && is ≡ true → a ≡ Id (idOf a)
   named q = grown g h t a b (l .touched) (came-is q) .named

@@ -71,8 +71,8 @@ module _ {A : Type 0} where
 
   -- ── What is seen at a and b, put back there, second before first ──
   module _ (g : Found A → A) (h : (r : A) → g (here r) ≡ r) (t : Table A) (a b : Named) where
-    abbrev pub laidOf : Table A → Table A
-    laidOf u = putBy (putBy t b (g (findBy u b))) a (g (findBy u a))
+    abbrev pub putBackIn : Table A → Table A
+    putBackIn u = putBy (putBy t b (g (findBy u b))) a (g (findBy u a))
 
     abbrev pub came : Table A → Bool
     came u = not (has (findBy t a)) && has (findBy u a)
@@ -95,10 +95,10 @@ module _ {A : Type 0} where
     not-came : {u : Table A} → Puts t u a b → came u ≡ false
     not-came p = ap (λ z. not (has (findBy t a)) && z) (same-by p a) ∙ unmoved (has (findBy t a))
 
-    pub laid : {n : ℕ} {u : Table A} → Rises (keys t) → Touched n t u a b → came u ≡ false → u ≡ laidOf u
+    pub put-back : {n : ℕ} {u : Table A} → Rises (keys t) → Touched n t u a b → came u ≡ false → u ≡ putBackIn u
     unfolding has
-    laid {n} {u} r (put p) c = sym (Alike.laid g t u a b r (p .rises r) (λ i. shown (find t i) (find u i) (p .same i)) (p .elsewhere))
-    laid {n} {u} r (let-in i d s m e) c =
+    put-back {n} {u} r (put p) c = sym (Alike.put-back g t u a b r (p .rises r) (λ i. shown (find t i) (find u i) (p .same i)) (p .elsewhere))
+    put-back {n} {u} r (let-in i d s m e) c =
         never
         (sym (ap (λ k. not (has (findBy t k)) && has (findBy u k)) s ∙ ap (λ f. not (has f) && has (find u i)) (m .new) ∙ ap has (ap (λ w. find w i) e ∙ find-in t i d (m .new))) ∙ c)
 
@@ -112,13 +112,13 @@ module _ {A : Type 0} where
     still : putBy (putBy t b (g (findBy (insert t i d) b))) (Id i) (g (find (insert t i d) i)) ≡ t
     still = ap (λ z. putBy z (Id i) (g (find (insert t i d) i))) (second-still b (decide (isId b i))) ∙ adjust-absent t i _ new
 
-    pub grown-at : {n : ℕ} {u : Table A} → Room n t i → u ≡ insert t i d → Grown n (laidOf g h t (Id i) b u) u (Id i) (g (find u i))
+    pub grown-at : {n : ℕ} {u : Table A} → Room n t i → u ≡ insert t i d → Grown n (putBackIn g h t (Id i) b u) u (Id i) (g (find u i))
     grown-at {n} {u} m e =
-        let z : laidOf g h t (Id i) b u ≡ t = ap (λ w. laidOf g h t (Id i) b w) e ∙ still in
+        let z : putBackIn g h t (Id i) b u ≡ t = ap (λ w. putBackIn g h t (Id i) b w) e ∙ still in
         let x : g (find u i) ≡ d = ap g (ap (λ w. find w i) e ∙ find-in t i d new) ∙ h d in
-        record { named = refl; room = rw z m; is = e ∙ ap (λ w. insert w i d) (sym z) ∙ ap (insert (laidOf g h t (Id i) b u) i) (sym x) }
+        record { named = refl; room = rw z m; is = e ∙ ap (λ w. insert w i d) (sym z) ∙ ap (insert (putBackIn g h t (Id i) b u) i) (sym x) }
 
   module _ (g : Found A → A) (h : (r : A) → g (here r) ≡ r) (t : Table A) (a b : Named) where
-    pub grown : {n : ℕ} {u : Table A} → Touched n t u a b → came g h t a b u ≡ true → Grown n (laidOf g h t a b u) u a (g (findBy u a))
+    pub grown : {n : ℕ} {u : Table A} → Touched n t u a b → came g h t a b u ≡ true → Grown n (putBackIn g h t a b u) u a (g (findBy u a))
     grown {n} {u} (put p) c = never (sym c ∙ not-came g h t a b p)
     grown {n} {u} (let-in i d s m e) c = rw s (grown-at g h t i b d (m .new) m e)

@@ -9,6 +9,7 @@ use Rattle.money.specs.Range.{inTotal, magnitudeOf}
 use Rattle.terms.specs.declared.Schedule.{Schedule}
 use Rattle.terms.specs.declared.DueAnswer.{DueAnswer}
 use Rattle.terms.specs.declared.DueAnswer.the-variants.{Number, Invalid}
+use Rattle.terms.specs.Status.{statusRepaid, statusDefaulted, statusListed}
 use Rattle.terms.specs.Schedule.{secondsOf, scheduleOk}
 
 -- elapsed = min(floor((now−first_due)/period)+1, count)
@@ -22,13 +23,13 @@ nextOf elapsed repaid installment = pick (leb elapsed (repaid / installment)) 0 
 -- 0 for Repaid or Defaulted, or now < first_due
 unfoldable pub numberOf : Schedule → ℕ → ℤ → ℕ → ℕ
 numberOf s status repaid now =
-    pick (eqb status 4) 0
-    (pick (eqb status 5) 0
+    pick (eqb status statusRepaid) 0
+    (pick (eqb status statusDefaulted) 0
     (pick (ltb now (s .first)) 0
     (nextOf (elapsedOf (now - s .first) (secondsOf (s .code)) (s .count)) (magnitudeOf repaid) (magnitudeOf (s .installment)))))
 
 unfoldable pub dueArguments : Schedule → ℕ → ℤ → Bool
-dueArguments s status repaid = (scheduleOk s && leb status 5) && inTotal repaid
+dueArguments s status repaid = (scheduleOk s && statusListed status) && inTotal repaid
 
 -- the number of the answer and its value; arguments out of range give 3 first
 unfoldable pub dueOf : Schedule → ℕ → ℤ → ℕ → ℕ × ℕ

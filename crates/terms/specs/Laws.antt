@@ -7,14 +7,15 @@ use mathlib.Core.Bool.{Bool, true, false, _&&_}
 use lib.IntN.{ℤ, pos}
 use lib.Dec.{leb, eqb, leb·zero}
 use borrow.Author.Tests.{leb-true, leb-false, le-leb, eqb-false}
-use Rattle.refusal.specs.Choice.{pick, pick-on}
+use Rattle.refusal.specs.Choice.{pick}
+use Rattle.refusal.specs.ChoiceLaws.{pick-on}
 use Rattle.money.specs.Range.{inAmount, inTotal, inInstallment, isZero, magnitudeOf}
 use Rattle.money.specs.Facts.{both, between, magnitude-is}
 use Rattle.terms.specs.declared.Terms.{Terms}
 use Rattle.terms.specs.declared.Schedule.{Schedule}
 use Rattle.terms.specs.Terms.{termsOk, countOk}
 use Rattle.terms.specs.Installment.{partOf, installmentAmount, installmentOf}
-use Rattle.terms.specs.Schedule.{listed, secondsOf, scheduleOk}
+use Rattle.terms.specs.Schedule.{periodListed, secondsOf, scheduleOk}
 use Rattle.terms.specs.Due.{dueArguments}
 
 pub record TermsIn (t : Terms) : Type 0 where
@@ -71,19 +72,19 @@ installment-in t count h k =
 pub record ScheduleIn (s : Schedule) : Type 0 where
   pub count-low : 1 ≤ s .count
   pub count-high : s .count ≤ 1200
-  pub code : listed (s .code) ≡ true
+  pub code : periodListed (s .code) ≡ true
   pub installment : inInstallment (s .installment) ≡ true
 
 pub schedule-in : (s : Schedule) → scheduleOk s ≡ true → ScheduleIn s
 unfolding scheduleOk
 schedule-in s h =
-    let a = both (countOk (s .count) && listed (s .code)) (inInstallment (s .installment)) h in
-    let b = both (countOk (s .count)) (listed (s .code)) (a .0) in
+    let a = both (countOk (s .count) && periodListed (s .code)) (inInstallment (s .installment)) h in
+    let b = both (countOk (s .count)) (periodListed (s .code)) (a .0) in
     let d = both (leb 1 (s .count)) (leb (s .count) 1200) (b .0) in
     record { count-low = leb-true 1 (s .count) (d .0); count-high = leb-true (s .count) 1200 (d .1); code = b .1; installment = a .1 }
 
 -- a listed period is not 0, and neither is a stored installment
-pub seconds-pos : (code : ℕ) → listed code ≡ true → 0 < secondsOf code
+pub seconds-pos : (code : ℕ) → periodListed code ≡ true → 0 < secondsOf code
 unfolding secondsOf pick
 seconds-pos code h = by (eqb code 1) (eqb code 2) (eqb code 3) refl refl refl
   where
@@ -106,6 +107,6 @@ unfolding dueArguments
 due-in s status repaid h = schedule-in s (both (scheduleOk s) (leb status 5) (both (scheduleOk s && leb status 5) (inTotal repaid) h .0) .0)
 
 -- a schedule of numbers in range is one that can be stored
-pub made-ok : (s : Schedule) → countOk (s .count) ≡ true → listed (s .code) ≡ true → inInstallment (s .installment) ≡ true → scheduleOk s ≡ true
+pub made-ok : (s : Schedule) → countOk (s .count) ≡ true → periodListed (s .code) ≡ true → inInstallment (s .installment) ≡ true → scheduleOk s ≡ true
 unfolding scheduleOk
 made-ok s h k m = simp (h, k, m)

@@ -1,3 +1,4 @@
+pub mod Status
 pub mod Terms
 pub mod Installment
 pub mod Schedule

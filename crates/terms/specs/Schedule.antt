@@ -10,8 +10,8 @@ use Rattle.terms.specs.declared.PeriodAnswer.{PeriodAnswer}
 use Rattle.terms.specs.declared.PeriodAnswer.the-variants.{Seconds, Unlisted}
 use Rattle.terms.specs.Terms.{countOk}
 
-abbrev pub listed : ℕ → Bool
-listed code = leb 1 code && leb code 3
+abbrev pub periodListed : ℕ → Bool
+periodListed code = leb 1 code && leb code 3
 
 -- weekly, fortnightly, thirty days; no other code is listed
 unfoldable pub secondsOf : ℕ → ℕ
@@ -19,7 +19,7 @@ secondsOf code = pick (eqb code 1) 604800 (pick (eqb code 2) 1209600 (pick (eqb 
 
 -- the number of the answer and its value, 3 for an unlisted code
 unfoldable pub periodOf : ℕ → ℕ × ℕ
-periodOf code = pick (listed code) (0, secondsOf code) (number invalidInput, 0)
+periodOf code = pick (periodListed code) (0, secondsOf code) (number invalidInput, 0)
 
 abbrev pub periodSays : PeriodAnswer → ℕ × ℕ
 periodSays (Seconds n) = (0, n)
@@ -27,7 +27,7 @@ periodSays Unlisted = (number invalidInput, 0)
 
 -- a schedule that was made, and none
 unfoldable pub scheduleOk : Schedule → Bool
-scheduleOk s = (countOk (s .count) && listed (s .code)) && inInstallment (s .installment)
+scheduleOk s = (countOk (s .count) && periodListed (s .code)) && inInstallment (s .installment)
 
 unfoldable pub scheduleZero : Schedule → Bool
 scheduleZero s = ((eqb (s .count) 0 && eqb (s .code) 0) && isZero (s .installment)) && eqb (s .first) 0

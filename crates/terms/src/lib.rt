@@ -3,8 +3,21 @@ ghost use mathlib.Core.Path.{_≡_};
 ghost use Prim.Native.Nat.{_<_};
 ghost use Rattle.terms.specs.Terms.{termsOk, sameTerms, countOk};
 ghost use Rattle.terms.specs.Installment.{installmentOf, installmentSays};
-ghost use Rattle.terms.specs.Schedule.{listed, secondsOf, periodOf, periodSays, scheduleOk, scheduleZero};
+ghost use Rattle.terms.specs.Schedule.{periodListed, secondsOf, periodOf, periodSays, scheduleOk, scheduleZero};
 ghost use Rattle.terms.specs.Due.{elapsedOf, nextOf, dueOf, dueSays, dueArguments};
+
+// Where an offer stands.
+pub const PENDING: u32 = 0;
+
+pub const ACCEPTED: u32 = 1;
+
+pub const REJECTED: u32 = 2;
+
+pub const FINANCED: u32 = 3;
+
+pub const REPAID: u32 = 4;
+
+pub const DEFAULTED: u32 = 5;
 
 // An amount in minor units, a rate in basis points and a duration in seconds.
 pub struct Terms {
@@ -63,7 +76,7 @@ pub fn count_valid(count: u32) -> bool
 }
 
 pub fn code_listed(code: u32) -> bool
-    ensures { λ r. ⌜ r ≡ listed code ⌝ }
+    ensures { λ r. ⌜ r ≡ periodListed code ⌝ }
 {
     (1 <= code) & (code <= 3)
 }
@@ -156,7 +169,7 @@ fn next(elapsed: u64, repaid: u64, installment: u64) -> u64
 fn due_arguments(s: Schedule, status: u32, repaid: i64) -> bool
     ensures { λ r. ⌜ r ≡ dueArguments s status repaid ⌝ }
 {
-    schedule_ok(s) & (status <= 5) & money::in_total_range(repaid)
+    schedule_ok(s) & (status <= DEFAULTED) & money::in_total_range(repaid)
 }
 
 pub fn due(s: Schedule, status: u32, repaid: i64, now: u64) -> DueAnswer
@@ -168,10 +181,10 @@ pub fn due(s: Schedule, status: u32, repaid: i64, now: u64) -> DueAnswer
     let first = s.first;
     let count = s.count;
     let code = s.code;
-    if status == 4 {
+    if status == REPAID {
         return DueAnswer::Number(0);
     }
-    if status == 5 {
+    if status == DEFAULTED {
         return DueAnswer::Number(0);
     }
     if now < first {

@@ -8,7 +8,9 @@ use lib.Dec.{leb}
 use lib.ListN.{length, take, drop, length-append}
 use lib.Seq.{length-take-le}
 use borrow.Author.Tests.{lt-leb, le-leb, ltb-true, ltb-false}
-use Rattle.refusal.specs.Choice.{pick, on, off}
+use Rattle.sheet.specs.Shown.{listedIn, shownIn}
+use Rattle.refusal.specs.Choice.{pick}
+use Rattle.refusal.specs.ChoiceLaws.{on, off}
 use Rattle.refusal.specs.Refusal.{number, bufferShort}
 use Rattle.sheet.specs.declared.Pen.{Pen}
 use Rattle.sheet.specs.Sheet.{Wrote, penAt}
@@ -23,17 +25,17 @@ Fits o l r m = (answered r ≡ answerFor o l) × (m ≡ leftFor o l)
 
 module _ {o : Outcome} {t l m : List ℕ} {q : Pen} (w : Wrote false t l (penAt 0 false) m q) where
   pub at-fault : {n : ℕ} → o ≡ faulty n → Fits o l (Malformed n) m
-  unfolding answerFor leftFor
+  unfolding answerFor leftFor listedIn shownIn
   at-fault e = rw e (refl, dry w .0)
 
   pub no-space : o ≡ whole t → q .short ≡ true → Fits o l Short m
-  unfolding answerFor leftFor
+  unfolding answerFor leftFor listedIn shownIn
   no-space e h =
       let f : leb (length t) (length l) ≡ false = lt-leb (length t) (length l) (ltb-true (length l) (length t) (sym (dry w .1) ∙ h)) in
       rw e (off _ f refl, off _ f (dry w .0))
 
   pub in-space : {n : List ℕ} {r : Pen} → o ≡ whole t → q .short ≡ false → Wrote true t m (penAt 0 false) n r → Fits o l (Done (r .at)) n
-  unfolding answerFor leftFor
+  unfolding answerFor leftFor listedIn shownIn
   in-space {n} {r} e h x =
       let f : length t ≤ length l = ltb-false (length l) (length t) (sym (dry w .1) ∙ h) in
       let y : Wrote true t l (penAt 0 false) n r = rw (dry w .0) at x in
@@ -62,7 +64,7 @@ count-in true k t l e h = let z : k ≡ length t = ap (λ (p : ℕ × ℕ). p .1
 count-in false k t l e h = let z = ap (λ (p : ℕ × ℕ). p .0) h in absurd (omega arith)
 
 within-by : (o : Outcome) (k : ℕ) (l : List ℕ) → (0, k) ≡ answerFor o l → k ≤ length (leftFor o l)
-unfolding answerFor leftFor
+unfolding answerFor leftFor listedIn shownIn
 within-by (whole t) k l h = count-in (leb (length t) (length l)) k t l refl h
 within-by (faulty n) k l h = let z = ap (λ (p : ℕ × ℕ). p .0) h in absurd (omega arith)
 

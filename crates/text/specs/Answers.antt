@@ -1,9 +1,7 @@
 -- What a translation gives, and what is answered of it for a lent buffer: document 01's number and values for each case.
-use mathlib.Core.List.{List, _++_}
+use mathlib.Core.List.{List}
 use Prim.Native.Nat.{ℕ}
-use lib.Dec.{leb}
-use lib.ListN.{length, drop}
-use Rattle.refusal.specs.Choice.{pick}
+use Rattle.sheet.specs.Shown.{listedIn, shownIn}
 use Rattle.refusal.specs.Refusal.{number, journalMalformed, bufferShort}
 use Rattle.text.specs.declared.Answer.{Answer}
 use Rattle.text.specs.declared.Answer.the-variants.{Done, Malformed, Short}
@@ -21,9 +19,9 @@ answered Short = (number bufferShort, 0)
 
 -- the answer for an outcome and a buffer l, and the buffer after it: all of it and what stood past it, or l as it was
 unfoldable pub answerFor : Outcome → List ℕ → ℕ × ℕ
-answerFor (whole w) l = pick (leb (length w) (length l)) (0, length w) (number bufferShort, 0)
+answerFor (whole w) l = listedIn w l
 answerFor (faulty at) l = (number journalMalformed, at)
 
 unfoldable pub leftFor : Outcome → List ℕ → List ℕ
-leftFor (whole w) l = pick (leb (length w) (length l)) (w ++ drop (length w) l) l
+leftFor (whole w) l = shownIn w l
 leftFor (faulty at) l = l

@@ -8,7 +8,8 @@ use lib.ListN.{length, getD, take, drop}
 use lib.Seq.{take-suc, take-add}
 use lib.Dec.{eqb, leb, ltb}
 use borrow.Author.Tests.{eqb-true, leb-true, ltb-true, le-ltb, lt-ltb, lt-leb}
-use Rattle.refusal.specs.Choice.{pick, pick-on, pick-off}
+use Rattle.refusal.specs.Choice.{pick}
+use Rattle.refusal.specs.ChoiceLaws.{pick-on, pick-off}
 use Rattle.wire.specs.FieldLaws.{and-left, and-right}
 use Rattle.sheet.specs.Decimal.{decimalOf, space}
 use Rattle.sheet.specs.DecimalLaws.{decimal-again}

@@ -8,7 +8,8 @@ use native.Mathlib.Numerals.{add-one}
 use lib.ListN.{length, getD, drop, length-drop}
 use lib.Dec.{eqb, leb, ltb}
 use borrow.Author.Tests.{eqb-true, le-leb, lt-leb, leb-true, leb-false}
-use Rattle.refusal.specs.Choice.{pick, pick-on, pick-off, on, off}
+use Rattle.refusal.specs.Choice.{pick}
+use Rattle.refusal.specs.ChoiceLaws.{either, pick-on, pick-off, on, off}
 use Rattle.wire.specs.FieldLaws.{and-right}
 use Rattle.journal.specs.Table.{fieldsOf, sent}
 use Rattle.journal.specs.Format.{headerOf, recordOf}
@@ -43,11 +44,6 @@ unfolding lineIn
 line-goes t at h =
     let b = drop at t in
     closed-goes t (tagIn b) (length (wordOf (tagIn b))) (readIn (fieldsOf (tagIn b)) (drop (length (wordOf (tagIn b))) b)) at h
-
-either : {A : Type 0} (P : A → Type 0) (t : Bool) (x y : A) → (t ≡ true → P x) → (t ≡ false → P y) → P (pick t x y)
-unfolding pick
-either P true x y f g = f refl
-either P false x y f g = g refl
 
 pub onward : (t : List ℕ) (at : ℕ) → Onward (length t) at (lineAt t at)
 unfolding lineAt Onward

@@ -6,7 +6,8 @@ use Prim.Native.Nat.{ℕ, _+_, _≤_, _<_}
 use native.Mathlib.Omega.{arith}
 use lib.ListN.{length, getD, drop, length-append}
 use lib.Seq.{drop-append-seam, getD-append-seam, getD-append-add}
-use Rattle.refusal.specs.Choice.{pick, pick-on}
+use Rattle.refusal.specs.Choice.{pick}
+use Rattle.refusal.specs.ChoiceLaws.{pick-on}
 use Rattle.sheet.specs.Decimal.{space, newline}
 use Rattle.journal.specs.Table.{topOf, fieldsOf}
 use Rattle.journal.specs.HeldLaws.{Tops}

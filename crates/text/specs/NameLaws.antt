@@ -7,7 +7,8 @@ use native.Mathlib.Omega.{arith}
 use lib.ListN.{length}
 use lib.Dec.{eqb}
 use borrow.Author.Tests.{ne-eqb, eqb-true}
-use Rattle.refusal.specs.Choice.{pick, pick-off}
+use Rattle.refusal.specs.Choice.{pick}
+use Rattle.refusal.specs.ChoiceLaws.{pick-off}
 use Rattle.text.specs.Names.{Name, names, wordIn, wordOf}
 
 -- what the last arm of a `match` with an arm for each name knows of the tag

@@ -8,7 +8,8 @@ use lib.ListN.{length, getD, length-append}
 use lib.Seq.{getD-append-seam}
 use lib.Dec.{eqb, leb, ltb}
 use borrow.Author.Tests.{ne-eqb, le-leb, lt-ltb, ltb-true, ltb-false}
-use Rattle.refusal.specs.Choice.{pick, pick-on, pick-off}
+use Rattle.refusal.specs.Choice.{pick}
+use Rattle.refusal.specs.ChoiceLaws.{pick-on, pick-off}
 use Rattle.sheet.specs.Decimal.{decimalBy, decimalOf}
 use Rattle.journal.specs.Table.{topOf}
 use Rattle.text.specs.Line.{isSigned, minus, signedOf, numeralOf}

@@ -10,7 +10,8 @@ use lib.ListN.{length, getD, drop, length-drop}
 use lib.Seq.{drop-cons, drop-length, getD-drop}
 use lib.Dec.{eqb, leb, ltb}
 use borrow.Author.Tests.{eq-eqb, ne-eqb, eqb-true, lt-leb, leb-true, le-ltb, lt-ltb, ltb-true, ltb-false}
-use Rattle.refusal.specs.Choice.{pick, pick-on, pick-off, on, off}
+use Rattle.refusal.specs.Choice.{pick}
+use Rattle.refusal.specs.ChoiceLaws.{pick-on, pick-off, on, off}
 use Rattle.wire.specs.FieldLaws.{and-left, and-right}
 use Rattle.journal.specs.FieldLaws.{and-off}
 use Rattle.journal.specs.Table.{topOf}

@@ -6,9 +6,11 @@ use native.Mathlib.Omega.{arith}
 use lib.ListN.{length, take, drop, replicate}
 use lib.Seq.{take-append-seam}
 use borrow.Author.Tests.{le-leb}
-use Rattle.refusal.specs.Choice.{pick, pick-on}
-use Rattle.wire.specs.Field.{bytesOf, headOf, fieldOf, placed, laid}
-use Rattle.wire.specs.PlaceLaws.{laid-in, length-placed}
+use Rattle.refusal.specs.Choice.{pick}
+use Rattle.refusal.specs.ChoiceLaws.{pick-on}
+use Rattle.wire.specs.Field.{bytesOf, headOf, fieldOf}
+use Rattle.refusal.specs.Placed.{placed, laid}
+use Rattle.refusal.specs.PlacedLaws.{laid-in, length-placed}
 use Rattle.journal.specs.Answers.{written}
 use Rattle.journal.specs.TableLaws.{few}
 use Rattle.journal.specs.Format.{headerOf, recordOf, writing}

@@ -6,7 +6,8 @@ use Prim.Native.Nat.{ℕ}
 use native.Mathlib.Omega.{arith}
 use lib.ListN.{length, drop}
 use lib.Dec.{eqb}
-use Rattle.refusal.specs.Choice.{pick, pick-on}
+use Rattle.refusal.specs.Choice.{pick}
+use Rattle.refusal.specs.ChoiceLaws.{pick-on}
 use Rattle.refusal.specs.Refusal.{number, journalMalformed}
 use Rattle.wire.specs.Field.{bytesOf, headOf, fieldOf, begins, numberAt}
 use Rattle.wire.specs.NumberLaws.{Bytes}

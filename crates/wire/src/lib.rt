@@ -2,7 +2,8 @@
 ghost use mathlib.Core.Path.{_≡_};
 ghost use Prim.Native.Nat.{_+_, _≤_, _<_, _%_};
 ghost use lib.ListN.{length, drop};
-ghost use Rattle.wire.specs.Field.{numberIn, bytesOf, fieldOf, headOf, begins, numberAt, laid};
+ghost use Rattle.wire.specs.Field.{numberIn, bytesOf, fieldOf, headOf, begins, numberAt};
+ghost use Rattle.refusal.specs.Placed.{laid};
 ghost use Rattle.wire.specs.FieldLaws.{Room};
 
 // Whether n places from p on lie within len.

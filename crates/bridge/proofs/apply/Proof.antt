@@ -2,7 +2,7 @@ use mathlib.Core.Path.{_≡_, sym, ap, _∙_}
 use Prim.Native.Nat.{ℕ}
 use borrow.Author.Needs.{needs}
 use borrow.Author.Tests.{eq-eqb, ne-eqb}
-use Rattle.refusal.specs.Choice.{on, off}
+use Rattle.refusal.specs.ChoiceLaws.{on, off}
 use Rattle.command.specs.declared.Command.{Command}
 use Rattle.journal.specs.Answers.{Reading, found, refused, ended, reading}
 use Rattle.book.specs.declared.Book.{Book}

@@ -2,7 +2,8 @@ use mathlib.Core.Path.{_≡_, sym, ap, _∙_}
 use mathlib.Core.Bool.{not}
 use mir.Facts.{toZ-ofZ}
 use Rattle.money.specs.Range.{inAmount}
-use Rattle.refusal.specs.Refusal.{invalidInput, alreadyExists, noRoom, fails, passes, none-left}
+use Rattle.refusal.specs.Refusal.{invalidInput, alreadyExists, noRoom}
+use Rattle.refusal.specs.RefusalLaws.{fails, passes, none-left}
 use borrow.Author.Needs.{needs}
 use Rattle.invoice.proofs.register_refusal.Statement.{statement}
 use Rattle.invoice.proofs.register_refusal.Tie as tie

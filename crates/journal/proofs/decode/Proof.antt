@@ -8,7 +8,7 @@ use borrow.Author.Needs.{needs}
 use borrow.Author.Tests.{not-true, not-false}
 use Rattle.wire.specs.Field.{begins}
 use Rattle.wire.specs.FieldLaws.{begins-room}
-use Rattle.journal.specs.Table.{fieldsOf, listed, made, named}
+use Rattle.journal.specs.Table.{fieldsOf, rowFields, made, named}
 use Rattle.journal.specs.TableLaws.{few, low, take-padded}
 use Rattle.journal.specs.Format.{gatheredIn}
 use Rattle.journal.specs.ReadLaws.{at-end, at-record, no-head, not-well, whole, all-tops}
@@ -28,7 +28,7 @@ tag c = getD (start c .args .s .now) (start c .args .at) 0
 abbrev fs : tie.After-tags → List ℕ
 fs c = fieldsOf (tag c)
 
-row : (c : tie.After-tags) → c .before .fields .result ≡ listed (fs c)
+row : (c : tie.After-tags) → c .before .fields .result ≡ rowFields (fs c)
 row c = c .before .fields .ensures
 
 count : (c : tie.After-tags) → c .before .fields .result .0 ≡ length (fs c)

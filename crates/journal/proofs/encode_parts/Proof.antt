@@ -4,8 +4,9 @@ use Prim.Native.Nat.{ℕ, _+_, _*_, _≤_}
 use native.Mathlib.Omega.{arith}
 use lib.ListN.{length}
 use borrow.Author.Needs.{needs}
-use Rattle.wire.specs.Field.{placed, headOf, bytesOf}
-use Rattle.wire.specs.PlaceLaws.{laid-in, length-placed}
+use Rattle.wire.specs.Field.{headOf, bytesOf}
+use Rattle.refusal.specs.Placed.{placed}
+use Rattle.refusal.specs.PlacedLaws.{laid-in, length-placed}
 use Rattle.journal.specs.Table.{fieldsOf}
 use Rattle.journal.specs.TableLaws.{few}
 use Rattle.journal.specs.Format.{recordOf}

@@ -4,7 +4,7 @@ use lib.Dec.{eqb}
 use lib.ListN.{drop}
 use borrow.Author.Needs.{needs}
 use borrow.Author.Tests.{not-true, not-false, eq-eqb, ne-eqb}
-use Rattle.refusal.specs.Choice.{on, off}
+use Rattle.refusal.specs.ChoiceLaws.{on, off}
 use Rattle.wire.specs.Field.{begins, numberAt}
 use Rattle.journal.specs.Format.{openingOf}
 use Rattle.journal.specs.FieldLaws.{and-off}

@@ -1,6 +1,7 @@
 use mathlib.Core.Path.{refl}
 use borrow.Author.Needs.{needs}
-use Rattle.wire.specs.Field.{placed, fieldOf, headOf, bytesOf}
+use Rattle.wire.specs.Field.{fieldOf, headOf, bytesOf}
+use Rattle.refusal.specs.Placed.{placed}
 use Rattle.journal.specs.Format.{headerOf}
 use Rattle.journal.specs.WriteLaws.{short, fitting}
 use Rattle.journal.proofs.write_header.Statement.{statement}

@@ -1,6 +1,6 @@
 use mathlib.Core.Path.{refl}
 use borrow.Author.Needs.{needs}
-use Rattle.refusal.specs.Choice.{on, off}
+use Rattle.refusal.specs.ChoiceLaws.{on, off}
 use Rattle.money.specs.Facts.{back}
 use Rattle.lists.specs.Active.{activeIn}
 use Rattle.lists.proofs.active.Statement.{statement}

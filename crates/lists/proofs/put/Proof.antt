@@ -1,5 +1,5 @@
 use lib.ListN.{length, take, drop, getD, set}
-use Rattle.lists.specs.Placed.{placed}
+use Rattle.refusal.specs.Placed.{placed}
 use native.Mathlib.Numerals.{add-one}
 use lib.Seq.{paste, paste-zero, paste-suc, length-paste, take-all}
 use Prim.Native.Nat.{ℕ, _+_, _≤_, _<_, _-_}

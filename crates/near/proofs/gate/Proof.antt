@@ -1,6 +1,7 @@
 use mathlib.Core.Path.{sym, ap, _∙_}
 use mathlib.Core.Bool.{not, _&&_}
-use Rattle.refusal.specs.Refusal.{fails, passes, none-left, paused, notFound}
+use Rattle.refusal.specs.Refusal.{paused, notFound}
+use Rattle.refusal.specs.RefusalLaws.{fails, passes, none-left}
 use borrow.Author.Needs.{needs}
 use Rattle.near.proofs.gate.Statement.{statement}
 use Rattle.near.proofs.gate.Tie as tie

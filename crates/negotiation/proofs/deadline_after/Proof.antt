@@ -1,5 +1,5 @@
 use Rattle.negotiation.specs.Rounds.{deadlineOf}
-use Rattle.refusal.specs.Choice.{on, off}
+use Rattle.refusal.specs.ChoiceLaws.{on, off}
 use borrow.Author.Tests.{eq-eqb, ne-eqb}
 use native.Mathlib.Omega.{arith}
 use mathlib.Core.Path.{refl}

@@ -1,7 +1,8 @@
 use mathlib.Core.Path.{sym, ap, _∙_}
 use mathlib.Core.Bool.{not}
 use borrow.Author.Tests.{eq-eqb, ne-eqb}
-use Rattle.refusal.specs.Refusal.{blacklisted, invalidInput, notFound, alreadyExists, invalidTransition, noRoom, fails, passes, none-left}
+use Rattle.refusal.specs.Refusal.{blacklisted, invalidInput, notFound, alreadyExists, invalidTransition, noRoom}
+use Rattle.refusal.specs.RefusalLaws.{fails, passes, none-left}
 use borrow.Author.Needs.{needs}
 use Rattle.offer.proofs.create_refusal.Statement.{statement}
 use Rattle.offer.proofs.create_refusal.Tie as tie

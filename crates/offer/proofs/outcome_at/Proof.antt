@@ -1,6 +1,6 @@
 use mathlib.Core.Path.{refl}
 use borrow.Author.Tests.{eq-eqb, ne-eqb}
-use Rattle.refusal.specs.Choice.{on, off}
+use Rattle.refusal.specs.ChoiceLaws.{on, off}
 use Rattle.offer.specs.Rules.{outcomeAt}
 use Rattle.offer.proofs.outcome_at.Statement.{statement}
 use Rattle.offer.proofs.outcome_at.Tie as tie

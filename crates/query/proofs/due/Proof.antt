@@ -1,6 +1,6 @@
 use Prim.Native.Nat.{ℕ}
 use mathlib.Core.Path.{refl, sym, ap, _∙_}
-use Rattle.refusal.specs.Choice.{on, off}
+use Rattle.refusal.specs.ChoiceLaws.{on, off}
 use Rattle.money.specs.Facts.{back}
 use Rattle.terms.specs.Due.{dueSays}
 use Rattle.query.specs.Numbers.{dueIn}

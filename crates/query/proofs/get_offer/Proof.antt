@@ -2,7 +2,7 @@ use mathlib.Core.Path.{sym, ap, _∙_}
 use mathlib.Core.Bool.{not}
 use borrow.Author.Tests.{not-false}
 use Rattle.refusal.specs.Refusal.{notFound, bookUnsound}
-use Rattle.refusal.specs.Rule.{refuses, goes-on, does}
+use Rattle.refusal.specs.RuleLaws.{refuses, goes-on, does}
 use Rattle.offer.specs.declared.SeenDeal.{SeenDeal}
 use Rattle.lists.specs.Listing.{numbersOf, inOrder}
 use Rattle.query.specs.Reads.{reply}

@@ -1,9 +1,9 @@
 use mathlib.Core.Path.{refl, sym, ap, _∙_}
 use mathlib.Core.Bool.{not}
 use borrow.Author.Tests.{not-false}
-use Rattle.refusal.specs.Choice.{on, off}
+use Rattle.refusal.specs.ChoiceLaws.{on, off}
 use Rattle.refusal.specs.Refusal.{bookUnsound}
-use Rattle.refusal.specs.Rule.{refuses, goes-on, does}
+use Rattle.refusal.specs.RuleLaws.{refuses, goes-on, does}
 use Rattle.terms.specs.Schedule.{scheduleZero}
 use Rattle.offer.specs.declared.SeenDeal.{SeenDeal}
 use Rattle.query.specs.Numbers.{scheduleNumbers}

@@ -1,7 +1,7 @@
 use mathlib.Core.Path.{sym, ap, _∙_}
 use mathlib.Core.Bool.{not}
 use Rattle.refusal.specs.Refusal.{bookUnsound}
-use Rattle.refusal.specs.Rule.{refuses, goes-on, does}
+use Rattle.refusal.specs.RuleLaws.{refuses, goes-on, does}
 use Rattle.query.specs.Reads.{reply, totalsOrder}
 use borrow.Author.Needs.{needs}
 use Rattle.query.proofs.get_stats.Statement.{statement}

@@ -3,7 +3,8 @@ use mathlib.Core.Bool.{not}
 use mathlib.Core.List.{[]}
 use borrow.Author.Tests.{not-false}
 use Rattle.refusal.specs.Refusal.{bookUnsound}
-use Rattle.refusal.specs.Rule.{answered, refuses, goes-on}
+use Rattle.refusal.specs.Rule.{answered}
+use Rattle.refusal.specs.RuleLaws.{refuses, goes-on}
 use Rattle.table.specs.Tables.{Table}
 use Rattle.offer.specs.declared.Offer.{Offer}
 use Rattle.lists.specs.Listing.{offersOf, listRule, told}

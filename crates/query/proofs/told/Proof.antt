@@ -1,6 +1,6 @@
 use mathlib.Core.Path.{refl}
 use Rattle.refusal.specs.Refusal.{bookUnsound}
-use Rattle.refusal.specs.Rule.{refuses, goes-on, does}
+use Rattle.refusal.specs.RuleLaws.{refuses, goes-on, does}
 use Rattle.query.specs.Reads.{reply}
 use Rattle.query.proofs.told.Statement.{statement}
 use Rattle.query.proofs.told.Tie as tie

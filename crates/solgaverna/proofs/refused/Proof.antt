@@ -1,6 +1,6 @@
 use mathlib.Core.Path.{refl}
 use borrow.Author.Tests.{eq-eqb, ne-eqb}
-use Rattle.refusal.specs.Choice.{on, off}
+use Rattle.refusal.specs.ChoiceLaws.{on, off}
 use Rattle.solgaverna.specs.Answers.{minus}
 use Rattle.solgaverna.specs.AnswerLaws.{turned}
 use borrow.Author.Needs.{needs}

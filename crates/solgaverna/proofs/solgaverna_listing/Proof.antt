@@ -1,7 +1,7 @@
 use mathlib.Core.Path.{sym, ap, _∙_}
 use Rattle.refusal.specs.Choice.{pick}
 use Rattle.solgaverna.specs.Answers.{coded}
-use Rattle.replay.specs.Text.{listed}
+use Rattle.replay.specs.Text.{listingSays}
 use borrow.Author.Needs.{needs}
 use Rattle.solgaverna.proofs.solgaverna_listing.Statement.{statement}
 use Rattle.solgaverna.proofs.solgaverna_listing.Tie as tie
@@ -23,14 +23,14 @@ same-length c = search needs
 
 returns : tie.Need-returns
 unfolding pick
-returns c = (sym (ap (λ z. coded (listed z .0) (listed z .1)) (c .before .r .given .1)) ∙ ap (λ z. coded (z .0) (z .1)) (c .before .before .before .before .before .listing .ensures .0), c .before .before .before .before .before .listing .ensures .1)
+returns c = (sym (ap (λ z. coded (listingSays z .0) (listingSays z .1)) (c .before .r .given .1)) ∙ ap (λ z. coded (z .0) (z .1)) (c .before .before .before .before .before .listing .ensures .0), c .before .before .before .before .before .listing .ensures .1)
 
 same-length-2 : tie.Need-same-length-2
 same-length-2 c = search needs
 
 returns-2 : tie.Need-returns-2
 unfolding pick
-returns-2 c = (c .refused .ensures ∙ sym (ap (λ z. coded (listed z .0) (listed z .1)) (c .before .enum-told .given .1)) ∙ ap (λ z. coded (z .0) (z .1)) (c .before .before .before .before .before .listing .ensures .0), c .before .before .before .before .before .listing .ensures .1)
+returns-2 c = (c .refused .ensures ∙ sym (ap (λ z. coded (listingSays z .0) (listingSays z .1)) (c .before .enum-told .given .1)) ∙ ap (λ z. coded (z .0) (z .1)) (c .before .before .before .before .before .listing .ensures .0), c .before .before .before .before .before .listing .ensures .1)
 
 pub solgaverna-listing-spec : {M : Type 1} → statement M
 solgaverna-listing-spec =

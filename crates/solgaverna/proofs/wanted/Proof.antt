@@ -1,6 +1,6 @@
 use mathlib.Core.Path.{refl}
 use borrow.Author.Tests.{eq-eqb, ne-eqb, lt-ltb, le-ltb}
-use Rattle.refusal.specs.Choice.{on, off}
+use Rattle.refusal.specs.ChoiceLaws.{on, off}
 use Rattle.solgaverna.specs.Answers.{wantedOf}
 use borrow.Author.Needs.{needs}
 use Rattle.solgaverna.proofs.wanted.Statement.{statement}

@@ -8,7 +8,7 @@ use mir.Syntax.{w64}
 use mir.Val.{toZ}
 use mir.Facts.{toZ-pos}
 use borrow.Author.Tests.{leb-true, not-true, not-false}
-use Rattle.refusal.specs.Choice.{on, off}
+use Rattle.refusal.specs.ChoiceLaws.{on, off}
 use Rattle.money.specs.Range.{magnitudeOf}
 use Rattle.money.specs.Facts.{back, both}
 use Rattle.terms.specs.Terms.{termsOk, countOk}

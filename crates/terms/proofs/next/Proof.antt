@@ -1,6 +1,6 @@
 use mathlib.Core.Path.{refl}
 use borrow.Author.Tests.{le-leb, lt-leb}
-use Rattle.refusal.specs.Choice.{on, off}
+use Rattle.refusal.specs.ChoiceLaws.{on, off}
 use Rattle.terms.specs.Due.{nextOf}
 use borrow.Author.Needs.{needs}
 use Rattle.terms.proofs.next.Statement.{statement}

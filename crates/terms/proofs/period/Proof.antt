@@ -1,7 +1,7 @@
 use Prim.Native.Nat.{ℕ}
 use mathlib.Core.Path.{refl, sym, ap, _∙_}
 use borrow.Author.Tests.{not-true, not-false}
-use Rattle.refusal.specs.Choice.{on, off}
+use Rattle.refusal.specs.ChoiceLaws.{on, off}
 use Rattle.terms.specs.Schedule.{periodOf}
 use borrow.Author.Needs.{needs}
 use Rattle.terms.proofs.period.Statement.{statement}

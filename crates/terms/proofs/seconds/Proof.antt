@@ -1,6 +1,6 @@
 use mathlib.Core.Path.{refl}
 use borrow.Author.Tests.{eq-eqb, ne-eqb}
-use Rattle.refusal.specs.Choice.{on, off}
+use Rattle.refusal.specs.ChoiceLaws.{on, off}
 use Rattle.terms.specs.Schedule.{secondsOf}
 use Rattle.terms.proofs.seconds.Statement.{statement}
 use Rattle.terms.proofs.seconds.Tie as tie

@@ -4,7 +4,7 @@ use mir.Facts.{toZ-ofZ}
 use Rattle.money.specs.Range.{inTotal}
 use Rattle.account.specs.Rules.{posted}
 use Rattle.refusal.specs.Refusal.{invalidInput}
-use Rattle.refusal.specs.Rule.{refuses, goes-on, does}
+use Rattle.refusal.specs.RuleLaws.{refuses, goes-on, does}
 use borrow.Author.Needs.{needs}
 use Rattle.account.proofs.Account.approve.Statement.{statement}
 use Rattle.account.proofs.Account.approve.Tie as tie

@@ -9,7 +9,7 @@ use Rattle.account.specs.declared.MovedAccount.{MovedAccount}
 use Rattle.account.specs.Post.{withOffered, postedTo}
 use Rattle.account.specs.Rules.{posted}
 use Rattle.refusal.specs.Refusal.{outOfRange}
-use Rattle.refusal.specs.Rule.{refuses, goes-on, does}
+use Rattle.refusal.specs.RuleLaws.{refuses, goes-on, does}
 use borrow.Author.Needs.{needs}
 use Rattle.account.proofs.Account.reoffer.Statement.{statement}
 use Rattle.account.proofs.Account.reoffer.Tie as tie

@@ -2,7 +2,7 @@ use mathlib.Core.Path.{refl}
 use borrow.Author.Tests.{lt-ltb, le-ltb}
 use Rattle.account.specs.Rules.{posted}
 use Rattle.refusal.specs.Refusal.{unauthorized, invalidInput, notFound}
-use Rattle.refusal.specs.Rule.{refuses, goes-on, does}
+use Rattle.refusal.specs.RuleLaws.{refuses, goes-on, does}
 use Rattle.account.proofs.SeenAccount.blacklist.Statement.{statement}
 use Rattle.account.proofs.SeenAccount.blacklist.Tie as tie
 

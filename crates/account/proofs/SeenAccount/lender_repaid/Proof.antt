@@ -1,11 +1,11 @@
+use Rattle.money.specs.Range.{countLimit}
 use mathlib.Core.Path.{refl}
 use Prim.Native.Nat.{_+_}
 use native.Mathlib.Omega.{arith}
 use borrow.Author.Tests.{lt-ltb, le-ltb}
-use Rattle.account.specs.Account.{countLimit}
 use Rattle.account.specs.Rules.{posted}
 use Rattle.refusal.specs.Refusal.{unauthorized, invalidInput, notFound, outOfRange}
-use Rattle.refusal.specs.Rule.{refuses, goes-on, does}
+use Rattle.refusal.specs.RuleLaws.{refuses, goes-on, does}
 use borrow.Author.Needs.{needs}
 use Rattle.account.proofs.SeenAccount.lender_repaid.Statement.{statement}
 use Rattle.account.proofs.SeenAccount.lender_repaid.Tie as tie

@@ -1,8 +1,8 @@
 use mathlib.Core.Path.{refl}
 use borrow.Author.Tests.{eq-eqb, ne-eqb}
-use Rattle.refusal.specs.Choice.{not-on, not-off}
+use Rattle.refusal.specs.ChoiceLaws.{not-on, not-off}
 use Rattle.refusal.specs.Refusal.{notFound, unauthorized, invalidTransition}
-use Rattle.refusal.specs.Rule.{refuses, goes-on, does}
+use Rattle.refusal.specs.RuleLaws.{refuses, goes-on, does}
 use Rattle.invoice.specs.Invoice.{posted}
 use Rattle.invoice.proofs.SeenInvoice.cancel.Statement.{statement}
 use Rattle.invoice.proofs.SeenInvoice.cancel.Tie as tie

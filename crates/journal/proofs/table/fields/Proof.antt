@@ -1,18 +1,18 @@
 use mathlib.Core.Path.{_≡_, sym, ap}
 use Prim.Native.Nat.{ℕ}
 use Rattle.refusal.specs.Choice.{pick}
-use Rattle.journal.specs.Table.{fieldsOf, fieldsIn, padded, listed}
+use Rattle.journal.specs.Table.{fieldsOf, fieldsIn, padded, rowFields}
 use Rattle.journal.specs.TableLaws.{no-fields}
 use Rattle.journal.proofs.table.fields.Statement.{statement}
 use Rattle.journal.proofs.table.fields.Tie as tie
 
 -- in the arm of a tag
-at : (k : ℕ) {t : ℕ} → t ≡ k → listed (fieldsOf k) ≡ listed (fieldsOf t)
-at k e = ap (λ (t : ℕ). listed (fieldsOf t)) (sym e)
+at : (k : ℕ) {t : ℕ} → t ≡ k → rowFields (fieldsOf k) ≡ rowFields (fieldsOf t)
+at k e = ap (λ (t : ℕ). rowFields (fieldsOf t)) (sym e)
 
 rest : tie.Need-returns-25
 unfolding padded
-rest c = ap listed (sym (no-fields (c .before .args .tag) (c .match .rest)))
+rest c = ap rowFields (sym (no-fields (c .before .args .tag) (c .match .rest)))
 
 pub fields-spec : {M : Type 1} → statement M
 unfolding fieldsOf fieldsIn padded pick

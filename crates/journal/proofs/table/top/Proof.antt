@@ -1,5 +1,5 @@
 use mathlib.Core.Path.{refl}
-use Rattle.refusal.specs.Choice.{on, off}
+use Rattle.refusal.specs.ChoiceLaws.{on, off}
 use Rattle.journal.specs.Table.{topOf}
 use Rattle.journal.proofs.table.top.Statement.{statement}
 use Rattle.journal.proofs.table.top.Tie as tie

@@ -4,9 +4,10 @@ use native.Mathlib.Omega.{arith}
 use lib.ListN.{length, take, getD}
 use lib.Seq.{length-take-le}
 use borrow.Author.Needs.{needs}
-use Rattle.wire.specs.Field.{placed, fieldOf, bytesOf}
+use Rattle.wire.specs.Field.{fieldOf, bytesOf}
+use Rattle.refusal.specs.Placed.{placed}
 use Rattle.wire.specs.FieldLaws.{length-field}
-use Rattle.wire.specs.PlaceLaws.{length-placed, placed-none, laid-in}
+use Rattle.refusal.specs.PlacedLaws.{laid-in, placed-none, length-placed}
 use Rattle.journal.specs.Format.{fieldsOut}
 use Rattle.journal.specs.WriteLaws.{length-fields, fields-turn}
 use Rattle.journal.proofs.writing.put_fields.Statement.{statement}

@@ -7,7 +7,7 @@ use lib.ListN.{length}
 use borrow.Author.Needs.{needs}
 use borrow.Author.Tests.{lt-ltb, le-ltb}
 use Rattle.refusal.specs.Refusal.{invalidInput, bufferShort}
-use Rattle.refusal.specs.Rule.{refuses, goes-on, does}
+use Rattle.refusal.specs.RuleLaws.{refuses, goes-on, does}
 use Rattle.lists.specs.Listing.{told, listing, offersOf}
 use Rattle.lists.proofs.OfferRows.list.Statement.{statement}
 use Rattle.lists.proofs.OfferRows.list.Tie as tie

@@ -4,10 +4,10 @@ use mathlib.Core.Path.{refl, sym, ap, _∙_}
 use mathlib.Core.Logic.{⊎-elim}
 use mathlib.Core.List.{List}
 use borrow.Author.Needs.{needs}
-use Rattle.lists.specs.Placed.{placed}
+use Rattle.refusal.specs.Placed.{placed}
 use Rattle.lists.specs.Pick.{walk-few}
 use Rattle.lists.specs.Written.{Wrote, write-start, write-on, write-off, write-done, write-length, write-room}
-use Rattle.lists.specs.Listing.{offersOf, taking, tenOf, inOrder, laid}
+use Rattle.lists.specs.Listing.{offersOf, taking, tenOf, inOrder, filled}
 use Rattle.lists.specs.Rows.{none, past, inside, entry, asked}
 use Rattle.lists.proofs.OfferRows.write.Statement.{statement}
 use Rattle.lists.proofs.OfferRows.write.Tie as tie
@@ -83,7 +83,7 @@ same-length : tie.Need-same-length Inv-loop μ-loop
 same-length c = write-length (c .before .loop .inv) 10 (λ a. refl) (c .before .before .before .before .pre)
 
 returns : tie.Need-returns Inv-loop μ-loop
-unfolding laid
+unfolding filled
 returns c = write-done (c .before .loop .inv) 10 (λ a. refl) (c .before .before .before .before .pre) (past (c .before .before .in-use .ensures) _ (c .loop-test .left))
 
 pub write-spec : {M : Type 1} → statement M

@@ -2,7 +2,7 @@ use mathlib.Core.Path.{_≡_, refl, sym, _∙_}
 use Prim.Native.Nat.{ℕ}
 use borrow.Author.Tests.{eqb-true, eqb-false, not-true, not-false}
 use Rattle.refusal.specs.Refusal.{first}
-use Rattle.refusal.specs.Rule.{refused, accepted}
+use Rattle.refusal.specs.RuleLaws.{refused, accepted}
 use Rattle.refusal.specs.Chain.{number-of}
 use Rattle.rules.specs.Model.{Model}
 use Rattle.rules.specs.Rules.{concluding}

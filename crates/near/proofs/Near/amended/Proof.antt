@@ -2,12 +2,14 @@ use mathlib.Core.Path.{_≡_, refl, sym, ap, _∙_}
 use mathlib.Core.List.{_++_}
 use Prim.Native.Nat.{ℕ}
 use borrow.Author.Tests.{eqb-true, eqb-false, not-true, not-false}
-use Rattle.refusal.specs.Refusal.{first, none-left}
-use Rattle.refusal.specs.Rule.{answered, refused}
+use Rattle.refusal.specs.Refusal.{first}
+use Rattle.refusal.specs.RefusalLaws.{none-left}
+use Rattle.refusal.specs.Rule.{answered}
+use Rattle.refusal.specs.RuleLaws.{refused}
 use Rattle.refusal.specs.Chain.{stops, goes, number-of, done-of, then-accepted, then-answers}
 use Rattle.table.specs.declared.Named.the-variants.{Id}
 use Rattle.account.specs.Rules.{posted, reofferOf}
-use Rattle.negotiation.specs.Rounds.{roundLimit, agreesOf}
+use Rattle.negotiation.specs.Rounds.{roundSlots, agreesOf}
 use Rattle.offer.specs.Rules.{amendChecks}
 use Rattle.rules.specs.Model.{Model, accountIn, offerIn}
 use Rattle.rules.specs.Rules.{originatorOf, termsIn, withLenderRound, amendedIn, agreeing, concluding}
@@ -40,7 +42,7 @@ both c o m = λ e. sym (goes (amendChecks (offerIn m o) (c .before .before .befo
 there : (c : tie.After-with-amendment) → (o : ℕ) (m : Model) → c .before .before .before .before .before .before .before .before .before .before .before .before .before .before .args .self ≡ viewOf (dealKeys (Id (c .before .before .before .before .before .before .before .before .before .before .before .before .before .before .args .caller)) (Id (originatorOf m o)) m o) m → c .with-amendment .result ≡ viewOf (dealKeys (Id (c .before .before .before .before .before .before .before .before .before .before .before .before .before .before .args .caller)) (Id (originatorOf m o)) m o) (amendedIn m (c .before .before .before .before .before .before .before .before .before .before .before .before .before .before .args .now) (c .before .before .before .before .before .before .before .before .before .before .before .before .before .before .args .caller) o (c .before .before .before .before .before .before .before .before .before .before .before .before .before .before .args .t))
 there c o m = λ e. c .with-amendment .ensures (c .before .before .before .before .before .before .before .before .before .before .before .before .before .before .args .caller) o (Id (originatorOf m o)) (Id (offerIn m o .row .offer .invoice)) m e ∙ ap (λ r. viewOf (dealKeys (Id (c .before .before .before .before .before .before .before .before .before .before .before .before .before .before .args .caller)) (Id (originatorOf m o)) m o) (withLenderRound m (c .before .before .before .before .before .before .before .before .before .before .before .before .before .before .args .now) (c .before .before .before .before .before .before .before .before .before .before .before .before .before .before .args .caller) o r (c .before .before .before .before .before .before .before .before .before .before .before .before .before .before .args .t))) (done-of posted _ (reofferOf (accountIn m (c .before .before .before .before .before .before .before .before .before .before .before .before .before .before .args .caller) .row) (termsIn m o) (c .before .before .before .before .before .before .before .before .before .before .before .before .before .before .args .t)) (λ p. p .row) (λ x. x) (λ n x. refl) (moved (c .before .before .before .before) o m e) (passes c o m e))
 
-flag : (c : tie.After-agrees) → (o : ℕ) (m : Model) → c .before .before .before .before .before .before .before .before .before .before .before .before .before .before .before .before .args .self ≡ viewOf (dealKeys (Id (c .before .before .before .before .before .before .before .before .before .before .before .before .before .before .before .before .args .caller)) (Id (originatorOf m o)) m o) m → c .agrees .result ≡ agreesOf roundLimit (offerIn m o .row .negotiation) (c .before .before .before .before .before .before .before .before .before .before .before .before .before .before .before .before .args .t)
+flag : (c : tie.After-agrees) → (o : ℕ) (m : Model) → c .before .before .before .before .before .before .before .before .before .before .before .before .before .before .before .before .args .self ≡ viewOf (dealKeys (Id (c .before .before .before .before .before .before .before .before .before .before .before .before .before .before .before .before .args .caller)) (Id (originatorOf m o)) m o) m → c .agrees .result ≡ agreesOf roundSlots (offerIn m o .row .negotiation) (c .before .before .before .before .before .before .before .before .before .before .before .before .before .before .before .before .args .t)
 flag c o m = λ e. simp e at (c .agrees .ensures)
 
 amend-refusal-requires : tie.Need-amend-refusal-requires
@@ -62,13 +64,13 @@ agrees-requires : tie.Need-agrees-requires
 agrees-requires c κs = search needs
 
 returns-3 : tie.Need-returns-3
-returns-3 c = λ o m e. ap (λ b. record { answer = 0; near = b }) (there (c .before .before .before) o m e) ∙ then-accepted (turnOf (dealKeys (Id (c .before .before .before .before .before .before .before .before .before .before .before .before .before .before .before .before .before .args .caller)) (Id (originatorOf m o)) m o)) _ (record { checks = (amendChecks (offerIn m o) (c .before .before .before .before .before .before .before .before .before .before .before .before .before .before .before .before .before .args .now) (c .before .before .before .before .before .before .before .before .before .before .before .before .before .before .before .before .before .args .caller) (accountIn m (c .before .before .before .before .before .before .before .before .before .before .before .before .before .before .before .before .before .args .caller) .row) (c .before .before .before .before .before .before .before .before .before .before .before .before .before .before .before .before .before .args .t) (c .before .before .before .before .before .before .before .before .before .before .before .before .before .before .before .before .before .args .round)) ++ (reofferOf (accountIn m (c .before .before .before .before .before .before .before .before .before .before .before .before .before .before .before .before .before .args .caller) .row) (termsIn m o) (c .before .before .before .before .before .before .before .before .before .before .before .before .before .before .before .before .before .args .t)) .checks; done = amendedIn m (c .before .before .before .before .before .before .before .before .before .before .before .before .before .before .before .before .before .args .now) (c .before .before .before .before .before .before .before .before .before .before .before .before .before .before .before .before .before .args .caller) o (c .before .before .before .before .before .before .before .before .before .before .before .before .before .before .before .before .before .args .t) }) (agreeing (agreesOf roundLimit (offerIn m o .row .negotiation) (c .before .before .before .before .before .before .before .before .before .before .before .before .before .before .before .before .before .args .t)) (c .before .before .before .before .before .before .before .before .before .before .before .before .before .before .before .before .before .args .now) o) _ (agrees-off _ _ _ (sym (flag (c .before) o m e) ∙ not-true _ (c .if3 .taken))) (both (c .before .before .before) o m e) (sym none-left) refl
+returns-3 c = λ o m e. ap (λ b. record { answer = 0; near = b }) (there (c .before .before .before) o m e) ∙ then-accepted (turnOf (dealKeys (Id (c .before .before .before .before .before .before .before .before .before .before .before .before .before .before .before .before .before .args .caller)) (Id (originatorOf m o)) m o)) _ (record { checks = (amendChecks (offerIn m o) (c .before .before .before .before .before .before .before .before .before .before .before .before .before .before .before .before .before .args .now) (c .before .before .before .before .before .before .before .before .before .before .before .before .before .before .before .before .before .args .caller) (accountIn m (c .before .before .before .before .before .before .before .before .before .before .before .before .before .before .before .before .before .args .caller) .row) (c .before .before .before .before .before .before .before .before .before .before .before .before .before .before .before .before .before .args .t) (c .before .before .before .before .before .before .before .before .before .before .before .before .before .before .before .before .before .args .round)) ++ (reofferOf (accountIn m (c .before .before .before .before .before .before .before .before .before .before .before .before .before .before .before .before .before .args .caller) .row) (termsIn m o) (c .before .before .before .before .before .before .before .before .before .before .before .before .before .before .before .before .before .args .t)) .checks; done = amendedIn m (c .before .before .before .before .before .before .before .before .before .before .before .before .before .before .before .before .before .args .now) (c .before .before .before .before .before .before .before .before .before .before .before .before .before .before .before .before .before .args .caller) o (c .before .before .before .before .before .before .before .before .before .before .before .before .before .before .before .before .before .args .t) }) (agreeing (agreesOf roundSlots (offerIn m o .row .negotiation) (c .before .before .before .before .before .before .before .before .before .before .before .before .before .before .before .before .before .args .t)) (c .before .before .before .before .before .before .before .before .before .before .before .before .before .before .before .before .before .args .now) o) _ (agrees-off _ _ _ (sym (flag (c .before) o m e) ∙ not-true _ (c .if3 .taken))) (both (c .before .before .before) o m e) (sym none-left) refl
 
 agree-requires : tie.Need-agree-requires
 agree-requires c κs = search needs
 
 returns-4 : tie.Need-returns-4
-returns-4 c = λ o m e. let w = amendedIn m (c .before .before .before .before .before .before .before .before .before .before .before .before .before .before .before .before .before .before .args .now) (c .before .before .before .before .before .before .before .before .before .before .before .before .before .before .before .before .before .before .args .caller) o (c .before .before .before .before .before .before .before .before .before .before .before .before .before .before .before .before .before .before .args .t) in let k = amend-keys m (c .before .before .before .before .before .before .before .before .before .before .before .before .before .before .before .before .before .before .args .now) (c .before .before .before .before .before .before .before .before .before .before .before .before .before .before .before .before .before .before .args .caller) o (c .before .before .before .before .before .before .before .before .before .before .before .before .before .before .before .before .before .before .args .t) (c .before .before .before .before .before .before .before .before .before .before .before .before .before .before .before .before .before .before .args .round) (asked (c .before .before .before .before) o m e) ((reofferOf (accountIn m (c .before .before .before .before .before .before .before .before .before .before .before .before .before .before .before .before .before .before .args .caller) .row) (termsIn m o) (c .before .before .before .before .before .before .before .before .before .before .before .before .before .before .before .before .before .before .args .t)) .done) in turn-at m (sym k) (concluding (c .before .before .before .before .before .before .before .before .before .before .before .before .before .before .before .before .before .before .args .now) o w) (c .agree .ensures o m w (view-at m k e) (view-at w k (there (c .before .before .before .before) o m e))) ∙ then-answers (turnOf (dealKeys (Id (c .before .before .before .before .before .before .before .before .before .before .before .before .before .before .before .before .before .before .args .caller)) (Id (originatorOf m o)) m o)) _ (record { checks = (amendChecks (offerIn m o) (c .before .before .before .before .before .before .before .before .before .before .before .before .before .before .before .before .before .before .args .now) (c .before .before .before .before .before .before .before .before .before .before .before .before .before .before .before .before .before .before .args .caller) (accountIn m (c .before .before .before .before .before .before .before .before .before .before .before .before .before .before .before .before .before .before .args .caller) .row) (c .before .before .before .before .before .before .before .before .before .before .before .before .before .before .before .before .before .before .args .t) (c .before .before .before .before .before .before .before .before .before .before .before .before .before .before .before .before .before .before .args .round)) ++ (reofferOf (accountIn m (c .before .before .before .before .before .before .before .before .before .before .before .before .before .before .before .before .before .before .args .caller) .row) (termsIn m o) (c .before .before .before .before .before .before .before .before .before .before .before .before .before .before .before .before .before .before .args .t)) .checks; done = amendedIn m (c .before .before .before .before .before .before .before .before .before .before .before .before .before .before .before .before .before .before .args .now) (c .before .before .before .before .before .before .before .before .before .before .before .before .before .before .before .before .before .before .args .caller) o (c .before .before .before .before .before .before .before .before .before .before .before .before .before .before .before .before .before .before .args .t) }) (agreeing (agreesOf roundLimit (offerIn m o .row .negotiation) (c .before .before .before .before .before .before .before .before .before .before .before .before .before .before .before .before .before .before .args .t)) (c .before .before .before .before .before .before .before .before .before .before .before .before .before .before .before .before .before .before .args .now) o) _ (agrees-on _ _ _ (sym (flag (c .before .before) o m e) ∙ not-false _ (c .before .if3 .left))) (both (c .before .before .before .before) o m e)
+returns-4 c = λ o m e. let w = amendedIn m (c .before .before .before .before .before .before .before .before .before .before .before .before .before .before .before .before .before .before .args .now) (c .before .before .before .before .before .before .before .before .before .before .before .before .before .before .before .before .before .before .args .caller) o (c .before .before .before .before .before .before .before .before .before .before .before .before .before .before .before .before .before .before .args .t) in let k = amend-keys m (c .before .before .before .before .before .before .before .before .before .before .before .before .before .before .before .before .before .before .args .now) (c .before .before .before .before .before .before .before .before .before .before .before .before .before .before .before .before .before .before .args .caller) o (c .before .before .before .before .before .before .before .before .before .before .before .before .before .before .before .before .before .before .args .t) (c .before .before .before .before .before .before .before .before .before .before .before .before .before .before .before .before .before .before .args .round) (asked (c .before .before .before .before) o m e) ((reofferOf (accountIn m (c .before .before .before .before .before .before .before .before .before .before .before .before .before .before .before .before .before .before .args .caller) .row) (termsIn m o) (c .before .before .before .before .before .before .before .before .before .before .before .before .before .before .before .before .before .before .args .t)) .done) in turn-at m (sym k) (concluding (c .before .before .before .before .before .before .before .before .before .before .before .before .before .before .before .before .before .before .args .now) o w) (c .agree .ensures o m w (view-at m k e) (view-at w k (there (c .before .before .before .before) o m e))) ∙ then-answers (turnOf (dealKeys (Id (c .before .before .before .before .before .before .before .before .before .before .before .before .before .before .before .before .before .before .args .caller)) (Id (originatorOf m o)) m o)) _ (record { checks = (amendChecks (offerIn m o) (c .before .before .before .before .before .before .before .before .before .before .before .before .before .before .before .before .before .before .args .now) (c .before .before .before .before .before .before .before .before .before .before .before .before .before .before .before .before .before .before .args .caller) (accountIn m (c .before .before .before .before .before .before .before .before .before .before .before .before .before .before .before .before .before .before .args .caller) .row) (c .before .before .before .before .before .before .before .before .before .before .before .before .before .before .before .before .before .before .args .t) (c .before .before .before .before .before .before .before .before .before .before .before .before .before .before .before .before .before .before .args .round)) ++ (reofferOf (accountIn m (c .before .before .before .before .before .before .before .before .before .before .before .before .before .before .before .before .before .before .args .caller) .row) (termsIn m o) (c .before .before .before .before .before .before .before .before .before .before .before .before .before .before .before .before .before .before .args .t)) .checks; done = amendedIn m (c .before .before .before .before .before .before .before .before .before .before .before .before .before .before .before .before .before .before .args .now) (c .before .before .before .before .before .before .before .before .before .before .before .before .before .before .before .before .before .before .args .caller) o (c .before .before .before .before .before .before .before .before .before .before .before .before .before .before .before .before .before .before .args .t) }) (agreeing (agreesOf roundSlots (offerIn m o .row .negotiation) (c .before .before .before .before .before .before .before .before .before .before .before .before .before .before .before .before .before .before .args .t)) (c .before .before .before .before .before .before .before .before .before .before .before .before .before .before .before .before .before .before .args .now) o) _ (agrees-on _ _ _ (sym (flag (c .before .before) o m e) ∙ not-false _ (c .before .if3 .left))) (both (c .before .before .before .before) o m e)
 
 pub amended-spec : {M : Type 1} → statement M
 amended-spec =

@@ -2,7 +2,7 @@ use mathlib.Core.Path.{_≡_, refl, sym, _∙_}
 use Prim.Native.Nat.{ℕ}
 use borrow.Author.Tests.{eqb-true, eqb-false, not-true, not-false}
 use Rattle.refusal.specs.Refusal.{first}
-use Rattle.refusal.specs.Rule.{refused}
+use Rattle.refusal.specs.RuleLaws.{refused}
 use Rattle.refusal.specs.Chain.{next-stops, then-answers}
 use Rattle.rules.specs.Model.{Model, accountIn, offerIn, paperOf}
 use Rattle.rules.specs.Rules.{settling, concluding, lenderOf, originatorOf}

@@ -1,8 +1,9 @@
 use mathlib.Core.Path.{_≡_, refl, sym, ap, _∙_}
 use Prim.Native.Nat.{ℕ}
 use borrow.Author.Tests.{eqb-true, eqb-false, not-true, not-false}
-use Rattle.refusal.specs.Refusal.{first, none-left}
-use Rattle.refusal.specs.Rule.{refused}
+use Rattle.refusal.specs.Refusal.{first}
+use Rattle.refusal.specs.RefusalLaws.{none-left}
+use Rattle.refusal.specs.RuleLaws.{refused}
 use Rattle.refusal.specs.Chain.{stops, then-accepted, then-answers}
 use Rattle.table.specs.declared.Named.the-variants.{Id}
 use Rattle.terms.specs.Terms.{sameTerms}

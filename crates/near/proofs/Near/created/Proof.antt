@@ -2,20 +2,20 @@ use mathlib.Core.Path.{_≡_, refl, sym, ap, _∙_}
 use Prim.Native.Nat.{ℕ}
 use borrow.Author.Tests.{eqb-true, eqb-false, not-true, not-false}
 use Rattle.refusal.specs.Refusal.{first}
-use Rattle.refusal.specs.Rule.{answered, refused, accepted}
+use Rattle.refusal.specs.Rule.{answered}
+use Rattle.refusal.specs.RuleLaws.{refused, accepted}
 use Rattle.refusal.specs.Chain.{stops, goes, number-of, done-of}
 use Rattle.table.specs.declared.Named.{Named}
 use Rattle.table.specs.declared.Named.the-variants.{Id}
 use Rattle.rules.specs.Keys.{keysBy}
 use Rattle.near.specs.Near.{viewOf, turnOf}
-use Rattle.near.specs.Steps.{same}
+use Rattle.near.specs.Steps.{same, created-step}
 use Rattle.table.specs.Tables.{full}
 use Rattle.account.specs.Rules.{posted, offerOf}
 use Rattle.settings.specs.Totals.{counted, countOf}
 use Rattle.offer.specs.Rules.{createChecks}
 use Rattle.rules.specs.Model.{Model, accountIn, invoiceIn, offerIn}
 use Rattle.rules.specs.Rooms.{offer-room}
-use Rattle.near.specs.Steps.{created-step}
 use borrow.Author.Needs.{needs}
 use Rattle.near.proofs.Near.created.Statement.{statement}
 use Rattle.near.proofs.Near.created.Tie as tie

@@ -1,6 +1,6 @@
 use mathlib.Core.Path.{refl, sym, ap, _∙_}
 use Rattle.refusal.specs.Refusal.{alreadyExists, noRoom}
-use Rattle.refusal.specs.Rule.{refuses, goes-on, does}
+use Rattle.refusal.specs.RuleLaws.{refuses, goes-on, does}
 use Rattle.table.specs.Tables.{find}
 use Rattle.table.specs.declared.Named.the-variants.{Id}
 use Rattle.rules.specs.Keys.{keysBy}

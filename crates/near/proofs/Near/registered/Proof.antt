@@ -3,7 +3,7 @@ use mir.Facts.{toZ-ofZ}
 use Prim.Native.Nat.{ℕ}
 use borrow.Author.Tests.{eqb-true, eqb-false, not-true, not-false}
 use Rattle.refusal.specs.Refusal.{first}
-use Rattle.refusal.specs.Rule.{refused, accepted}
+use Rattle.refusal.specs.RuleLaws.{refused, accepted}
 use Rattle.table.specs.Tables.{full}
 use Rattle.table.specs.declared.Named.{Named}
 use Rattle.table.specs.declared.Named.the-variants.{Id}

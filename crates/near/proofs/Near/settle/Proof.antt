@@ -2,9 +2,10 @@ use mathlib.Core.Path.{_≡_, refl, sym, ap, _∙_}
 use Prim.Native.Nat.{ℕ}
 use borrow.Author.Tests.{eqb-true, eqb-false, not-true, not-false}
 use Rattle.refusal.specs.Refusal.{first}
-use Rattle.refusal.specs.Rule.{answered, refused, accepted}
+use Rattle.refusal.specs.Rule.{answered}
+use Rattle.refusal.specs.RuleLaws.{refused, accepted}
 use Rattle.refusal.specs.Chain.{stops, goes, number-of, done-of}
-use Rattle.near.specs.Near.{viewOf, turnOf}
+use Rattle.near.specs.Near.{viewOf, turnOf, sidesOf}
 use Rattle.near.specs.Steps.{same}
 use Rattle.refusal.specs.Choice.{pick}
 use Rattle.settings.specs.Totals.{counted, financeOf}
@@ -12,7 +13,6 @@ use Rattle.parties.specs.Settlement.{settleAccounts}
 use Rattle.parties.specs.Parties.{partied, partiesOf}
 use Rattle.rules.specs.Model.{Model}
 use Rattle.rules.specs.Rules.{settling, lenderOf, originatorOf, termsIn}
-use Rattle.near.specs.Near.{sidesOf}
 use Rattle.near.specs.Sides.{settled-view}
 use borrow.Author.Needs.{needs}
 use Rattle.near.proofs.Near.settle.Statement.{statement}

@@ -15,7 +15,7 @@ use lib.Dec.{leb}
 use Rattle.refusal.specs.Refusal.{first}
 use Rattle.rules.specs.Model.{Model}
 use borrow.Author.Tests.{eqb-true, eqb-false, not-true, not-false}
-use Rattle.refusal.specs.Rule.{refused}
+use Rattle.refusal.specs.RuleLaws.{refused}
 use Rattle.refusal.specs.Chain.{next-stops, then-answers}
 use Rattle.near.specs.Steps.{same}
 use Rattle.near.proofs.Near.turn.Statement.{statement}

@@ -1,5 +1,6 @@
-use Rattle.refusal.specs.Choice.{not-on, not-off}
-use Rattle.refusal.specs.Refusal.{invalidInput, invalidTransition, fails, passes, none-left}
+use Rattle.refusal.specs.ChoiceLaws.{not-on, not-off}
+use Rattle.refusal.specs.Refusal.{invalidInput, invalidTransition}
+use Rattle.refusal.specs.RefusalLaws.{fails, passes, none-left}
 use borrow.Author.Tests.{le-leb, lt-leb, le-ltb, lt-ltb, eq-eqb, ne-eqb}
 use borrow.Author.Needs.{needs}
 use Rattle.negotiation.proofs.Negotiation.refusal.Statement.{statement}

@@ -1,5 +1,6 @@
 use mathlib.Core.Path.{sym, _∙_}
-use Rattle.refusal.specs.Refusal.{blacklisted, notFound, invalidTransition, offerExpired, fails, passes, none-left}
+use Rattle.refusal.specs.Refusal.{blacklisted, notFound, invalidTransition, offerExpired}
+use Rattle.refusal.specs.RefusalLaws.{fails, passes, none-left}
 use borrow.Author.Needs.{needs}
 use Rattle.offer.proofs.Deal.agreement_refusal.Statement.{statement}
 use Rattle.offer.proofs.Deal.agreement_refusal.Tie as tie

@@ -1,5 +1,6 @@
 use mathlib.Core.Path.{sym, _∙_}
-use Rattle.refusal.specs.Refusal.{notFound, invalidTransition, offerExpired, unauthorized, fails, passes, none-left}
+use Rattle.refusal.specs.Refusal.{notFound, invalidTransition, offerExpired, unauthorized}
+use Rattle.refusal.specs.RefusalLaws.{fails, passes, none-left}
 use borrow.Author.Needs.{needs}
 use Rattle.offer.proofs.SeenDeal.accept_refusal.Statement.{statement}
 use Rattle.offer.proofs.SeenDeal.accept_refusal.Tie as tie

@@ -3,7 +3,7 @@ use mathlib.Core.Bool.{Bool, false, not, _&&_}
 use lib.Dec.{eqb}
 use borrow.Author.Tests.{eq-eqb, ne-eqb}
 use Rattle.refusal.specs.Refusal.{invalidTransition, notFound, unauthorized}
-use Rattle.refusal.specs.Rule.{refuses, goes-on, does}
+use Rattle.refusal.specs.RuleLaws.{refuses, goes-on, does}
 use Rattle.offer.specs.Offer.{posted, withNegotiation}
 use Rattle.negotiation.specs.Rounds.{closedAs}
 use Rattle.offer.specs.Rules.{outcomeAt, standing, outsider}

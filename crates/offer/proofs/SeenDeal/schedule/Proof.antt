@@ -3,8 +3,9 @@ use mathlib.Core.List.{List}
 use borrow.Author.Tests.{eqb-true, eqb-false, not-true, not-false}
 use Rattle.money.specs.Range.{isZero}
 use Rattle.money.specs.Facts.{back}
-use Rattle.refusal.specs.Refusal.{Check, invalidInput, refusal-not-0, first, fails, passes, none-left}
-use Rattle.refusal.specs.Rule.{refused, accepted, first-pass, first-stop}
+use Rattle.refusal.specs.Refusal.{Check, invalidInput, first}
+use Rattle.refusal.specs.RefusalLaws.{refusal-not-0, fails, passes, none-left}
+use Rattle.refusal.specs.RuleLaws.{refused, accepted, first-pass, first-stop}
 use Rattle.terms.specs.Installment.{installmentOf}
 use Rattle.offer.specs.Offer.{posted}
 use Rattle.offer.specs.Rules.{scheduleChecks}

@@ -1,7 +1,8 @@
 use mathlib.Core.Path.{sym, ap, _∙_}
 use mathlib.Core.Bool.{not}
 use borrow.Author.Tests.{le-leb, lt-leb}
-use Rattle.refusal.specs.Refusal.{invalidInput, notFound, unauthorized, invalidTransition, fails, passes, none-left}
+use Rattle.refusal.specs.Refusal.{invalidInput, notFound, unauthorized, invalidTransition}
+use Rattle.refusal.specs.RefusalLaws.{fails, passes, none-left}
 use borrow.Author.Needs.{needs}
 use Rattle.offer.proofs.SeenDeal.schedule_refusal.Statement.{statement}
 use Rattle.offer.proofs.SeenDeal.schedule_refusal.Tie as tie

@@ -3,7 +3,7 @@ use mathlib.Core.Bool.{not}
 use mir.Facts.{toZ-ofZ}
 use Rattle.money.specs.Range.{inTotal}
 use Rattle.refusal.specs.Refusal.{unauthorized, notFound, outOfRange}
-use Rattle.refusal.specs.Rule.{refuses, goes-on, does}
+use Rattle.refusal.specs.RuleLaws.{refuses, goes-on, does}
 use Rattle.offer.specs.Offer.{posted, withOffer, withRepaid}
 use borrow.Author.Needs.{needs}
 use Rattle.offer.proofs.SeenDeal.update_repaid.Statement.{statement}

@@ -1,7 +1,7 @@
 use mathlib.Core.Path.{refl, _∙_}
 use borrow.Author.Tests.{lt-ltb, le-ltb}
 use Rattle.refusal.specs.Refusal.{unauthorized, invalidInput, notFound}
-use Rattle.refusal.specs.Rule.{refuses, goes-on, does}
+use Rattle.refusal.specs.RuleLaws.{refuses, goes-on, does}
 use Rattle.offer.specs.Offer.{posted}
 use borrow.Author.Needs.{needs}
 use Rattle.offer.proofs.SeenDeal.update_status.Statement.{statement}

@@ -6,7 +6,7 @@ use borrow.Author.Needs.{needs}
 use Rattle.refusal.specs.Refusal.{first}
 use Rattle.table.specs.Tables.{Table}
 use Rattle.account.specs.declared.Account.{Account}
-use Rattle.parties.specs.Settlement.{seenAt}
+use Rattle.parties.specs.Settlement.{seenIn}
 use Rattle.parties.specs.Steps.{still-here}
 use Rattle.parties.specs.declared.Parties.{Parties}
 use Rattle.parties.specs.Parties.{partiesOf}
@@ -16,10 +16,10 @@ use Rattle.parties.proofs.Parties.settle.Tie as tie
 
 -- what is seen at the two ids
 module _ (a b : ℕ) (u : Table Account) where
-  first-of : {p : Parties} → p ≡ partiesOf a b u → p .first ≡ seenAt u a
+  first-of : {p : Parties} → p ≡ partiesOf a b u → p .first ≡ seenIn u a
   first-of e = ap (λ (z : Parties). z .first) e
 
-  second-of : {p : Parties} → p ≡ partiesOf a b u → p .second ≡ seenAt u b
+  second-of : {p : Parties} → p ≡ partiesOf a b u → p .second ≡ seenIn u b
   second-of e = ap (λ (z : Parties). z .second) e
 
 module _ (c : tie.After-debit) (a b : ℕ) (u : Table Account) (e : c .before .before .before .before .before .args .self ≡ partiesOf a b u) where

@@ -1,6 +1,6 @@
 use mathlib.Core.Path.{sym}
 use borrow.Author.Tests.{not-true, not-false}
-use Rattle.refusal.specs.Choice.{pick-on, pick-off}
+use Rattle.refusal.specs.ChoiceLaws.{pick-on, pick-off}
 use Rattle.parties.specs.Parties.{sideOf}
 use Rattle.parties.proofs.Parties.side.Statement.{statement}
 use Rattle.parties.proofs.Parties.side.Tie as tie

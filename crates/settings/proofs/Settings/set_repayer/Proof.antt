@@ -1,6 +1,6 @@
 use mathlib.Core.Path.{refl}
 use Rattle.refusal.specs.Refusal.{unauthorized, notFound}
-use Rattle.refusal.specs.Rule.{refuses, goes-on, does}
+use Rattle.refusal.specs.RuleLaws.{refuses, goes-on, does}
 use Rattle.settings.specs.Settings.{posted}
 use Rattle.settings.proofs.Told.{told}
 use borrow.Author.Needs.{needs}

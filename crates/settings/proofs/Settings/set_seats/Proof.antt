@@ -6,7 +6,7 @@ use mathlib.Core.Bool.{true}
 use borrow.Author.Tests.{leb-true, not-false}
 use Rattle.money.specs.Facts.{both}
 use Rattle.refusal.specs.Refusal.{unauthorized, invalidInput}
-use Rattle.refusal.specs.Rule.{refuses, goes-on, does}
+use Rattle.refusal.specs.RuleLaws.{refuses, goes-on, does}
 use Rattle.seats.specs.Seats.{thresholdOk}
 use Rattle.settings.specs.Settings.{posted}
 use Rattle.settings.proofs.Told.{told}

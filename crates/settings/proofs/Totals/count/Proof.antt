@@ -1,7 +1,7 @@
 use mathlib.Core.Path.{refl}
 use borrow.Author.Tests.{le-leb, lt-leb}
 use Rattle.refusal.specs.Refusal.{outOfRange}
-use Rattle.refusal.specs.Rule.{refuses, goes-on, does}
+use Rattle.refusal.specs.RuleLaws.{refuses, goes-on, does}
 use Rattle.settings.specs.Totals.{counted}
 use borrow.Author.Needs.{needs}
 use Rattle.settings.proofs.Totals.count.Statement.{statement}

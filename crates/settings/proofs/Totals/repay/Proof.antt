@@ -5,7 +5,7 @@ use Rattle.money.specs.Range.{movedOf}
 use Rattle.money.specs.Moves.{move-tells, move-makes}
 use Rattle.money.specs.Facts.{back}
 use Rattle.refusal.specs.Refusal.{unauthorized, outOfRange}
-use Rattle.refusal.specs.Rule.{refuses, goes-on, does}
+use Rattle.refusal.specs.RuleLaws.{refuses, goes-on, does}
 use Rattle.settings.specs.Totals.{counted}
 use Rattle.settings.proofs.Told.{told}
 use borrow.Author.Needs.{needs}

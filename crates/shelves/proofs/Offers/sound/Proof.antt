@@ -6,7 +6,7 @@ use borrow.Author.Needs.{needs}
 use Rattle.table.specs.Columns.{any-default, Level, level, join-at}
 use Rattle.table.specs.All.{Checked, check-start, check-turn, check-done, both-same, below-on}
 use Rattle.table.specs.Test.{either, rowTest}
-use Rattle.negotiation.specs.Rounds.{roundLimit, noNegotiation}
+use Rattle.negotiation.specs.Rounds.{roundSlots, noNegotiation}
 use Rattle.negotiation.specs.Whole.{Whole}
 use Rattle.offer.specs.Offer.{noDeal, dealSound, dealZero}
 use Rattle.shelves.specs.Offers.{dealOf, rowsOf, dealsTest}
@@ -15,7 +15,7 @@ use Rattle.shelves.proofs.Offers.sound.Tie as tie
 
 abbrev Inv-loop : tie.InvT-loop
 Inv-loop self n t ok₀ i₀ ok i =
-    Checked 64 (rowTest dealSound dealZero noDeal n (rowsOf self)) i ok × ((k : ℕ) → k < i → Whole roundLimit (getD (self .negotiations) k noNegotiation))
+    Checked 64 (rowTest dealSound dealZero noDeal n (rowsOf self)) i ok × ((k : ℕ) → k < i → Whole roundSlots (getD (self .negotiations) k noNegotiation))
 
 abbrev μ-loop : tie.MeasureT-loop
 μ-loop self n t ok₀ i₀ ok i = 64 - i
@@ -74,7 +74,7 @@ loop-again c =
     let l = c .before .before .before .before .before .loop-test .taken in
     let e = join-at dealOf _ _ _ (even (c .before .before .before .before .before .before .before .before .before .before)) i (omega (arith, rows-long (c .before .before .before .before .before .before .before .before .before .before))) noDeal _ _ _ in (
       check-turn (c .before .before .before .before .before .before .loop .inv .0) l (rw (c .before .sound .ensures, c .zero .ensures .0) (sym (ap (λ r. either (c .before .before .before .before .before .before .before .before .before .before .args .t1 .count) i (dealSound r) (dealZero r)) e))),
-      below-on (c .before .before .before .before .before .before .loop .inv .1) (subst (λ n. Whole roundLimit n) (any-default (c .before .before .before .before .before .before .before .before .before .before .args .t1 .negotiations) i _ noNegotiation (omega (arith, negotiations-long (c .before .before .before .before .before .before .before .before .before .before)))) (c .zero .ensures .1)),
+      below-on (c .before .before .before .before .before .before .loop .inv .1) (subst (λ n. Whole roundSlots n) (any-default (c .before .before .before .before .before .before .before .before .before .before .args .t1 .negotiations) i _ noNegotiation (omega (arith, negotiations-long (c .before .before .before .before .before .before .before .before .before .before)))) (c .zero .ensures .1)),
     )
 
 returns : tie.Need-returns Inv-loop μ-loop

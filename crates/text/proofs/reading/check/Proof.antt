@@ -1,6 +1,6 @@
 use mathlib.Core.Path.{_∙_, sym}
 use borrow.Author.Needs.{needs}
-use Rattle.refusal.specs.Choice.{pick-on, pick-off}
+use Rattle.refusal.specs.ChoiceLaws.{pick-on, pick-off}
 use Rattle.text.specs.Reading.{checked}
 use Rattle.text.proofs.reading.check.Statement.{statement}
 use Rattle.text.proofs.reading.check.Tie as tie

@@ -1,6 +1,6 @@
 use mathlib.Core.Path.{sym, _∙_}
 use borrow.Author.Needs.{needs}
-use Rattle.refusal.specs.Choice.{pick-on, pick-off}
+use Rattle.refusal.specs.ChoiceLaws.{pick-on, pick-off}
 use Rattle.sheet.specs.SheetLaws.{retext}
 use Rattle.text.specs.Line.{numeralOf}
 use Rattle.text.proofs.writing.put_numeral.Statement.{statement}

@@ -3,7 +3,7 @@ use Prim.Native.Nat.{_+_, _-_}
 use native.Mathlib.Omega.{arith}
 use borrow.Author.Needs.{needs}
 use borrow.Author.Tests.{lt-ltb, le-ltb}
-use Rattle.refusal.specs.Choice.{pick-on, pick-off}
+use Rattle.refusal.specs.ChoiceLaws.{pick-on, pick-off}
 use Rattle.sheet.specs.SheetLaws.{next, retext}
 use Rattle.text.specs.Line.{signedOf}
 use Rattle.text.proofs.writing.put_signed.Statement.{statement}
