@@ -13,27 +13,27 @@ use Rattle.refusal.specs.Rule.{Rule, after, answered}
 
 module _ {A S : Type 0} (mk : ℕ → A → S) where
   -- how code that tests in order answers: a check that fails, one that passes, none left
-  pub refuses : {t : Bool} (n : Refusal) (l : List Check) (old done : A) → t ≡ true → mk (number n) old ≡ answered old (record { checks = (t gives n) ∷ l; done = done })
+  pub refuses : {t : Bool} (n : Refusal) (l : List Check) (old done : A) → t ≡ true → mk (number n) old ≡ answered mk old (record { checks = (t gives n) ∷ l; done = done })
   unfolding answered after
   refuses {t} n l old done e =
       rw (sym (fails n l e)) (ap (λ z. mk (number n) z) (sym (pick-off done old (refusal-not-0 n))))
 
-  pub goes-on : {t : Bool} {z : S} (n : Refusal) (l : List Check) (old done : A) → t ≡ false → z ≡ answered old (record { checks = l; done = done })
-      → z ≡ answered old (record { checks = (t gives n) ∷ l; done = done })
+  pub goes-on : {t : Bool} {z : S} (n : Refusal) (l : List Check) (old done : A) → t ≡ false → z ≡ answered mk old (record { checks = l; done = done })
+      → z ≡ answered mk old (record { checks = (t gives n) ∷ l; done = done })
   unfolding answered after
   goes-on {t} {z} n l old done e h = rw (sym (passes n l e refl)) h
 
-  pub does : (old done : A) {z : A} → z ≡ done → mk 0 z ≡ answered old (record { checks = []; done = done })
+  pub does : (old done : A) {z : A} → z ≡ done → mk 0 z ≡ answered mk old (record { checks = []; done = done })
   unfolding answered after first pick
   does old done {z} h = ap (λ y. mk 0 y) h
 
   -- how code that asks for the number first answers
-  pub refused : {n : ℕ} (old : A) (u : Rule A) → n ≡ first (u .checks) → (n ≡ 0 → ⊥) → mk n old ≡ answered old u
+  pub refused : {n : ℕ} (old : A) (u : Rule A) → n ≡ first (u .checks) → (n ≡ 0 → ⊥) → mk n old ≡ answered mk old u
   unfolding answered after
   refused {n} old u e h =
       ap (λ z. mk z old) e ∙ ap (λ z. mk (first (u .checks)) z) (sym (pick-off (u .done) old (ne-eqb _ _ (λ q. h (e ∙ q)))))
 
-  pub accepted : {n : ℕ} {z : A} (old : A) (u : Rule A) → n ≡ first (u .checks) → n ≡ 0 → z ≡ u .done → mk 0 z ≡ answered old u
+  pub accepted : {n : ℕ} {z : A} (old : A) (u : Rule A) → n ≡ first (u .checks) → n ≡ 0 → z ≡ u .done → mk 0 z ≡ answered mk old u
   unfolding answered after
   accepted {n} {z} old u e q h =
       ap (λ y. mk y z) (sym q ∙ e) ∙ ap (λ y. mk (first (u .checks)) y) (h ∙ sym (pick-on (u .done) old (eq-eqb _ _ (sym e ∙ q))))

@@ -14,14 +14,14 @@ use Rattle.refusal.specs.Refusal.{first}
 use Rattle.refusal.specs.Rule.{Rule}
 use Rattle.refusal.specs.RuleLaws.{passed}
 use Rattle.terms.specs.declared.Terms.{Terms}
-use Rattle.seats.specs.Seats.{thresholdOk, seatsOf as seatCount, countBelow}
+use Rattle.seats.specs.Seats.{thresholdOk, countSeats, countBelow}
 use Rattle.settings.specs.declared.Settings.{Settings}
 use Rattle.settings.specs.declared.Totals.{Totals}
 use Rattle.settings.specs.Settings.{freshSettings, inWindow, settingsSound, pauseOf, windowOf, repayerOf, seatsOf}
 use Rattle.settings.specs.Totals.{noTotals, totalsSound, countOf, financeOf, repayOf}
 
 pub fresh-sound : settingsSound freshSettings ≡ true
-unfolding settingsSound thresholdOk seatCount countBelow
+unfolding settingsSound thresholdOk countSeats countBelow
 fresh-sound = refl
 
 pub no-totals-sound : totalsSound noTotals ≡ true
