@@ -1,7 +1,7 @@
 -- A book whose arrays are tables is its model, stored; and a model whose tables fit is the model of what it is stored as
 use mathlib.Core.Path.{_≡_, sym, ap, _∙_}
 use Rattle.settings.specs.declared.Settings.{Settings}
-use Rattle.settings.specs.declared.Totals.{Totals}
+use Rattle.totals.specs.declared.Totals.{Totals}
 use Rattle.shelves.specs.declared.Accounts.{Accounts}
 use Rattle.shelves.specs.declared.Invoices.{Invoices}
 use Rattle.shelves.specs.declared.Offers.{Offers}

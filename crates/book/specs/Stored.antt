@@ -5,7 +5,7 @@ use Rattle.refusal.specs.Choice.{pick}
 use Rattle.refusal.specs.Refusal.{number, bookUnsound}
 use Rattle.refusal.specs.Rule.{answered}
 use Rattle.settings.specs.Settings.{settingsSound}
-use Rattle.settings.specs.Totals.{totalsSound}
+use Rattle.totals.specs.Totals.{totalsSound}
 use Rattle.shelves.specs.Accounts.{accountsOf, storedAccounts, AccountShelf, accountsTest}
 use Rattle.shelves.specs.Invoices.{invoicesOf, storedInvoices, InvoiceShelf, invoicesTest}
 use Rattle.shelves.specs.Offers.{dealsOf, storedDeals, DealShelf, dealsTest}

@@ -3,7 +3,7 @@ use mathlib.Core.Path.{_≡_}
 use mathlib.Core.Bool.{true, _&&_}
 use Rattle.table.specs.All.{both-true}
 use Rattle.settings.specs.Settings.{settingsSound}
-use Rattle.settings.specs.Totals.{totalsSound}
+use Rattle.totals.specs.Totals.{totalsSound}
 use Rattle.shelves.specs.Sized.{Sized}
 use Rattle.shelves.specs.Accounts.{accountsTest}
 use Rattle.shelves.specs.Invoices.{invoicesTest}

@@ -17,7 +17,7 @@ use Rattle.offer.specs.Seen.{seenDeal}
 use Rattle.offer.specs.declared.Deal.{Deal}
 use Rattle.offer.specs.declared.SeenDeal.{SeenDeal}
 use Rattle.settings.specs.declared.Settings.{Settings}
-use Rattle.settings.specs.declared.Totals.{Totals}
+use Rattle.totals.specs.declared.Totals.{Totals}
 use Rattle.command.specs.Names.{namesOf, paperKey, otherKey}
 use Rattle.command.specs.declared.Command.{Command}
 use Rattle.command.specs.declared.Names.{Names}

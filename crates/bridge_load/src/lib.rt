@@ -8,12 +8,12 @@ use negotiation::Round;
 use offer::Deal;
 use offer::Offer;
 use settings::Settings;
-use settings::Totals;
 use shelves::Accounts;
 use shelves::Invoices;
 use shelves::Offers;
 use terms::Schedule;
 use terms::Terms;
+use totals::Totals;
 
 struct AccountsRead {
     pub table: Accounts,

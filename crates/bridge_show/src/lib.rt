@@ -5,11 +5,11 @@ use invoice::Invoice;
 use negotiation::Negotiation;
 use offer::Offer;
 use settings::Settings;
-use settings::Totals;
 use shelves::Accounts;
 use shelves::Invoices;
 use shelves::Offers;
 use terms::Schedule;
+use totals::Totals;
 
 fn settings(out: &mut [u8; 65536], at: usize, s: Settings) -> usize {
     let mut p = bridge_words::put(out, at, bridge_words::flag(s.paused));

@@ -10,7 +10,7 @@ use Rattle.table.specs.Tables.{here, find}
 use Rattle.terms.specs.declared.Terms.{Terms}
 use Rattle.negotiation.specs.Rounds.{roundLimit}
 use Rattle.account.specs.Account.{reoffers}
-use Rattle.settings.specs.Totals.{financeOf}
+use Rattle.totals.specs.Totals.{financeOf}
 use Rattle.parties.specs.Settlement.{settleAccounts}
 use Rattle.offer.specs.Rules.{agreementChecks}
 use Rattle.rules.specs.Model.{Model, accountIn, offerIn, paperOf}

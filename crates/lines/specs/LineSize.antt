@@ -13,9 +13,9 @@ use Rattle.table.specs.Sound.{All}
 use Rattle.account.specs.declared.Account.{Account}
 use Rattle.account.specs.Account.{accountSound}
 use Rattle.account.specs.Laws.{sound-ranges}
-use Rattle.settings.specs.declared.Totals.{Totals}
-use Rattle.settings.specs.Totals.{totalsSound}
-use Rattle.settings.specs.Laws.{totals-ranges}
+use Rattle.totals.specs.declared.Totals.{Totals}
+use Rattle.totals.specs.Totals.{totalsSound}
+use Rattle.totals.specs.Laws.{totals-ranges}
 use Rattle.sheet.specs.Decimal.{spaced, numbersOf}
 use Rattle.sheet.specs.Size.{decimal-most, decimal-two, Small, numbers-most}
 use Rattle.lines.specs.Lines.{accountWord, totalsWord, answerLine, markLine, accountLine, accountLines, totalsLine}

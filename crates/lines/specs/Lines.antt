@@ -5,7 +5,7 @@ use Rattle.refusal.specs.Refusal.{number, journalMalformed}
 use Rattle.money.specs.Range.{magnitudeOf}
 use Rattle.table.specs.Tables.{Table}
 use Rattle.account.specs.declared.Account.{Account}
-use Rattle.settings.specs.declared.Totals.{Totals}
+use Rattle.totals.specs.declared.Totals.{Totals}
 use Rattle.sheet.specs.Decimal.{decimalOf, numbersOf}
 
 -- "account", "totals"

@@ -1,7 +1,7 @@
 // The lines of a listing, each written by a pen that may have no ink.
 use account::Account;
-use settings::Totals;
 use sheet::Pen;
+use totals::Totals;
 ghost use mathlib.Core.Path.{_≡_};
 ghost use Rattle.sheet.specs.Sheet.{Wrote};
 ghost use Rattle.table.specs.Shelf.{tableOf};

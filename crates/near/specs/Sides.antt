@@ -11,7 +11,7 @@ use Rattle.invoice.specs.Invoice.{financed}
 use Rattle.invoice.specs.Seen.{putInvoice}
 use Rattle.offer.specs.Offer.{settledDeal}
 use Rattle.offer.specs.Seen.{putDeal}
-use Rattle.settings.specs.declared.Totals.{Totals}
+use Rattle.totals.specs.declared.Totals.{Totals}
 use Rattle.parties.specs.Settlement.{seenIn}
 use Rattle.parties.specs.Parties.{sideOf, partiesOf}
 use Rattle.parties.specs.declared.Parties.{Parties}

@@ -25,11 +25,11 @@ use Rattle.offer.specs.declared.Deal as Deals
 use Rattle.offer.specs.declared.DealPosted.{DealPosted}
 use Rattle.offer.specs.declared.SeenDeal.{SeenDeal}
 use Rattle.settings.specs.Settings as Settings
-use Rattle.settings.specs.Totals as Totals
+use Rattle.totals.specs.Totals as Totals
 use Rattle.settings.specs.declared.Settings as Sets
 use Rattle.settings.specs.declared.SettingsPosted.{SettingsPosted}
-use Rattle.settings.specs.declared.Totals as Sums
-use Rattle.settings.specs.declared.TotalsPosted.{TotalsPosted}
+use Rattle.totals.specs.declared.Totals as Sums
+use Rattle.totals.specs.declared.TotalsPosted.{TotalsPosted}
 use Rattle.parties.specs.Parties.{putFirst, putSecond, letIn, partiesBy}
 use Rattle.parties.specs.Laws.{first-put, second-put, let-seen}
 use Rattle.parties.specs.declared.Parties.{Parties}

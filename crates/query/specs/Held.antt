@@ -24,7 +24,7 @@ use Rattle.offer.specs.Offer.{noOffer, noSchedule, noDeal, dealSound, dealZero}
 use Rattle.offer.specs.Laws.{DealKept, kept-ranges}
 use Rattle.offer.specs.declared.Deal.{Deal}
 use Rattle.settings.specs.Settings.{settingsSound}
-use Rattle.settings.specs.Totals.{totalsSound}
+use Rattle.totals.specs.Totals.{totalsSound}
 use Rattle.shelves.specs.Accounts.{accountsTest}
 use Rattle.shelves.specs.Invoices.{invoicesTest}
 use Rattle.shelves.specs.Offers.{dealOf, rowsOf, dealsTest}

@@ -8,7 +8,7 @@ use Rattle.terms.specs.Due.{dueOf}
 use Rattle.terms.specs.declared.Schedule.{Schedule}
 use Rattle.account.specs.declared.Account.{Account}
 use Rattle.offer.specs.declared.Deal.{Deal}
-use Rattle.settings.specs.declared.Totals.{Totals}
+use Rattle.totals.specs.declared.Totals.{Totals}
 use Rattle.shelves.specs.declared.Offers.{Offers}
 use Rattle.lists.specs.declared.OfferRows.{OfferRows}
 use Rattle.query.specs.declared.ScheduleNumbers.{ScheduleNumbers}

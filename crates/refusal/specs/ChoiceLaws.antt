@@ -1,5 +1,5 @@
 -- How a choice answers, where its test is known and where it is not.
-use mathlib.Core.Path.{_≡_, refl, ap}
+use mathlib.Core.Path.{_≡_, refl, sym, ap, _∙_}
 use mathlib.Core.Bool.{Bool, true, false, not}
 use Rattle.refusal.specs.Choice.{pick}
 
@@ -31,3 +31,7 @@ not-on e = ap not e
 
 pub not-off : {t : Bool} → t ≡ true → not t ≡ false
 not-off e = ap not e
+
+-- code tests that a callee did not agree; the definition tests what the callee told
+pub told : {r t z : Bool} → r ≡ t → not r ≡ z → not t ≡ z
+told e h = ap not (sym e) ∙ h

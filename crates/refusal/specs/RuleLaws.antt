@@ -81,3 +81,7 @@ both-pass (k ∷ ks) b e =
 -- where a contract is an equation, any two results that it allows are one
 pub one-result : {A : Type 0} {x y z : A} → x ≡ z → y ≡ z → x ≡ y
 one-result p q = p ∙ sym q
+
+-- a rule keeps what it works on sound where its checks pass
+abbrev pub Keeps : {A : Type 0} → (A → Bool) → A → Rule A → Type 0
+Keeps sound old u = sound old ≡ true → first (u .checks) ≡ 0 → sound (u .done) ≡ true

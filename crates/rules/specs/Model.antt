@@ -12,9 +12,9 @@ use Rattle.invoice.specs.declared.SeenInvoice.{SeenInvoice}
 use Rattle.offer.specs.declared.Deal.{Deal}
 use Rattle.offer.specs.declared.SeenDeal.{SeenDeal}
 use Rattle.settings.specs.declared.Settings.{Settings}
-use Rattle.settings.specs.declared.Totals.{Totals}
+use Rattle.totals.specs.declared.Totals.{Totals}
 use Rattle.settings.specs.Settings.{freshSettings}
-use Rattle.settings.specs.Totals.{noTotals}
+use Rattle.totals.specs.Totals.{noTotals}
 use Rattle.account.specs.Seen.{seenAccount}
 use Rattle.invoice.specs.Seen.{seenInvoice}
 use Rattle.offer.specs.Seen.{seenDeal}

@@ -19,7 +19,7 @@ use Rattle.offer.specs.Offer.{newDeal, settledDeal, amendedDeal, counteredDeal}
 use Rattle.offer.specs.Rules.{createChecks, withdrawOf, rejectOf, acceptChecks, amendChecks, counterChecks, agreementChecks, closeOf, scheduleOf, statusUpdateOf, repaidUpdateOf}
 use Rattle.settings.specs.declared.Settings.{Settings}
 use Rattle.settings.specs.Settings.{adminPasses, isRepayer, pauseOf, windowOf, repayerOf, seatsOf}
-use Rattle.settings.specs.Totals.{countOf, financeOf, repayOf}
+use Rattle.totals.specs.Totals.{countOf, financeOf, repayOf}
 use Rattle.parties.specs.Settlement.{settleAccounts}
 use Rattle.command.specs.Names.{namesFor}
 use Rattle.command.specs.declared.Names.{Names}

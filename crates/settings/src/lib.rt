@@ -1,8 +1,7 @@
-use terms::Terms;
+// What the desk's admins set: the window of a negotiation, the repayment account, the seats, the pause.
 ghost use mathlib.Core.Path.{_≡_};
 ghost use Rattle.refusal.specs.Rule.{answered};
 ghost use Rattle.settings.specs.Settings.{freshSettings, settingsSound, adminPasses, isRepayer, posted, pauseOf, windowOf, repayerOf, seatsOf};
-ghost use Rattle.settings.specs.Totals.{noTotals, totalsSound, counted, countOf, financeOf, repayOf};
 
 pub const SHORTEST_WINDOW: u64 = 3600;
 
@@ -20,22 +19,16 @@ pub struct Settings {
     pub paused: bool,
 }
 
+// An answer's number, 0 where the settings were changed, and the settings.
 pub struct SettingsPosted {
     pub answer: u64,
     pub row: Settings,
 }
 
-// The book's own totals.
-pub struct Totals {
-    pub financed: i64,
-    pub repaid: i64,
-    pub fees: i64,
-    pub offers: u32,
-}
-
-pub struct TotalsPosted {
-    pub answer: u64,
-    pub row: Totals,
+fn refused(row: Settings, answer: u64) -> SettingsPosted
+    ensures { λ r. ⌜ r ≡ posted answer row ⌝ }
+{
+    SettingsPosted { answer, row }
 }
 
 impl Settings {
@@ -53,40 +46,41 @@ impl Settings {
         }
     }
 
+    // The window in range, and a threshold that the seats can reach.
     pub fn sound(self) -> bool
         ensures { λ r. ⌜ r ≡ settingsSound self ⌝ }
     {
-        let w = self.window;
-        let s = self.seats as u64;
-        let t = self.threshold;
-        let ok = seats::threshold_ok(s, t);
-        (SHORTEST_WINDOW <= w) & (w <= LONGEST_WINDOW) & ok
+        let window = self.window;
+        let seats = self.seats as u64;
+        let threshold = self.threshold;
+        let reachable = seats::threshold_ok(seats, threshold);
+        (SHORTEST_WINDOW <= window) & (window <= LONGEST_WINDOW) & reachable
     }
 
+    // Whether the seats presented reach the threshold.
     pub fn admin_passes(self, presented: u64) -> bool
         ensures { λ r. ⌜ r ≡ adminPasses self presented ⌝ }
     {
-        let s = self.seats;
-        let t = self.threshold;
-        seats::reaches(presented, s, t)
+        let seats = self.seats;
+        let threshold = self.threshold;
+        seats::reaches(presented, seats, threshold)
     }
 
+    // Whether the caller is the appointed repayment account.
     pub fn is_repayer(self, caller: u64) -> bool
         ensures { λ r. ⌜ r ≡ isRepayer self caller ⌝ }
     {
-        let a = self.appointed;
-        let p = self.repayer;
-        a & (p == caller)
+        let appointed = self.appointed;
+        let repayer = self.repayer;
+        appointed & (repayer == caller)
     }
 
+    // The admins pause the desk or let it go on.
     pub fn pause(mut self, presented: u64, paused: bool) -> SettingsPosted
         ensures { λ r. ⌜ r ≡ answered posted self (pauseOf self presented paused) ⌝ }
     {
         if !self.admin_passes(presented) {
-            return SettingsPosted {
-                answer: refusal::UNAUTHORIZED,
-                row: self,
-            };
+            return refused(self, refusal::UNAUTHORIZED);
         }
         self.paused = paused;
         SettingsPosted {
@@ -95,26 +89,18 @@ impl Settings {
         }
     }
 
+    // How long a negotiation stays open after its first round.
     pub fn set_window(mut self, presented: u64, window: u64) -> SettingsPosted
         ensures { λ r. ⌜ r ≡ answered posted self (windowOf self presented window) ⌝ }
     {
         if !self.admin_passes(presented) {
-            return SettingsPosted {
-                answer: refusal::UNAUTHORIZED,
-                row: self,
-            };
+            return refused(self, refusal::UNAUTHORIZED);
         }
         if window < SHORTEST_WINDOW {
-            return SettingsPosted {
-                answer: refusal::INVALID_INPUT,
-                row: self,
-            };
+            return refused(self, refusal::INVALID_INPUT);
         }
         if LONGEST_WINDOW < window {
-            return SettingsPosted {
-                answer: refusal::INVALID_INPUT,
-                row: self,
-            };
+            return refused(self, refusal::INVALID_INPUT);
         }
         self.window = window;
         SettingsPosted {
@@ -123,21 +109,15 @@ impl Settings {
         }
     }
 
-    // `known`: whether the account that is appointed has a row.
+    // Who may post repayments. `known`: whether the account that is appointed has a row.
     pub fn set_repayer(mut self, presented: u64, id: u64, known: bool) -> SettingsPosted
         ensures { λ r. ⌜ r ≡ answered posted self (repayerOf self presented id known) ⌝ }
     {
         if !self.admin_passes(presented) {
-            return SettingsPosted {
-                answer: refusal::UNAUTHORIZED,
-                row: self,
-            };
+            return refused(self, refusal::UNAUTHORIZED);
         }
         if !known {
-            return SettingsPosted {
-                answer: refusal::NOT_FOUND,
-                row: self,
-            };
+            return refused(self, refusal::NOT_FOUND);
         }
         self.repayer = id;
         self.appointed = true;
@@ -147,114 +127,19 @@ impl Settings {
         }
     }
 
+    // The seats and how many of them an admin command takes.
     pub fn set_seats(mut self, presented: u64, threshold: u32, next: u64) -> SettingsPosted
         ensures { λ r. ⌜ r ≡ answered posted self (seatsOf self presented threshold next) ⌝ }
     {
         if !self.admin_passes(presented) {
-            return SettingsPosted {
-                answer: refusal::UNAUTHORIZED,
-                row: self,
-            };
+            return refused(self, refusal::UNAUTHORIZED);
         }
         if !seats::threshold_ok(next, threshold) {
-            return SettingsPosted {
-                answer: refusal::INVALID_INPUT,
-                row: self,
-            };
+            return refused(self, refusal::INVALID_INPUT);
         }
         self.seats = (next % 4294967296) as u32;
         self.threshold = threshold;
         SettingsPosted {
-            answer: 0,
-            row: self,
-        }
-    }
-}
-
-impl Totals {
-    pub fn none() -> Totals
-        ensures { λ r. ⌜ r ≡ noTotals ⌝ }
-    {
-        Totals {
-            financed: 0,
-            repaid: 0,
-            fees: 0,
-            offers: 0,
-        }
-    }
-
-    pub fn sound(self) -> bool
-        ensures { λ r. ⌜ r ≡ totalsSound self ⌝ }
-    {
-        let a = money::in_total_range(self.financed);
-        let b = money::in_total_range(self.repaid);
-        let c = money::in_total_range(self.fees);
-        let n = self.offers;
-        a & b & c & (n <= money::COUNT_LIMIT)
-    }
-
-    // One offer more.
-    pub fn count(mut self) -> TotalsPosted
-        ensures { λ r. ⌜ r ≡ answered counted self (countOf self) ⌝ }
-    {
-        let n = self.offers;
-        if money::COUNT_LIMIT <= n {
-            return TotalsPosted {
-                answer: refusal::OUT_OF_RANGE,
-                row: self,
-            };
-        }
-        self.offers = n + 1;
-        TotalsPosted {
-            answer: 0,
-            row: self,
-        }
-    }
-
-    pub fn finance(mut self, t: Terms) -> TotalsPosted
-        ensures { λ r. ⌜ r ≡ answered counted self (financeOf self t) ⌝ }
-    {
-        let m = money::shift(self.financed, t.amount);
-        if !m.ok {
-            return TotalsPosted {
-                answer: refusal::OUT_OF_RANGE,
-                row: self,
-            };
-        }
-        self.financed = m.total;
-        TotalsPosted {
-            answer: 0,
-            row: self,
-        }
-    }
-
-    // Repayment adds both amounts, which may be below 0, to the repaid and fee totals.
-    pub fn repay(mut self, allowed: bool, amount: i64, fee: i64) -> TotalsPosted
-        ensures { λ r. ⌜ r ≡ answered counted self (repayOf self allowed amount fee) ⌝ }
-    {
-        if !allowed {
-            return TotalsPosted {
-                answer: refusal::UNAUTHORIZED,
-                row: self,
-            };
-        }
-        let m = money::shift(self.repaid, amount);
-        if !m.ok {
-            return TotalsPosted {
-                answer: refusal::OUT_OF_RANGE,
-                row: self,
-            };
-        }
-        let f = money::shift(self.fees, fee);
-        if !f.ok {
-            return TotalsPosted {
-                answer: refusal::OUT_OF_RANGE,
-                row: self,
-            };
-        }
-        self.repaid = m.total;
-        self.fees = f.total;
-        TotalsPosted {
             answer: 0,
             row: self,
         }

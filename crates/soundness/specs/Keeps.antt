@@ -30,6 +30,7 @@ use Rattle.offer.specs.Kept as Deal
 use Rattle.settings.specs.declared.Settings.{Settings}
 use Rattle.settings.specs.Settings.{settingsSound, adminPasses, isRepayer}
 use Rattle.settings.specs.Laws as Settings
+use Rattle.totals.specs.Laws as Totals
 use Rattle.command.specs.declared.Command.{Command}
 use Rattle.command.specs.Shape.{OnAccount, deposits, pays, approves, lenderRepaid, blacklists, OnOffer, withdraws, rejects, closes, schedules, marks, repaid, OnSettings, pauses, waits, appoints, seats, Shape, opens, account, registers, cancels, creates, offer, accepts, amends, counters, totals, settings, shapeOf}
 use Rattle.rules.specs.Model.{Model, accountIn, invoiceIn, offerIn, paperOf, onAccount, onOffer}
@@ -89,7 +90,7 @@ module _ {m : Model} (s : ModelSound m) where
         accounts = account-put (m .accounts) a _ (s .accounts) (λ z. Account.offer-keeps (accountIn m a .row) t z (q .0));
         invoices = s .invoices;
         offers = all-insert DealKept (m .offers) o (newDeal a i t x) (s .offers) (new-kept a i t x (not-false (termsOk t) (k .0)));
-        totals = Settings.count-keeps (m .totals) (s .totals) (q .1);
+        totals = Totals.count-keeps (m .totals) (s .totals) (q .1);
         settings = s .settings;
       }
 
@@ -130,7 +131,7 @@ module _ {m : Model} (s : ModelSound m) where
   ruled-sound (accepts now a o) e = settled-sound s now o (both-pass (acceptChecks (offerIn m o) now a (paperOf m o)) _ e .1)
   ruled-sound (amends now a o t n) e = amending-sound s now a o t n e
   ruled-sound (counters now a o t n) e = countering-sound s now a o t n e
-  ruled-sound (totals a x y) e = with-totals s _ (Settings.repay-keeps (m .totals) (isRepayer (m .settings) a) x y (s .totals) e)
+  ruled-sound (totals a x y) e = with-totals s _ (Totals.repay-keeps (m .totals) (isRepayer (m .settings) a) x y (s .totals) e)
   ruled-sound (settings u) e = with-settings s _ (keeps-settings u e)
 
   -- every command, accepted or refused, leaves a sound model

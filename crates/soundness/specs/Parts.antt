@@ -21,10 +21,11 @@ use Rattle.offer.specs.Rules.{agreementChecks}
 use Rattle.offer.specs.Laws.{DealKept}
 use Rattle.offer.specs.Kept as Deal
 use Rattle.settings.specs.declared.Settings.{Settings}
-use Rattle.settings.specs.declared.Totals.{Totals}
+use Rattle.totals.specs.declared.Totals.{Totals}
 use Rattle.settings.specs.Settings.{settingsSound}
-use Rattle.settings.specs.Totals.{totalsSound}
+use Rattle.totals.specs.Totals.{totalsSound}
 use Rattle.settings.specs.Laws as Settings
+use Rattle.totals.specs.Laws as Totals
 use Rattle.parties.specs.Settlement.{seenIn, onRow, settleAccounts}
 use Rattle.account.specs.Seen.{seenAccount}
 use Rattle.invoice.specs.Seen.{seenInvoice}
@@ -74,7 +75,7 @@ module _ {m : Model} (s : ModelSound m) where
         accounts = moved-sound (m .accounts) (lenderOf m o) (originatorOf m o) (termsIn m o) (s .accounts) (p .0);
         invoices = invoice-put (m .invoices) _ _ (s .invoices) (λ z. Invoice.status-sound 1 (paperOf m o .row) refl z);
         offers = deal-put (m .offers) o _ (s .offers) (λ z. Deal.settled-kept now (offerIn m o .row) z);
-        totals = Settings.finance-keeps (m .totals) (termsIn m o) (s .totals) (p .1);
+        totals = Totals.finance-keeps (m .totals) (termsIn m o) (s .totals) (p .1);
         settings = s .settings;
       }
 

@@ -10,8 +10,9 @@ use Rattle.account.specs.Account.{accountSound}
 use Rattle.invoice.specs.Invoice.{invoiceSound}
 use Rattle.offer.specs.Laws.{DealKept}
 use Rattle.settings.specs.Settings.{settingsSound}
-use Rattle.settings.specs.Totals.{totalsSound}
-use Rattle.settings.specs.Laws.{fresh-sound, no-totals-sound}
+use Rattle.totals.specs.Totals.{totalsSound}
+use Rattle.settings.specs.Laws.{fresh-sound}
+use Rattle.totals.specs.Laws.{no-totals-sound}
 use Rattle.rules.specs.Model.{Model, freshModel}
 use Rattle.rules.specs.Fitting.{Fits}
 

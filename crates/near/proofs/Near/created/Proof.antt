@@ -12,7 +12,7 @@ use Rattle.near.specs.Near.{viewOf, turnOf}
 use Rattle.near.specs.Steps.{same, created-step}
 use Rattle.table.specs.Tables.{full}
 use Rattle.account.specs.Rules.{posted, offerOf}
-use Rattle.settings.specs.Totals.{counted, countOf}
+use Rattle.totals.specs.Totals.{counted, countOf}
 use Rattle.offer.specs.Rules.{createChecks}
 use Rattle.rules.specs.Model.{Model, accountIn, invoiceIn, offerIn}
 use Rattle.rules.specs.Rooms.{offer-room}

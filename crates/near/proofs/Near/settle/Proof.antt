@@ -8,7 +8,7 @@ use Rattle.refusal.specs.Chain.{stops, goes, number-of, done-of}
 use Rattle.near.specs.Near.{viewOf, turnOf, sidesOf}
 use Rattle.near.specs.Steps.{same}
 use Rattle.refusal.specs.Choice.{pick}
-use Rattle.settings.specs.Totals.{counted, financeOf}
+use Rattle.totals.specs.Totals.{counted, financeOf}
 use Rattle.parties.specs.Settlement.{settleAccounts}
 use Rattle.parties.specs.Parties.{partied, partiesOf}
 use Rattle.rules.specs.Model.{Model}

@@ -1,7 +1,7 @@
 use Prim.Native.Nat.{ℕ, _%_}
 use native.Mathlib.Nat.{mod-eq-of-lt}
 use native.Mathlib.Omega.{arith}
-use mathlib.Core.Path.{_≡_}
+use mathlib.Core.Path.{_≡_, _∙_}
 use mathlib.Core.Bool.{true}
 use borrow.Author.Tests.{leb-true, not-false}
 use Rattle.money.specs.Facts.{both}
@@ -9,7 +9,7 @@ use Rattle.refusal.specs.Refusal.{unauthorized, invalidInput}
 use Rattle.refusal.specs.RuleLaws.{refuses, goes-on, does}
 use Rattle.seats.specs.Seats.{thresholdOk}
 use Rattle.settings.specs.Settings.{posted}
-use Rattle.settings.proofs.Told.{told}
+use Rattle.refusal.specs.ChoiceLaws.{told}
 use borrow.Author.Needs.{needs}
 use Rattle.settings.proofs.Settings.set_seats.Statement.{statement}
 use Rattle.settings.proofs.Settings.set_seats.Tie as tie
@@ -20,12 +20,15 @@ unfolding thresholdOk
 in-bits next threshold h = let l = leb-true next 4294967295 (both _ _ h .0) in mod-eq-of-lt (omega arith)
 
 returns : tie.Need-returns
-returns c = refuses posted unauthorized _ _ _ (told (c .before .admin-passes .ensures) (c .if1 .taken))
+returns c =
+    c .refused .ensures ∙ (
+    refuses posted unauthorized _ _ _ (told (c .before .before .admin-passes .ensures) (c .before .if1 .taken)))
 
 returns-2 : tie.Need-returns-2
 returns-2 c =
-    goes-on posted unauthorized _ _ _ (told (c .before .before .before .admin-passes .ensures) (c .before .before .if1 .left))
-    (refuses posted invalidInput _ _ _ (told (c .before .threshold-ok .ensures) (c .if2 .taken)))
+    c .refused2 .ensures ∙ (
+    goes-on posted unauthorized _ _ _ (told (c .before .before .before .before .admin-passes .ensures) (c .before .before .before .if1 .left))
+    (refuses posted invalidInput _ _ _ (told (c .before .before .threshold-ok .ensures) (c .before .if2 .taken))))
 
 returns-3 : tie.Need-returns-3
 returns-3 c =
@@ -36,4 +39,4 @@ returns-3 c =
 pub set-seats-spec : {M : Type 1} → statement M
 set-seats-spec =
     tie.close
-    (tie.spec (λ c κs. search needs) returns (λ c κs. search needs) returns-2 (λ c. search needs) returns-3)
+    (tie.spec (λ c κs. search needs) (λ c κs. search needs) returns (λ c κs. search needs) (λ c κs. search needs) returns-2 (λ c. search needs) returns-3)

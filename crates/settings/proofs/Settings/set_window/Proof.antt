@@ -1,25 +1,29 @@
-use mathlib.Core.Path.{refl}
+use mathlib.Core.Path.{refl, _∙_}
 use borrow.Author.Tests.{le-leb, lt-leb}
 use Rattle.refusal.specs.Refusal.{unauthorized, invalidInput}
 use Rattle.refusal.specs.RuleLaws.{refuses, goes-on, does}
 use Rattle.settings.specs.Settings.{posted}
-use Rattle.settings.proofs.Told.{told}
+use Rattle.refusal.specs.ChoiceLaws.{told}
 use borrow.Author.Needs.{needs}
 use Rattle.settings.proofs.Settings.set_window.Statement.{statement}
 use Rattle.settings.proofs.Settings.set_window.Tie as tie
 
 returns : tie.Need-returns
-returns c = refuses posted unauthorized _ _ _ (told (c .before .admin-passes .ensures) (c .if1 .taken))
+returns c =
+    c .refused .ensures ∙ (
+    refuses posted unauthorized _ _ _ (told (c .before .before .admin-passes .ensures) (c .before .if1 .taken)))
 
 returns-2 : tie.Need-returns-2
 returns-2 c =
-    goes-on posted unauthorized _ _ _ (told (c .before .before .admin-passes .ensures) (c .before .if1 .left))
-    (refuses posted invalidInput _ _ _ (rw (lt-leb _ _ (c .if2 .taken))))
+    c .refused2 .ensures ∙ (
+    goes-on posted unauthorized _ _ _ (told (c .before .before .before .admin-passes .ensures) (c .before .before .if1 .left))
+    (refuses posted invalidInput _ _ _ (rw (lt-leb _ _ (c .before .if2 .taken)))))
 
 returns-3 : tie.Need-returns-3
 returns-3 c =
-    goes-on posted unauthorized _ _ _ (told (c .before .before .before .admin-passes .ensures) (c .before .before .if1 .left))
-    (refuses posted invalidInput _ _ _ (rw (le-leb _ _ (c .before .if2 .left), lt-leb _ _ (c .if3 .taken))))
+    c .refused3 .ensures ∙ (
+    goes-on posted unauthorized _ _ _ (told (c .before .before .before .before .admin-passes .ensures) (c .before .before .before .if1 .left))
+    (refuses posted invalidInput _ _ _ (rw (le-leb _ _ (c .before .before .if2 .left), lt-leb _ _ (c .before .if3 .taken)))))
 
 returns-4 : tie.Need-returns-4
 returns-4 c =
@@ -28,4 +32,4 @@ returns-4 c =
     (does posted _ _ refl))
 
 pub set-window-spec : {M : Type 1} → statement M
-set-window-spec = tie.close (tie.spec (λ c κs. search needs) returns returns-2 returns-3 returns-4)
+set-window-spec = tie.close (tie.spec (λ c κs. search needs) (λ c κs. search needs) returns (λ c κs. search needs) returns-2 (λ c κs. search needs) returns-3 returns-4)

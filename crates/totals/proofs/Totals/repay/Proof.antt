@@ -1,4 +1,4 @@
-use mathlib.Core.Path.{_≡_}
+use mathlib.Core.Path.{_≡_, _∙_}
 use borrow.Author.Tests.{not-false}
 use mir.Facts.{toZ-ofZ}
 use Rattle.money.specs.Range.{movedOf}
@@ -6,11 +6,11 @@ use Rattle.money.specs.Moves.{move-tells, move-makes}
 use Rattle.money.specs.Facts.{back}
 use Rattle.refusal.specs.Refusal.{unauthorized, outOfRange}
 use Rattle.refusal.specs.RuleLaws.{refuses, goes-on, does}
-use Rattle.settings.specs.Totals.{counted}
-use Rattle.settings.proofs.Told.{told}
+use Rattle.totals.specs.Totals.{counted}
+use Rattle.refusal.specs.ChoiceLaws.{told}
 use borrow.Author.Needs.{needs}
-use Rattle.settings.proofs.Totals.repay.Statement.{statement}
-use Rattle.settings.proofs.Totals.repay.Tie as tie
+use Rattle.totals.proofs.Totals.repay.Statement.{statement}
+use Rattle.totals.proofs.Totals.repay.Tie as tie
 
 repaid-moved : (c : tie.After-shift) → c .shift .result ≡ movedOf (c .before .before .before .args .self .repaid) (c .before .before .before .args .amount)
 repaid-moved c = let s = c .before .before .before in simp (back (s .args .self .repaid) (search needs), toZ-ofZ (s .fits .amount)) at (c .shift .ensures)
@@ -21,18 +21,22 @@ fees-moved c =
     simp (back (s .args .self .fees) (search needs), toZ-ofZ (s .fits .fee)) at (c .shift2 .ensures)
 
 returns : tie.Need-returns
-returns c = refuses counted unauthorized _ _ _ (c .if1 .taken)
+returns c =
+    c .refused .ensures ∙ (
+    refuses counted unauthorized _ _ _ (c .before .if1 .taken))
 
 returns-2 : tie.Need-returns-2
 returns-2 c =
-    goes-on counted unauthorized _ _ _ (c .before .before .before .before .if1 .left)
-    (refuses counted outOfRange _ _ _ (told (move-tells _ _ (repaid-moved (c .before .before))) (c .if2 .taken)))
+    c .refused2 .ensures ∙ (
+    goes-on counted unauthorized _ _ _ (c .before .before .before .before .before .if1 .left)
+    (refuses counted outOfRange _ _ _ (told (move-tells _ _ (repaid-moved (c .before .before .before))) (c .before .if2 .taken))))
 
 returns-3 : tie.Need-returns-3
 returns-3 c =
-    goes-on counted unauthorized _ _ _ (c .before .before .before .before .before .before .before .before .if1 .left)
-    (goes-on counted outOfRange _ _ _ (told (move-tells _ _ (repaid-moved (c .before .before .before .before .before .before))) (c .before .before .before .before .if2 .left))
-    (refuses counted outOfRange _ _ _ (told (move-tells _ _ (fees-moved (c .before .before))) (c .if3 .taken))))
+    c .refused3 .ensures ∙ (
+    goes-on counted unauthorized _ _ _ (c .before .before .before .before .before .before .before .before .before .if1 .left)
+    (goes-on counted outOfRange _ _ _ (told (move-tells _ _ (repaid-moved (c .before .before .before .before .before .before .before))) (c .before .before .before .before .before .if2 .left))
+    (refuses counted outOfRange _ _ _ (told (move-tells _ _ (fees-moved (c .before .before .before))) (c .before .if3 .taken)))))
 
 returns-4 : tie.Need-returns-4
 returns-4 c =
@@ -50,4 +54,4 @@ returns-4 c =
 
 pub repay-spec : {M : Type 1} → statement M
 repay-spec =
-    tie.close (tie.spec returns (λ c κs. search needs) returns-2 (λ c κs. search needs) returns-3 returns-4)
+    tie.close (tie.spec (λ c κs. search needs) returns (λ c κs. search needs) (λ c κs. search needs) returns-2 (λ c κs. search needs) (λ c κs. search needs) returns-3 returns-4)

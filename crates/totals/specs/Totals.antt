@@ -8,8 +8,8 @@ use Rattle.money.specs.Range.{countLimit, inTotal, movable}
 use Rattle.refusal.specs.Refusal.{_gives_, unauthorized, outOfRange}
 use Rattle.refusal.specs.Rule.{Rule}
 use Rattle.terms.specs.declared.Terms.{Terms}
-use Rattle.settings.specs.declared.Totals.{Totals}
-use Rattle.settings.specs.declared.TotalsPosted.{TotalsPosted}
+use Rattle.totals.specs.declared.Totals.{Totals}
+use Rattle.totals.specs.declared.TotalsPosted.{TotalsPosted}
 
 abbrev pub noTotals : Totals
 noTotals = record { financed = pos 0; repaid = pos 0; fees = pos 0; offers = 0 }

@@ -1,8 +1,8 @@
 use Rattle.money.specs.Facts.{back}
-use Rattle.settings.specs.Totals.{totalsSound}
+use Rattle.totals.specs.Totals.{totalsSound}
 use borrow.Author.Needs.{needs}
-use Rattle.settings.proofs.Totals.sound.Statement.{statement}
-use Rattle.settings.proofs.Totals.sound.Tie as tie
+use Rattle.totals.proofs.Totals.sound.Statement.{statement}
+use Rattle.totals.proofs.Totals.sound.Tie as tie
 
 returns : tie.Need-returns
 unfolding totalsSound
