@@ -91,227 +91,167 @@ pub(crate) fn named(v: [u64; 32]) -> Values
 }
 
 // The command of a tag and its fields.
-pub(crate) fn build(tag: u8, f: Values, at: usize, next: usize) -> Decoded
-    ensures { λ r. ⌜ reading r ≡ made tag f at next ⌝ }
+pub(crate) fn build(tag: u8, f: Values, at: usize, past: usize) -> Decoded
+    ensures { λ r. ⌜ reading r ≡ made tag f at past ⌝ }
 {
+    let now = f.now;
+    let caller = f.caller;
+    let id = f.id;
+    let invoice = f.invoice;
+    let amount = f.amount;
+    let terms = Terms {
+        amount,
+        rate: f.rate,
+        duration: f.duration,
+    };
+    let expires = f.expires;
+    let round = f.round;
+    let count = f.count;
+    let code = f.code;
+    let first = f.first;
+    let seats = f.seats;
+    let threshold = f.threshold;
+    let fee = f.fee;
+    let window = f.window;
     match tag {
-        0x21 => Decoded::Command(
-            Command::OpenAccount {
-                now: f.now,
-                caller: f.caller,
-            },
-            next,
-        ),
+        0x21 => Decoded::Command(Command::OpenAccount { now, caller }, past),
         0x22 => Decoded::Command(
             Command::Deposit {
-                now: f.now,
-                caller: f.caller,
-                amount: f.amount,
+                now,
+                caller,
+                amount,
             },
-            next,
+            past,
         ),
         0x23 => Decoded::Command(
             Command::Payout {
-                now: f.now,
-                caller: f.caller,
-                amount: f.amount,
+                now,
+                caller,
+                amount,
             },
-            next,
+            past,
         ),
         0x24 => Decoded::Command(
             Command::Approve {
-                now: f.now,
-                caller: f.caller,
-                amount: f.amount,
+                now,
+                caller,
+                amount,
             },
-            next,
+            past,
         ),
         0x25 => Decoded::Command(
             Command::RegisterInvoice {
-                now: f.now,
-                caller: f.caller,
-                id: f.id,
-                amount: f.amount,
+                now,
+                caller,
+                id,
+                amount,
             },
-            next,
+            past,
         ),
-        0x26 => Decoded::Command(
-            Command::CancelInvoice {
-                now: f.now,
-                caller: f.caller,
-                id: f.id,
-            },
-            next,
-        ),
+        0x26 => Decoded::Command(Command::CancelInvoice { now, caller, id }, past),
         0x31 => Decoded::Command(
             Command::CreateOffer {
-                now: f.now,
-                caller: f.caller,
-                id: f.id,
-                invoice: f.invoice,
-                terms: Terms {
-                    amount: f.amount,
-                    rate: f.rate,
-                    duration: f.duration,
-                },
-                expires: f.expires,
+                now,
+                caller,
+                id,
+                invoice,
+                terms,
+                expires,
             },
-            next,
+            past,
         ),
-        0x32 => Decoded::Command(
-            Command::WithdrawOffer {
-                now: f.now,
-                caller: f.caller,
-                id: f.id,
-            },
-            next,
-        ),
-        0x33 => Decoded::Command(
-            Command::AcceptOffer {
-                now: f.now,
-                caller: f.caller,
-                id: f.id,
-            },
-            next,
-        ),
-        0x34 => Decoded::Command(
-            Command::RejectOffer {
-                now: f.now,
-                caller: f.caller,
-                id: f.id,
-            },
-            next,
-        ),
+        0x32 => Decoded::Command(Command::WithdrawOffer { now, caller, id }, past),
+        0x33 => Decoded::Command(Command::AcceptOffer { now, caller, id }, past),
+        0x34 => Decoded::Command(Command::RejectOffer { now, caller, id }, past),
         0x35 => Decoded::Command(
             Command::AmendOffer {
-                now: f.now,
-                caller: f.caller,
-                id: f.id,
-                terms: Terms {
-                    amount: f.amount,
-                    rate: f.rate,
-                    duration: f.duration,
-                },
-                round: f.round,
+                now,
+                caller,
+                id,
+                terms,
+                round,
             },
-            next,
+            past,
         ),
         0x36 => Decoded::Command(
             Command::CounterOffer {
-                now: f.now,
-                caller: f.caller,
-                id: f.id,
-                terms: Terms {
-                    amount: f.amount,
-                    rate: f.rate,
-                    duration: f.duration,
-                },
-                round: f.round,
+                now,
+                caller,
+                id,
+                terms,
+                round,
             },
-            next,
+            past,
         ),
-        0x37 => Decoded::Command(
-            Command::CloseNegotiation {
-                now: f.now,
-                caller: f.caller,
-                id: f.id,
-            },
-            next,
-        ),
+        0x37 => Decoded::Command(Command::CloseNegotiation { now, caller, id }, past),
         0x38 => Decoded::Command(
             Command::ScheduleRepayment {
-                now: f.now,
-                caller: f.caller,
-                id: f.id,
-                count: f.count,
-                code: f.code,
-                first: f.first,
+                now,
+                caller,
+                id,
+                count,
+                code,
+                first,
             },
-            next,
+            past,
         ),
         0x41 => Decoded::Command(
             Command::UpdateStatus {
-                now: f.now,
-                caller: f.caller,
-                id: f.id,
-                code: f.code,
+                now,
+                caller,
+                id,
+                code,
             },
-            next,
+            past,
         ),
         0x42 => Decoded::Command(
             Command::UpdateRepaid {
-                now: f.now,
-                caller: f.caller,
-                id: f.id,
-                amount: f.amount,
+                now,
+                caller,
+                id,
+                amount,
             },
-            next,
+            past,
         ),
         0x43 => Decoded::Command(
             Command::UpdateLenderRepaid {
-                now: f.now,
-                caller: f.caller,
-                id: f.id,
-                code: f.code,
+                now,
+                caller,
+                id,
+                code,
             },
-            next,
+            past,
         ),
         0x44 => Decoded::Command(
             Command::UpdateTotalsRepaid {
-                now: f.now,
-                caller: f.caller,
-                amount: f.amount,
-                fee: f.fee,
+                now,
+                caller,
+                amount,
+                fee,
             },
-            next,
+            past,
         ),
-        0x51 => Decoded::Command(
-            Command::Pause {
-                now: f.now,
-                seats: f.seats,
-            },
-            next,
-        ),
-        0x52 => Decoded::Command(
-            Command::Unpause {
-                now: f.now,
-                seats: f.seats,
-            },
-            next,
-        ),
-        0x53 => Decoded::Command(
-            Command::SetWindow {
-                now: f.now,
-                seats: f.seats,
-                window: f.window,
-            },
-            next,
-        ),
-        0x54 => Decoded::Command(
-            Command::SetRepaymentAccount {
-                now: f.now,
-                id: f.id,
-                seats: f.seats,
-            },
-            next,
-        ),
+        0x51 => Decoded::Command(Command::Pause { now, seats }, past),
+        0x52 => Decoded::Command(Command::Unpause { now, seats }, past),
+        0x53 => Decoded::Command(Command::SetWindow { now, seats, window }, past),
+        0x54 => Decoded::Command(Command::SetRepaymentAccount { now, id, seats }, past),
         0x55 => Decoded::Command(
             Command::SetBlacklisted {
-                now: f.now,
-                id: f.id,
-                code: f.code,
-                seats: f.seats,
+                now,
+                id,
+                code,
+                seats,
             },
-            next,
+            past,
         ),
         0x56 => Decoded::Command(
             Command::SetSeats {
-                now: f.now,
-                seats: f.seats,
-                threshold: f.threshold,
+                now,
+                seats,
+                threshold,
                 next: f.next,
             },
-            next,
+            past,
         ),
         _ => Decoded::Malformed(at),
     }
