@@ -2,4 +2,3 @@ pub mod Rounds
 pub mod Whole
 pub mod Laws
 pub mod Latest
-pub mod Edges
