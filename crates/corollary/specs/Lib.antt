@@ -1,2 +1,3 @@
 pub mod Journals
+pub mod JournalLaws
 pub mod Replayed

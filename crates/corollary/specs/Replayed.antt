@@ -18,11 +18,12 @@ use Rattle.soundness.specs.Sound.{fresh-model}
 use Rattle.soundness.specs.Played.{answerTo, obeyed, played, answersOf}
 use Rattle.soundness.specs.Books.{played-sound, book-sound}
 use Rattle.history.specs.Run.{from}
-use Rattle.history.specs.Demand.{Meets}
+use Rattle.history.specs.Meets.{Meets}
 use Rattle.history.specs.Stored.{stored-meets}
 use Rattle.replay.specs.declared.Outcome.{Outcome}
 use Rattle.replay.specs.Replay.{atEnd, atHeader, Replayed, halted, heard, follow, replayBy, replayFrom, replayOf, outcomeOf}
-use Rattle.corollary.specs.Journals.{taking, commandsBy, commandsIn, recordsOf, journalOf, AllHeld, none-left, leads, enough-bytes, header-length, commands-of-journal}
+use Rattle.corollary.specs.Journals.{taking, commandsBy, commandsIn, recordsOf, journalOf, AllHeld}
+use Rattle.corollary.specs.JournalLaws.{none-left, leads, enough-bytes, header-length, commands-of-journal}
 
 -- ── Any bytes ─────────────────────────────────────────────────────
 follow-model : (f : ℕ → Model → Replayed) (g : ℕ → List Command) → ((at : ℕ) (m : Model) → f at m .model ≡ played m (g at)) → (m : Model) (r : Reading) → follow f m r .model ≡ played m (taking g r)

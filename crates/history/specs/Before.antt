@@ -8,8 +8,10 @@ use lib.Dec.{eqb}
 use lib.IntN.{pos, _+ℤ_, _-ℤ_, +ℤ-idr, -ℤ-+ℤ-cancel}
 use borrow.Author.Tests.{eqb-true}
 use Rattle.refusal.specs.Choice.{pick}
-use Rattle.table.specs.Tables.{Found, absent, here, Table, find, row, keys, hit, Is, is-true, is-false, decide}
-use Rattle.table.specs.Rising.{Above, Rises, above-rises}
+use Rattle.table.specs.Tables.{Found, absent, here, Table, find, row, keys, hit}
+use Rattle.table.specs.Deciding.{Is, is-true, is-false, decide}
+use Rattle.table.specs.Rising.{Above, Rises}
+use Rattle.table.specs.RisingLaws.{above-rises}
 use Rattle.table.specs.Sums.{count}
 use Rattle.terms.specs.declared.Terms.{Terms}
 use Rattle.negotiation.specs.Rounds.{roundSlots, asked}

@@ -21,7 +21,8 @@ use Rattle.history.specs.Passed.{Passes, all-pass}
 use Rattle.history.specs.Ledger.{Bargain, Ledger, noted, post, ledger, bargainOf, shut}
 use Rattle.history.specs.Papers.{shut-most}
 use Rattle.history.specs.Reads.{bargainIn, Reads, reads-post, at-offer, either-way}
-use Rattle.history.specs.Run.{answerOf, from}
+use Rattle.soundness.specs.Played.{answerTo}
+use Rattle.history.specs.Run.{from}
 use Rattle.history.specs.Before.{base, reads-before}
 use Rattle.history.specs.Demand.{fresh, none-before, holds}
 
@@ -68,13 +69,13 @@ module _ (cs : List Command) (now a o : ℕ) (t : Terms) (n : ℕ) where
   abbrev told-so-far : Said
   told-so-far = read (from freshModel cs .history)
 
-  pub amended-by-lender : answerOf after (AmendOffer now a o t n) ≡ 0 → lenderSaid (deedsOn o (told-so-far .deeds)) ≡ a
+  pub amended-by-lender : answerTo after (AmendOffer now a o t n) ≡ 0 → lenderSaid (deedsOn o (told-so-far .deeds)) ≡ a
   unfolding shapeOf ruled
   amended-by-lender e =
       let p : Passes (commanded after (AmendOffer now a o t n) .checks) = all-pass (commanded after (AmendOffer now a o t n) .checks) e in
       sym (ap (λ (z : Bargain). z .lender) (book-knows cs o)) ∙ eqb-true (offerIn after o .row .offer .lender) a (not-false (eqb (offerIn after o .row .offer .lender) a) (search))
 
-  pub countered-by-originator : answerOf after (CounterOffer now a o t n) ≡ 0 → row 0 (find (told-so-far .originators) (invoiceOf (deedsOn o (told-so-far .deeds)))) ≡ a
+  pub countered-by-originator : answerTo after (CounterOffer now a o t n) ≡ 0 → row 0 (find (told-so-far .originators) (invoiceOf (deedsOn o (told-so-far .deeds)))) ≡ a
   unfolding shapeOf ruled
   countered-by-originator e =
       let H = holds cs in

@@ -1,5 +1,4 @@
 -- Demand 3: from a fresh book, after any commands, every figure of the book is the history's. From any sound book: its figures, and the sums over what is accepted after it.
-use Prim.Native.Nat.{ℕ}
 use native.Mathlib.Omega.{arith}
 use mathlib.Core.Path.{_≡_, refl, sym, subst, _∙_}
 use mathlib.Core.List.{List, [], _∷_}
@@ -14,7 +13,7 @@ use Rattle.offer.specs.Laws.{DealKept}
 use Rattle.offer.specs.declared.Deal.{Deal}
 use Rattle.account.specs.declared.Account.{Account}
 use Rattle.command.specs.declared.Command.{Command}
-use Rattle.rules.specs.Model.{Model, freshModel, accountIn}
+use Rattle.rules.specs.Model.{Model, freshModel}
 use Rattle.rules.specs.Rules.{commanded}
 use Rattle.command.specs.Shape.{shapeOf}
 use Rattle.soundness.specs.Sound.{ModelSound, fresh-model}
@@ -30,7 +29,9 @@ use Rattle.history.specs.Fair.{Sums, sums-post}
 use Rattle.history.specs.Listed.{Listed, accountHere, offerHere, listed-after}
 use Rattle.history.specs.Accepted.{Late, fair}
 use Rattle.history.specs.Before.{base, reads-before, sums-before, keys-once, still-closed}
-use Rattle.history.specs.Run.{from, kept-run}
+use Rattle.history.specs.Run.{from}
+use Rattle.history.specs.RunLaws.{kept-run}
+use Rattle.history.specs.Meets.{Meets}
 
 -- ── The book, the ledger and the history together ─────────────────
 -- after h from s; r is what was said, before s and by h
@@ -104,14 +105,6 @@ none-before = refl
 
 pub holds : (cs : List Command) → Holds freshModel (from freshModel cs .history) (read (from freshModel cs .history)) (from freshModel cs .model)
 holds cs = subst (λ (z : Said). Holds freshModel (from freshModel cs .history) (readAfter z (from freshModel cs .history)) (from freshModel cs .model)) none-before (holds-since freshModel fresh-model cs)
-
--- the figures of a book are the sums of a history
-pub record Meets (h : List Command) (m : Model) : Type 0 where
-  pub offereds : (a : ℕ) → accountIn m a .row .offered ≡ offered (read h) a
-  pub accepteds : (a : ℕ) → accountIn m a .row .accepted ≡ accepted (read h) a
-  pub balances : (a : ℕ) → accountIn m a .row .balance ≡ balance (read h) a
-  pub all-balances : sum (λ e. e .1 .balance) (m .accounts) ≡ together (read h)
-  pub financed-total : m .totals .financed ≡ financed (read h)
 
 fresh-meets : {h : List Command} {m : Model} → MeetsSince freshModel h m → Meets h m
 unfolding keys deedsBefore originatorsBefore find sum offered

@@ -9,7 +9,8 @@ use lib.IntN.{ℤ, pos, _+ℤ_, +ℤ-assoc, +ℤ-comm, +ℤ-idr}
 use borrow.Author.Tests.{eqb-true, eqb-false, eq-eqb, ne-eqb}
 use Rattle.refusal.specs.Choice.{pick}
 use Rattle.refusal.specs.ChoiceLaws.{pick-on, pick-off}
-use Rattle.table.specs.Tables.{Found, absent, here, Table, find, adjust, insert, fmap, hit, Is, is-true, is-false, decide}
+use Rattle.table.specs.Tables.{Found, absent, here, Table, find, adjust, insert, fmap, hit}
+use Rattle.table.specs.Deciding.{Is, is-true, is-false, decide}
 use Rattle.table.specs.TableLaws.{find-adjust, find-insert}
 use Rattle.table.specs.Sums.{count}
 use Rattle.history.specs.History.{sum, share}

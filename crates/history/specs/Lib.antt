@@ -16,7 +16,9 @@ pub mod Listed
 pub mod Before
 pub mod Accepted
 pub mod Run
+pub mod RunLaws
+pub mod Meets
 pub mod Demand
-pub mod Stored
 pub mod Pending
+pub mod Stored
 pub mod Bound

@@ -8,7 +8,8 @@ use lib.Dec.{eqb}
 use lib.ListN.{length}
 use borrow.Author.Tests.{eqb-true, leb-false}
 use Rattle.refusal.specs.Choice.{pick}
-use Rattle.table.specs.Tables.{Found, absent, here, Table, find, insert, fmap, hit, Is, is-true, is-false, decide}
+use Rattle.table.specs.Tables.{Found, absent, here, Table, find, insert, fmap, hit}
+use Rattle.table.specs.Deciding.{Is, is-true, is-false, decide}
 use Rattle.table.specs.TableLaws.{find-adjust, find-insert, length-adjust, length-insert}
 use Rattle.table.specs.Sums.{count}
 use Rattle.negotiation.specs.Rounds.{roundSlots, agreesOf}

@@ -7,7 +7,8 @@ use lib.Dec.{eqb}
 use borrow.Author.Tests.{eqb-true}
 use Rattle.refusal.specs.Choice.{pick}
 use Rattle.refusal.specs.ChoiceLaws.{pick-on, pick-off}
-use Rattle.table.specs.Tables.{Found, absent, here, Table, find, insert, fmap, hit, Is, is-true, is-false, decide}
+use Rattle.table.specs.Tables.{Found, absent, here, Table, find, insert, fmap, hit}
+use Rattle.table.specs.Deciding.{Is, is-true, is-false, decide}
 use Rattle.table.specs.TableLaws.{find-adjust}
 use Rattle.invoice.specs.declared.Invoice.{Invoice}
 use Rattle.invoice.specs.Invoice.{inStatus}

@@ -1,32 +1,22 @@
 -- Commands one after another, each with its time, refused ones among them: the history grows by those that are accepted, and the book is theirs.
-use Prim.Native.Nat.{ℕ}
-use mathlib.Core.Path.{_≡_, refl, ap, _∙_}
-use mathlib.Core.Bool.{Bool, true, false}
 use mathlib.Core.List.{List, [], _∷_}
 use lib.Dec.{eqb}
-use borrow.Author.Tests.{eqb-true}
 use Rattle.refusal.specs.Choice.{pick}
-use Rattle.refusal.specs.Refusal.{first}
-use Rattle.refusal.specs.Rule.{after}
 use Rattle.command.specs.declared.Command.{Command}
 use Rattle.rules.specs.Model.{Model}
 use Rattle.rules.specs.Rules.{commanded}
-use Rattle.soundness.specs.Played.{played}
-use Rattle.history.specs.Passed.{Passes, all-pass}
+use Rattle.soundness.specs.Played.{answerTo}
 
 pub record Run : Type 0 where
   pub history : List Command
   pub model : Model
 
--- where no check fails, the answer is 0 and the command is accepted
-abbrev pub answerOf : Model → Command → ℕ
-answerOf m c = first (commanded m c .checks)
-
 abbrev pub taken : Run → Command → Run
 taken r c = record { history = c ∷ r .history; model = commanded (r .model) c .done }
 
+-- where no check fails, the answer is 0 and the command is accepted
 unfoldable pub go : Run → Command → Run
-go r c = pick (eqb (answerOf (r .model) c) 0) (taken r c) r
+go r c = pick (eqb (answerTo (r .model) c) 0) (taken r c) r
 
 unfoldable pub run : Run → List Command → Run
 run r [] = r
@@ -34,33 +24,3 @@ run r (c ∷ cs) = run (go r c) cs
 
 abbrev pub from : Model → List Command → Run
 from m cs = run (record { history = []; model = m }) cs
-
--- the book that a command leaves, as the code's answer has it
-go-after : (r : Run) (c : Command) → go r c .model ≡ after (r .model) (commanded (r .model) c)
-unfolding go after pick
-go-after r c = by (eqb (answerOf (r .model) c) 0)
-  where
-    by : (g : Bool) → pick g (taken r c) r .model ≡ pick g (commanded (r .model) c .done) (r .model)
-    by true = refl
-    by false = refl
-
--- and after any commands
-pub run-played : (r : Run) (cs : List Command) → run r cs .model ≡ played (r .model) cs
-unfolding run played
-run-played r [] = refl
-run-played r (c ∷ cs) = run-played (go r c) cs ∙ ap (λ m. played m cs) (go-after r c)
-
--- what every accepted command keeps holds after any commands
-module _ (P : List Command → Model → Type 0) (keep : (h : List Command) (m : Model) (c : Command) → P h m → Passes (commanded m c .checks) → P (c ∷ h) (commanded m c .done)) where
-  kept-go : (r : Run) (c : Command) → P (r .history) (r .model) → P (go r c .history) (go r c .model)
-  unfolding go pick
-  kept-go r c h = by (eqb (answerOf (r .model) c) 0) refl
-    where
-      by : (g : Bool) → eqb (answerOf (r .model) c) 0 ≡ g → P (pick g (taken r c) r .history) (pick g (taken r c) r .model)
-      by true e = keep (r .history) (r .model) c h (all-pass (commanded (r .model) c .checks) (eqb-true (answerOf (r .model) c) 0 e))
-      by false e = h
-
-  pub kept-run : (r : Run) → P (r .history) (r .model) → (cs : List Command) → P (run r cs .history) (run r cs .model)
-  unfolding run
-  kept-run r h [] = h
-  kept-run r h (c ∷ cs) = kept-run (go r c) (kept-go r c h) cs

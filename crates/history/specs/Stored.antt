@@ -1,37 +1,48 @@
--- The same of the code's book: its arrays hold the rows of the model, so its figures are the history's.
-use mathlib.Core.Path.{_≡_, refl, sym, ap, subst, _∙_}
+-- The same of the code: what its calls leave, its figures and its invoices.
+use Prim.Native.Nat.{ℕ}
+use mathlib.Core.Path.{_≡_, sym, ap, subst, _∙_}
+use mathlib.Core.Bool.{true}
 use mathlib.Core.List.{List, []}
-use Rattle.table.specs.Tables.{find}
-use Rattle.table.specs.ShelfBack.{table-stored}
-use Rattle.account.specs.Account.{noAccount}
 use Rattle.command.specs.declared.Command.{Command}
-use Rattle.rules.specs.Model.{Model, freshModel}
-use Rattle.book.specs.Stored.{modelOf, stored}
+use Rattle.rules.specs.Model.{Model, freshModel, invoiceIn}
 use Rattle.book.specs.declared.Book.{Book}
+use Rattle.book.specs.Stored.{modelOf, stored, bookTest}
+use Rattle.book.specs.Shelving.{back, model-stored}
+use Rattle.book.specs.Tested.{shelved-of}
 use Rattle.soundness.specs.Sound.{fresh-model}
-use Rattle.soundness.specs.Played.{played}
-use Rattle.soundness.specs.Calls.{called, called-played}
-use Rattle.history.specs.Figures.{tally}
-use Rattle.history.specs.Ledger.{balanceOf, offeredOf, acceptedIn}
-use Rattle.history.specs.Run.{from, run-played}
-use Rattle.history.specs.Demand.{Meets, holds, demand-3}
+use Rattle.soundness.specs.Played.{played, called}
+use Rattle.soundness.specs.Books.{Typed, model-sound, played-sound}
+use Rattle.soundness.specs.Calls.{called-played}
+use Rattle.history.specs.Run.{from}
+use Rattle.history.specs.RunLaws.{run-played}
+use Rattle.history.specs.Since.{MeetsSince}
+use Rattle.history.specs.Meets.{Meets}
+use Rattle.history.specs.Demand.{since, demand-3}
+use Rattle.history.specs.Pending.{never-pending}
 
--- they are figures of the accounts and of the totals alone
-same-figures : {h : List Command} {m n : Model} → n .accounts ≡ m .accounts → n .totals ≡ m .totals → Meets h m → Meets h n
-same-figures p q F = record {
-  offereds = λ a. ap (λ t. offeredOf (find t a)) p ∙ F .offereds a;
-  accepteds = λ a. ap (λ t. acceptedIn (find t a)) p ∙ F .accepteds a;
-  balances = λ a. ap (λ t. balanceOf (find t a)) p ∙ F .balances a;
-  all-balances = ap (tally balanceOf) p ∙ F .all-balances;
-  financed-total = ap (λ t. t .financed) q ∙ F .financed-total;
-}
-
+-- the book that any commands leave of a fresh one
 pub stored-meets : (cs : List Command) (b : Book) → b ≡ stored (played freshModel cs) → Meets (from freshModel cs .history) (modelOf b)
 stored-meets cs b e =
-    let m : Model = from freshModel cs .model in
-    subst (λ (z : Book). Meets (from freshModel cs .history) (modelOf z)) (sym (e ∙ ap (λ n. stored n) (sym (run-played (record { history = []; model = freshModel }) cs))))
-    (same-figures {n = modelOf (stored m)} (table-stored noAccount 64 (m .accounts) (holds cs .lists .room)) refl (demand-3 cs))
+    subst (λ (m : Model). Meets (from freshModel cs .history) m)
+    (run-played (record { history = []; model = freshModel }) cs ∙ sym (ap (λ z. modelOf z) e ∙ model-stored (played-sound fresh-model cs .fits)))
+    (demand-3 cs)
 
 -- demand 3 of calls: a fresh book, then any commands by `Book::apply`, each on the book that the one before gave back
 pub calls-meet : (cs : List Command) → Meets (from freshModel cs .history) (modelOf (called (stored freshModel) cs))
 calls-meet cs = stored-meets cs (called (stored freshModel) cs) (called-played fresh-model cs)
+
+-- ── From any sound book ───────────────────────────────────────────
+module _ (b : Book) (y : Typed b) (e : bookTest b ≡ true) (cs : List Command) where
+  leave : from (modelOf b) cs .model ≡ modelOf (called b cs)
+  leave =
+      let s = model-sound b y e in
+      run-played (record { history = []; model = modelOf b }) cs
+      ∙ sym (ap (λ z. modelOf (called z cs)) (back (shelved-of b (y .accounts) (y .invoices) (y .offers) e)) ∙ ap (λ z. modelOf z) (called-played s cs) ∙ model-stored (played-sound s cs .fits))
+
+  -- its figures and the sums over what is accepted after it
+  pub calls-since : MeetsSince (modelOf b) (from (modelOf b) cs .history) (modelOf (called b cs))
+  calls-since = subst (λ (m : Model). MeetsSince (modelOf b) (from (modelOf b) cs .history) m) leave (since (modelOf b) (model-sound b y e) cs)
+
+  -- an invoice that is not Pending is not Pending after them
+  pub calls-never-pending : (i : ℕ) → (invoiceIn (modelOf b) i .row .status ≡ 0 → ⊥) → invoiceIn (modelOf (called b cs)) i .row .status ≡ 0 → ⊥
+  calls-never-pending i h k = never-pending (modelOf b) (model-sound b y e) i h cs (ap (λ (m : Model). invoiceIn m i .row .status) leave ∙ k)

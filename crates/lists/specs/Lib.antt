@@ -1,3 +1,4 @@
+pub mod Taking
 pub mod Pick
 pub mod Written
 pub mod Sum

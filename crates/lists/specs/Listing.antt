@@ -17,8 +17,7 @@ use Rattle.lists.specs.declared.Wanted.{Wanted}
 use Rattle.lists.specs.declared.Listed.{Listed}
 use Rattle.lists.specs.declared.Listed.the-variants.{Offers, Unlisted, Short, Unsound}
 use Rattle.refusal.specs.Placed.{placed}
-use Rattle.lists.specs.Pick.{pickFrom}
-use Rattle.lists.specs.Written.{spread}
+use Rattle.lists.specs.Taking.{pickFrom, spread}
 use Rattle.lists.specs.Wanted.{wants, known}
 
 -- the offers by id

@@ -8,43 +8,39 @@ use native.Mathlib.Numerals.{add-one}
 use native.Mathlib.Omega.{arith}
 use lib.ListN.{length, take, drop, getD, length-append, take-append-drop}
 use lib.Seq.{take-suc, take-all, length-take-le}
+use Rattle.lists.specs.Taking.{pickFrom}
 
 module _ {A : Type 0} (q : ℕ → A → Bool) where
-  -- the entries that q takes, in their order; the first stands at place k
-  unfoldable pub pickFrom : ℕ → List A → List A
-  pickFrom k [] = []
-  pickFrom k (e ∷ t) = cond (q k e) (e ∷ pickFrom (suc k) t) (pickFrom (suc k) t)
-
-  pick-append : (k : ℕ) (s t : List A) → pickFrom k (s ++ t) ≡ pickFrom k s ++ pickFrom (k + length s) t
+  pick-append : (k : ℕ) (s t : List A) → pickFrom q k (s ++ t) ≡ pickFrom q k s ++ pickFrom q (k + length s) t
   unfolding pickFrom
   pick-append k [] t = rw (add-zero k)
   pick-append k (e ∷ s) t =
       let f : k + suc (length s) ≡ suc k + length s = omega arith in
-      go (q k e) (pick-append (suc k) s t ∙ ap (λ (n : ℕ). pickFrom (suc k) s ++ pickFrom n t) (sym f))
+      go (q k e) (pick-append (suc k) s t ∙ ap (λ (n : ℕ). pickFrom q (suc k) s ++ pickFrom q n t) (sym f))
     where
-      go : (b : Bool) → pickFrom (suc k) (s ++ t) ≡ pickFrom (suc k) s ++ pickFrom (k + suc (length s)) t
-          → cond b (e ∷ pickFrom (suc k) (s ++ t)) (pickFrom (suc k) (s ++ t)) ≡ cond b (e ∷ pickFrom (suc k) s) (pickFrom (suc k) s) ++ pickFrom (k + suc (length s)) t
+      go : (b : Bool) → pickFrom q (suc k) (s ++ t) ≡ pickFrom q (suc k) s ++ pickFrom q (k + suc (length s)) t
+          → cond b (e ∷ pickFrom q (suc k) (s ++ t)) (pickFrom q (suc k) (s ++ t)) ≡ cond b (e ∷ pickFrom q (suc k) s) (pickFrom q (suc k) s) ++ pickFrom q (k + suc (length s)) t
       go true r = ap (λ (z : List A). e ∷ z) r
       go false r = r
 
-  pick-after : (s t : List A) → pickFrom 0 (s ++ t) ≡ pickFrom 0 s ++ pickFrom (length s) t
-  pick-after s t = let z : 0 + length s ≡ length s = omega arith in pick-append 0 s t ∙ ap (λ (n : ℕ). pickFrom 0 s ++ pickFrom n t) z
+  pick-after : (s t : List A) → pickFrom q 0 (s ++ t) ≡ pickFrom q 0 s ++ pickFrom q (length s) t
+  pick-after s t = let z : 0 + length s ≡ length s = omega arith in pick-append 0 s t ∙ ap (λ (n : ℕ). pickFrom q 0 s ++ pickFrom q n t) z
 
   module _ (t : List A) (i : ℕ) (d : A) (h : i < length t) where
-    one-more : pickFrom 0 (take (i + 1) t) ≡ pickFrom 0 (take i t) ++ cond (q i (getD t i d)) (getD t i d ∷ []) []
+    one-more : pickFrom q 0 (take (i + 1) t) ≡ pickFrom q 0 (take i t) ++ cond (q i (getD t i d)) (getD t i d ∷ []) []
     unfolding pickFrom
     one-more = rw (add-one, take-suc t i d h, pick-after (take i t) (getD t i d ∷ []), length-take-le i t (omega arith))
 
-    pub pick-on : q i (getD t i d) ≡ true → pickFrom 0 (take (i + 1) t) ≡ pickFrom 0 (take i t) ++ (getD t i d ∷ [])
-    pick-on e = one-more ∙ ap (λ (b : Bool). pickFrom 0 (take i t) ++ cond b (getD t i d ∷ []) []) e
+    pub pick-on : q i (getD t i d) ≡ true → pickFrom q 0 (take (i + 1) t) ≡ pickFrom q 0 (take i t) ++ (getD t i d ∷ [])
+    pick-on e = one-more ∙ ap (λ (b : Bool). pickFrom q 0 (take i t) ++ cond b (getD t i d ∷ []) []) e
 
-    pub pick-off : q i (getD t i d) ≡ false → pickFrom 0 (take (i + 1) t) ≡ pickFrom 0 (take i t)
-    pick-off e = one-more ∙ ap (λ (b : Bool). pickFrom 0 (take i t) ++ cond b (getD t i d ∷ []) []) e ∙ append-nil _
+    pub pick-off : q i (getD t i d) ≡ false → pickFrom q 0 (take (i + 1) t) ≡ pickFrom q 0 (take i t)
+    pick-off e = one-more ∙ ap (λ (b : Bool). pickFrom q 0 (take i t) ++ cond b (getD t i d ∷ []) []) e ∙ append-nil _
 
-  pub pick-fewer : (t : List A) (i : ℕ) → length (pickFrom 0 (take i t)) ≤ length (pickFrom 0 t)
+  pub pick-fewer : (t : List A) (i : ℕ) → length (pickFrom q 0 (take i t)) ≤ length (pickFrom q 0 t)
   pick-fewer t i =
-      let e : pickFrom 0 t ≡ pickFrom 0 (take i t) ++ pickFrom (length (take i t)) (drop i t) = ap (pickFrom 0) (sym (take-append-drop i t)) ∙ pick-after (take i t) (drop i t) in
-      omega (arith, ap length e, length-append (pickFrom 0 (take i t)) (pickFrom (length (take i t)) (drop i t)))
+      let e : pickFrom q 0 t ≡ pickFrom q 0 (take i t) ++ pickFrom q (length (take i t)) (drop i t) = ap (pickFrom q 0) (sym (take-append-drop i t)) ∙ pick-after (take i t) (drop i t) in
+      omega (arith, ap length e, length-append (pickFrom q 0 (take i t)) (pickFrom q (length (take i t)) (drop i t)))
 
 pub pick-short : {A : Type 0} (q : ℕ → A → Bool) (k : ℕ) (t : List A) → length (pickFrom q k t) ≤ length t
 unfolding pickFrom

@@ -8,11 +8,13 @@ use lib.ListN.{take, drop}
 use lib.Seq.{take-nil, drop-nil}
 use lib.Dec.{leb, ltb}
 use borrow.Author.Tests.{leb-true, leb-false, ltb-true, ltb-false}
-use Rattle.table.specs.Tables.{Table, keys, Is, is-true, is-false, decide}
-use Rattle.table.specs.Rising.{Above, Rises, above-rises}
+use Rattle.table.specs.Tables.{Table, keys}
+use Rattle.table.specs.Deciding.{Is, is-true, is-false, decide}
+use Rattle.table.specs.Rising.{Above, Rises}
+use Rattle.table.specs.RisingLaws.{above-rises}
 use Rattle.offer.specs.declared.Offer.{Offer}
 use Rattle.lists.specs.declared.Wanted.the-variants.{Page}
-use Rattle.lists.specs.Pick.{pickFrom}
+use Rattle.lists.specs.Taking.{pickFrom}
 use Rattle.lists.specs.Wanted.{paged, wants}
 use Rattle.lists.specs.Listing.{listing}
 

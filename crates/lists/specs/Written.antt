@@ -9,12 +9,8 @@ use lib.ListN.{length, take, getD, length-append}
 use lib.Seq.{take-all}
 use Rattle.refusal.specs.PlacedLaws.{length-placed, placed-twice, placed-none}
 use Rattle.refusal.specs.Placed.{placed}
-use Rattle.lists.specs.Pick.{pickFrom, pick-fewer, pick-on, pick-off, Walked, walk-start, walk-on, walk-off, walk-room}
-
--- f of each entry, one after another
-unfoldable pub spread : {A : Type 0} → (A → List ℕ) → List A → List ℕ
-spread f [] = []
-spread f (e ∷ t) = f e ++ spread f t
+use Rattle.lists.specs.Pick.{pick-fewer, pick-on, pick-off, Walked, walk-start, walk-on, walk-off, walk-room}
+use Rattle.lists.specs.Taking.{pickFrom, spread}
 
 spread-append : {A : Type 0} (f : A → List ℕ) (s t : List A) → spread f (s ++ t) ≡ spread f s ++ spread f t
 unfolding spread

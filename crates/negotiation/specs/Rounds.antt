@@ -11,8 +11,7 @@ use Rattle.money.specs.Range.{isZero}
 use Rattle.terms.specs.Terms.{termsOk, sameTerms}
 use Rattle.terms.specs.declared.Terms.{Terms}
 use Rattle.table.specs.Tables.{Found, absent, here}
-use Rattle.table.specs.All.{allBelow}
-use Rattle.table.specs.Test.{rowsTest}
+use Rattle.table.specs.Test.{allBelow, rowsTest}
 use Rattle.negotiation.specs.declared.Round.{Round}
 use Rattle.negotiation.specs.declared.Negotiation.{Negotiation}
 

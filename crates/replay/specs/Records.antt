@@ -8,7 +8,8 @@ use lib.Dec.{eqb, leb}
 use lib.ListN.{length, getD, drop}
 use borrow.Author.Tests.{leb-true}
 use Rattle.refusal.specs.Choice.{pick}
-use Rattle.table.specs.Tables.{Table, adjust, insert, keys, Is, is-true, is-false, decide}
+use Rattle.table.specs.Tables.{Table, adjust, insert, keys}
+use Rattle.table.specs.Deciding.{Is, is-true, is-false, decide}
 use Rattle.table.specs.TableLaws.{keys-adjust}
 use Rattle.command.specs.Shape.{Shape, opens, account, registers, cancels, creates, offer, accepts, amends, counters, totals, settings, shapeOf}
 use Rattle.wire.specs.Field.{begins}

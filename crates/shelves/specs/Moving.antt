@@ -10,7 +10,7 @@ use Rattle.table.specs.declared.Found.the-variants.{Absent}
 use Rattle.table.specs.Padded.{padded, pad-rest}
 use Rattle.table.specs.Shift.{insertAt, Lifts, lifts, lifts-on}
 use Rattle.table.specs.Raising.{Between, ids-raised}
-use Rattle.table.specs.Columns.{column}
+use Rattle.table.specs.Join.{column}
 use Rattle.negotiation.specs.declared.Negotiation.{Negotiation}
 use Rattle.terms.specs.declared.Schedule.{Schedule}
 use Rattle.offer.specs.Offer.{noDeal}

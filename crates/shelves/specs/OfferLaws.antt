@@ -8,7 +8,8 @@ use Rattle.table.specs.Padded.{padded, length-padded}
 use Rattle.table.specs.Shelf.{tableOf}
 use Rattle.table.specs.ShelfBack.{table-stored, shelf-stored}
 use Rattle.table.specs.Sound.{All, all-map}
-use Rattle.table.specs.Columns.{Level, level, length-join, getD-join}
+use Rattle.table.specs.Columns.{level, length-join, getD-join}
+use Rattle.table.specs.Join.{Level}
 use Rattle.table.specs.Parts.{join-columns}
 use Rattle.table.specs.Keeping.{Keeping, shelf-fine}
 use Rattle.table.specs.TestLaws.{shelf-of, rows-of, passes, everywhere}

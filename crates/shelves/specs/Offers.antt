@@ -6,7 +6,7 @@ use mathlib.Core.List.{List}
 use lib.ListN.{length, getD}
 use Rattle.table.specs.Tables.{Table}
 use Rattle.table.specs.Shelf.{tableOf, shelve, Shelf}
-use Rattle.table.specs.Columns.{join, column, Level}
+use Rattle.table.specs.Join.{join, column, Level}
 use Rattle.table.specs.Test.{idsTest, rowsTest}
 use Rattle.negotiation.specs.Rounds.{roundSlots, noNegotiation}
 use Rattle.negotiation.specs.Whole.{Whole}

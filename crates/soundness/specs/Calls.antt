@@ -17,7 +17,7 @@ use Rattle.book.specs.Shelving.{back, model-stored}
 use Rattle.book.specs.Tested.{shelved-of}
 use Rattle.soundness.specs.Sound.{ModelSound}
 use Rattle.soundness.specs.Keeps.{stays-sound}
-use Rattle.soundness.specs.Played.{played}
+use Rattle.soundness.specs.Played.{called, played}
 use Rattle.soundness.specs.Books.{Typed, book-sound}
 
 -- ── A refusal returns the very book ───────────────────────────────
@@ -42,10 +42,6 @@ module _ (b : Book) (c : Command) where
       go false e h = refl
 
 -- ── Any calls ─────────────────────────────────────────────────────
-unfoldable pub called : Book → List Command → Book
-called b [] = b
-called b (c ∷ cs) = called (answers b c .book) cs
-
 one-call : {m : Model} → ModelSound m → (c : Command) → answers (stored m) c .book ≡ stored (after m (commanded m c))
 unfolding answers answered
 one-call {m} s c =

@@ -1,9 +1,11 @@
--- The book after any commands, refused ones among them, and their answers.
+-- The book after any commands, refused ones among them, and their answers: of the model, and of the code.
 use Prim.Native.Nat.{ℕ}
 use mathlib.Core.List.{List, [], _∷_}
 use Rattle.refusal.specs.Refusal.{first}
 use Rattle.refusal.specs.Rule.{after}
 use Rattle.command.specs.declared.Command.{Command}
+use Rattle.book.specs.declared.Book.{Book}
+use Rattle.book.specs.Stored.{answers}
 use Rattle.rules.specs.Model.{Model}
 use Rattle.rules.specs.Rules.{commanded}
 
@@ -21,3 +23,8 @@ played m (c ∷ cs) = played (obeyed m c) cs
 unfoldable pub answersOf : Model → List Command → List ℕ
 answersOf m [] = []
 answersOf m (c ∷ cs) = answerTo m c ∷ answersOf (obeyed m c) cs
+
+-- calls of the code one after another, each on the book that the one before gave back
+unfoldable pub called : Book → List Command → Book
+called b [] = b
+called b (c ∷ cs) = called (answers b c .book) cs

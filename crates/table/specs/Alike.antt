@@ -6,8 +6,10 @@ use mathlib.Core.Bool.{Bool, true, false, cond}
 use mathlib.Core.List.{[], _∷_}
 use lib.Dec.{eqb, leb}
 use borrow.Author.Tests.{eqb-true, eqb-false, eq-eqb, ne-eqb, leb-true, leb-false}
-use Rattle.table.specs.Tables.{Found, absent, here, Table, find, keys, fmap, Is, is-true, is-false, decide}
-use Rattle.table.specs.Rising.{Above, Rises, above-rises}
+use Rattle.table.specs.Tables.{Found, absent, here, Table, find, keys, fmap}
+use Rattle.table.specs.Deciding.{Is, is-true, is-false, decide}
+use Rattle.table.specs.Rising.{Above, Rises}
+use Rattle.table.specs.RisingLaws.{above-rises}
 use Rattle.table.specs.Named.{isId, findBy, putBy}
 use Rattle.table.specs.NamedLaws.{is-named, find-by, rises-by}
 use Rattle.table.specs.declared.Named.{Named}

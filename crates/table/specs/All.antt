@@ -6,11 +6,7 @@ use mathlib.Core.Path.{_≡_, refl, ap, _∙_}
 use lib.Dec.{ltb}
 use borrow.Author.Tests.{ltb-true, ltb-false}
 use mathlib.Core.Bool.{Bool, true, false, _&&_}
-
--- p holds at each index below n
-abbrev pub allBelow : ℕ → (ℕ → Bool) → Bool
-allBelow zero p = true
-allBelow (suc n) p = allBelow n p && p n
+use Rattle.table.specs.Test.{allBelow}
 
 -- a turn of a loop that keeps `ok`
 pub all-on : (p : ℕ → Bool) (i : ℕ) (ok t : Bool) → ok ≡ allBelow i p → t ≡ p i → ok && t ≡ allBelow (i + 1) p

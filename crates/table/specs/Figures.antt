@@ -6,7 +6,8 @@ use Prim.Native.Nat.{ℕ, _+_, _≤_}
 use native.Mathlib.Omega.{arith}
 use lib.Dec.{eqb, leb}
 use borrow.Author.Tests.{eqb-true}
-use Rattle.table.specs.Tables.{Found, absent, here, Table, find, adjust, insert, fmap, val, total, hit, Is, is-true, is-false, decide}
+use Rattle.table.specs.Tables.{Found, absent, here, Table, find, adjust, insert, fmap, val, total, hit}
+use Rattle.table.specs.Deciding.{Is, is-true, is-false, decide}
 use Rattle.table.specs.TableLaws.{find-adjust, find-insert}
 
 pub hit-zero : (i a : ℕ) → hit i a 0 ≡ 0

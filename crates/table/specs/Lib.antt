@@ -2,12 +2,14 @@ pub mod Find
 pub mod FindLaws
 pub mod Seek
 pub mod Shift
+pub mod Deciding
 pub mod Tables
 pub mod Rows
 pub mod TableLaws
 pub mod Figures
 pub mod Sums
 pub mod Rising
+pub mod RisingLaws
 pub mod Padded
 pub mod Shelf
 pub mod ShelfBack
@@ -15,10 +17,11 @@ pub mod ShelfPlaces
 pub mod ShelfLaws
 pub mod Sound
 pub mod Keeping
-pub mod All
 pub mod Test
+pub mod All
 pub mod TestLaws
 pub mod TestMore
+pub mod Join
 pub mod Columns
 pub mod Parts
 pub mod OneResult

@@ -4,7 +4,8 @@ use mathlib.Core.Path.{_≡_, refl, sym, ap, _∙_}
 use mathlib.Core.List.{List, [], _∷_}
 use lib.ListN.{set}
 use Rattle.table.specs.Shift.{insertAt}
-use Rattle.table.specs.Columns.{column, column-set, column-insert, Level, level-turn, join, first-of, join-turn}
+use Rattle.table.specs.Columns.{column-set, column-insert, level-turn, first-of, join-turn}
+use Rattle.table.specs.Join.{column, Level, join}
 
 -- mk makes a row of its parts f, g and h; for a record each field is refl
 pub record Parts {X Y Z A : Type 0} (mk : X → Y → Z → A) (f : A → X) (g : A → Y) (h : A → Z) : Type 0 where

@@ -10,7 +10,3 @@ Above p (x ∷ xs) = (p < x) × Above x xs
 abbrev pub Rises : List ℕ → Type 0
 Rises [] = Unit {0}
 Rises (x ∷ xs) = Above x xs
-
-pub above-rises : (p : ℕ) (xs : List ℕ) → Above p xs → Rises xs
-above-rises p [] a = tt
-above-rises p (x ∷ xs) a = a .1

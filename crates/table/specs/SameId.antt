@@ -5,7 +5,8 @@ use mathlib.Core.Bool.{cond}
 use mathlib.Core.List.{[], _∷_}
 use lib.Dec.{eqb}
 use borrow.Author.Tests.{eq-eqb}
-use Rattle.table.specs.Tables.{Found, absent, here, Table, find, adjust, insert, fmap, Is, is-true, is-false, decide}
+use Rattle.table.specs.Tables.{Found, absent, here, Table, find, adjust, insert, fmap}
+use Rattle.table.specs.Deciding.{Is, is-true, is-false, decide}
 use Rattle.table.specs.TableLaws.{find-adjust, find-insert, adjust-absent, adjust-to}
 
 module _ {A : Type 0} where

@@ -10,7 +10,7 @@ use borrow.Author.Tests.{le-leb, lt-leb, eq-eqb, ne-eqb, leb-true, leb-false, eq
 use Rattle.table.specs.declared.Found.{Found}
 use Rattle.table.specs.declared.Found.the-variants.{At, Absent}
 use Rattle.table.specs.Find.{findFrom, findIn}
-use Rattle.table.specs.Tables.{Is, is-true, is-false, decide}
+use Rattle.table.specs.Deciding.{Is, is-true, is-false, decide}
 
 -- `id` stands at k, and what is before it is below
 pub record Stands (xs : List ℕ) (id k : ℕ) : Type 0 where

@@ -9,7 +9,8 @@ use lib.Dec.{eqb}
 use borrow.Author.Tests.{eq-eqb, ne-eqb, le-leb, lt-leb}
 use Rattle.table.specs.Tables.{absent, here, Table, find, adjust, insert, keys, held}
 use Rattle.table.specs.Shift.{insertAt}
-use Rattle.table.specs.Rising.{Above, Rises, above-rises}
+use Rattle.table.specs.Rising.{Above, Rises}
+use Rattle.table.specs.RisingLaws.{above-rises}
 use Rattle.table.specs.Padded.{padded, push}
 use Rattle.table.specs.Seek.{Stands, Place, stands-tail, place-tail}
 

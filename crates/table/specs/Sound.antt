@@ -5,7 +5,8 @@ use Prim.Native.Nat.{ℕ, _<_}
 use native.Mathlib.Omega.{arith}
 use lib.Dec.{leb, eqb}
 use borrow.Author.Tests.{leb-true, leb-false, eqb-false}
-use Rattle.table.specs.Tables.{absent, here, Table, find, adjust, insert, keys, Is, is-true, is-false, decide}
+use Rattle.table.specs.Tables.{absent, here, Table, find, adjust, insert, keys}
+use Rattle.table.specs.Deciding.{Is, is-true, is-false, decide}
 use Rattle.table.specs.TableLaws.{keys-adjust}
 use Rattle.table.specs.Rising.{Above, Rises}
 

@@ -6,7 +6,8 @@ use Prim.Native.Nat.{ℕ, _+_, _*_}
 use native.Mathlib.Omega.{arith}
 use lib.Dec.{eqb}
 use borrow.Author.Tests.{eqb-true, eqb-false}
-use Rattle.table.specs.Tables.{hit, Is, is-true, is-false, decide}
+use Rattle.table.specs.Tables.{hit}
+use Rattle.table.specs.Deciding.{Is, is-true, is-false, decide}
 
 unfoldable pub over : (ℕ → ℕ) → List ℕ → ℕ
 over f [] = 0

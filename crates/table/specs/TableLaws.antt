@@ -7,7 +7,8 @@ use native.Mathlib.Omega.{arith}
 use lib.Dec.{eqb, leb}
 use lib.ListN.{length}
 use borrow.Author.Tests.{eqb-true, eqb-false}
-use Rattle.table.specs.Tables.{Found, absent, here, Table, find, adjust, insert, keys, fmap, Is, is-true, is-false, decide}
+use Rattle.table.specs.Tables.{Found, absent, here, Table, find, adjust, insert, keys, fmap}
+use Rattle.table.specs.Deciding.{Is, is-true, is-false, decide}
 use Rattle.table.specs.Rows.{fmap-cond}
 
 module _ {A : Type 0} where

@@ -1,5 +1,5 @@
 -- Tables of rows by id: what is found, adjusted, let in and summed. Over any row type.
-use mathlib.Core.Path.{_≡_, refl}
+use mathlib.Core.Path.{_≡_}
 use mathlib.Core.Bool.{Bool, true, false, cond, not}
 use mathlib.Core.List.{List, [], _∷_}
 use Prim.Native.Nat.{ℕ, _+_, _<_}
@@ -77,12 +77,3 @@ module _ {A : Type 0} where
 -- x where i and a are one id, and 0 elsewhere
 unfoldable pub hit : ℕ → ℕ → ℕ → ℕ
 hit i a x = cond (eqb i a) x 0
-
--- ── For proofs: a Boolean with the equation that says what it is ──
-pub data Is (b : Bool) : Type 0 where
-  is-true : b ≡ true → Is b
-  is-false : b ≡ false → Is b
-
-pub decide : (b : Bool) → Is b
-decide true = is-true refl
-decide false = is-false refl

@@ -7,30 +7,30 @@ use mathlib.Core.List.{List, [], _∷_}
 use lib.ListN.{length, getD}
 use lib.Dec.{ltb, leb, eqb}
 use borrow.Author.Tests.{lt-ltb, le-ltb, le-leb, lt-leb, eq-eqb, ne-eqb, ltb-true, ltb-false, leb-true, eqb-true}
-use Rattle.table.specs.All.{allBelow, all-at, all-make, both-true}
+use Rattle.table.specs.All.{all-at, all-make, both-true}
+use Rattle.table.specs.Test.{allBelow, above, idTest, idsTest, rowTest, rowsTest, byUse}
 use Rattle.table.specs.Rising.{Above, Rises}
 use Rattle.table.specs.Padded.{pad-rest}
 use Rattle.table.specs.Tables.{key, held, keys}
 use Rattle.table.specs.Shelf.{tableOf, Shelf}
 use Rattle.table.specs.ShelfBack.{ids-back, rows-back, length-table}
 use Rattle.table.specs.Sound.{All}
-use Rattle.table.specs.Test.{either, above, idTest, idsTest, rowTest, rowsTest}
 
 or-false : (b : Bool) → b || false ≡ true → b ≡ true
 or-false true e = refl
 or-false false e = e
 
 module _ (n i : ℕ) (a b : Bool) where
-  pub used : either n i a b ≡ true → i < n → a ≡ true
+  pub used : byUse n i a b ≡ true → i < n → a ≡ true
   used e h = or-false a (simp (lt-ltb i n h, lt-leb n i h) at e)
 
-  pub free : either n i a b ≡ true → n ≤ i → b ≡ true
+  pub free : byUse n i a b ≡ true → n ≤ i → b ≡ true
   free e h = simp (le-ltb i n h, le-leb n i h) at e
 
-  pub make : (i < n → a ≡ true) → (n ≤ i → b ≡ true) → either n i a b ≡ true
+  pub make : (i < n → a ≡ true) → (n ≤ i → b ≡ true) → byUse n i a b ≡ true
   make f g = go (ltb i n) refl
     where
-      go : (t : Bool) → ltb i n ≡ t → either n i a b ≡ true
+      go : (t : Bool) → ltb i n ≡ t → byUse n i a b ≡ true
       go true q = rw (q, f (ltb-true i n q))
       go false q = rw (q, le-leb n i (ltb-false i n q), g (ltb-false i n q))
 

@@ -2,7 +2,8 @@
 use Prim.Native.Nat.{ℕ}
 use mathlib.Core.Path.{_≡_, refl, sym, ap, _∙_}
 use mathlib.Core.Bool.{Bool, true, false, cond, not, _&&_}
-use Rattle.table.specs.Tables.{Found, absent, here, Table, find, adjust, insert, keys, has, fmap, Room, Is, is-true, is-false, decide}
+use Rattle.table.specs.Tables.{Found, absent, here, Table, find, adjust, insert, keys, has, fmap, Room}
+use Rattle.table.specs.Deciding.{Is, is-true, is-false, decide}
 use Rattle.table.specs.TableLaws.{find-insert, adjust-absent}
 use Rattle.table.specs.Rising.{Rises}
 use Rattle.table.specs.SameId.{find-in}

@@ -3,9 +3,10 @@ use native.Mathlib.Omega.{arith}
 use mathlib.Core.Path.{_≡_, sym, ap, subst}
 use lib.ListN.{length, getD, length-map}
 use borrow.Author.Needs.{needs}
-use Rattle.table.specs.Columns.{any-default, Level, level, join-at}
+use Rattle.table.specs.Columns.{any-default, level, join-at}
+use Rattle.table.specs.Join.{Level}
 use Rattle.table.specs.All.{Checked, check-start, check-turn, check-done, both-same, below-on}
-use Rattle.table.specs.Test.{either, rowTest}
+use Rattle.table.specs.Test.{rowTest, byUse}
 use Rattle.negotiation.specs.Rounds.{roundSlots, noNegotiation}
 use Rattle.negotiation.specs.Whole.{Whole}
 use Rattle.offer.specs.Offer.{noDeal, dealSound, dealZero}
@@ -73,7 +74,7 @@ loop-again c =
     let i = c .before .before .before .before .before .before .loop .i in
     let l = c .before .before .before .before .before .loop-test .taken in
     let e = join-at dealOf _ _ _ (even (c .before .before .before .before .before .before .before .before .before .before)) i (omega (arith, rows-long (c .before .before .before .before .before .before .before .before .before .before))) noDeal _ _ _ in (
-      check-turn (c .before .before .before .before .before .before .loop .inv .0) l (rw (c .before .sound .ensures, c .zero .ensures .0) (sym (ap (λ r. either (c .before .before .before .before .before .before .before .before .before .before .args .t1 .count) i (dealSound r) (dealZero r)) e))),
+      check-turn (c .before .before .before .before .before .before .loop .inv .0) l (rw (c .before .sound .ensures, c .zero .ensures .0) (sym (ap (λ r. byUse (c .before .before .before .before .before .before .before .before .before .before .args .t1 .count) i (dealSound r) (dealZero r)) e))),
       below-on (c .before .before .before .before .before .before .loop .inv .1) (subst (λ n. Whole roundSlots n) (any-default (c .before .before .before .before .before .before .before .before .before .before .args .t1 .negotiations) i _ noNegotiation (omega (arith, negotiations-long (c .before .before .before .before .before .before .before .before .before .before)))) (c .zero .ensures .1)),
     )
 
