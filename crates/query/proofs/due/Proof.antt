@@ -8,21 +8,9 @@ use borrow.Author.Needs.{needs}
 use Rattle.query.proofs.due.Statement.{statement}
 use Rattle.query.proofs.due.Tie as tie
 
-schedule-zero-requires : tie.Need-schedule-zero-requires
-schedule-zero-requires c κs = search needs
-
 returns : tie.Need-returns
 unfolding dueIn
 returns c = on _ (sym (c .before .schedule-zero .ensures) ∙ c .if1 .taken) refl
-
-due-requires : tie.Need-due-requires
-due-requires c κs = search needs
-
-enum-known-n : tie.Need-enum-known-n
-enum-known-n c = search needs
-
-enum-told : tie.Need-enum-told
-enum-told c = search needs
 
 returns-2 : tie.Need-returns-2
 unfolding dueIn
@@ -38,10 +26,10 @@ pub due-spec : {M : Type 1} → statement M
 due-spec =
     tie.close
     (tie.spec
-    schedule-zero-requires
+    (λ c κs. search needs)
     returns
-    due-requires
-    enum-known-n
-    enum-told
+    (λ c κs. search needs)
+    (λ c. search needs)
+    (λ c. search needs)
     returns-2
     returns-3)

@@ -11,27 +11,6 @@ use borrow.Author.Needs.{needs}
 use Rattle.replay.proofs.walk.Statement.{statement}
 use Rattle.replay.proofs.walk.Tie as tie
 
-header-requires : tie.Need-header-requires
-header-requires c κs = search needs
-
-enum-known-h : tie.Need-enum-known-h
-enum-known-h c = search needs
-
-enum-told : tie.Need-enum-told
-enum-told c = search needs
-
-put-mark-requires : tie.Need-put-mark-requires
-put-mark-requires c κs = search needs
-
-fresh-requires : tie.Need-fresh-requires
-fresh-requires c κs = search needs
-
-finish-requires : tie.Need-finish-requires
-finish-requires c κs = search needs
-
-same-length : tie.Need-same-length
-same-length c = search needs
-
 returns : tie.Need-returns
 unfolding listingOf
 returns c = let e = sym (c .before .before .before .before .before .before .before .before .before .before .before .header .ensures) ∙ ap opening (c .before .before .before .before .before .before .before .before .before .enum-told .given .1) in (c .before .before .finish .ensures .0 ∙ play-bare _ e (fresh (c .before .before .before .before .fresh .ensures)), bare _ e (fresh (c .before .before .before .before .fresh .ensures)) (c .before .before .before .before .before .before .before .put-mark .ensures) (c .before .before .finish .ensures .1))
@@ -39,9 +18,6 @@ returns c = let e = sym (c .before .before .before .before .before .before .befo
 records-requires : tie.Need-records-requires
 unfolding listingOf
 records-requires c κs = opened _ (sym (c .before .before .before .before .header .ensures) ∙ ap opening (c .before .before .h .given .1))
-
-same-length-2 : tie.Need-same-length-2
-same-length-2 c = search needs
 
 returns-2 : tie.Need-returns-2
 unfolding listingOf
@@ -51,14 +27,14 @@ pub walk-spec : {M : Type 1} → statement M
 walk-spec =
     tie.close
     (tie.spec
-    header-requires
-    enum-known-h
-    enum-told
-    put-mark-requires
-    fresh-requires
-    finish-requires
-    same-length
+    (λ c κs. search needs)
+    (λ c. search needs)
+    (λ c. search needs)
+    (λ c κs. search needs)
+    (λ c κs. search needs)
+    (λ c κs. search needs)
+    (λ c. search needs)
     returns
     records-requires
-    same-length-2
+    (λ c. search needs)
     returns-2)

@@ -8,27 +8,6 @@ use borrow.Author.Needs.{needs}
 use Rattle.solgaverna.proofs.counted.Statement.{statement}
 use Rattle.solgaverna.proofs.counted.Tie as tie
 
-enum-known-r : tie.Need-enum-known-r
-enum-known-r c = search needs
-
-enum-told : tie.Need-enum-told
-enum-told c = search needs
-
-refused-requires : tie.Need-refused-requires
-refused-requires c κs = search needs
-
-enum-told-2 : tie.Need-enum-told-2
-enum-told-2 c = search needs
-
-refused-requires-2 : tie.Need-refused-requires-2
-refused-requires-2 c κs = search needs
-
-enum-told-3 : tie.Need-enum-told-3
-enum-told-3 c = search needs
-
-refused-requires-3 : tie.Need-refused-requires-3
-refused-requires-3 c κs = search needs
-
 returns : tie.Need-returns
 unfolding pick
 returns c = sym (ap (λ (z : Listed). coded (listedSays z .0) (getD (listedSays z .1) 0 0)) (c .before .r .given .1))
@@ -49,13 +28,13 @@ pub counted-spec : {M : Type 1} → statement M
 counted-spec =
     tie.close
     (tie.spec
-    enum-known-r
-    enum-told
-    refused-requires
-    enum-told-2
-    refused-requires-2
-    enum-told-3
-    refused-requires-3
+    (λ c. search needs)
+    (λ c. search needs)
+    (λ c κs. search needs)
+    (λ c. search needs)
+    (λ c κs. search needs)
+    (λ c. search needs)
+    (λ c κs. search needs)
     returns
     returns-2
     returns-3

@@ -6,32 +6,17 @@ use borrow.Author.Needs.{needs}
 use Rattle.solgaverna.proofs.put_four.Statement.{statement}
 use Rattle.solgaverna.proofs.put_four.Tie as tie
 
-refused-requires : tie.Need-refused-requires
-refused-requires c κs = search needs
-
 returns : tie.Need-returns
 returns c = four-refused (c .before .before .before .args .x) (c .before .before .before .args .out .now) (c .refused .ensures) (not-true _ (c .before .if1 .taken))
 
-refused-requires-2 : tie.Need-refused-requires-2
-refused-requires-2 c κs = search needs
-
 returns-2 : tie.Need-returns-2
 returns-2 c = four-short (c .before .before .before .before .args .x) (c .before .before .before .before .args .out .now) (c .refused2 .ensures) (not-false _ (c .before .before .if1 .left)) (lt-ltb _ _ (c .before .if2 .taken))
-
-slice-write-out : tie.Need-slice-write-out
-slice-write-out c = search needs
 
 slice-write-out-2 : tie.Need-slice-write-out-2
 slice-write-out-2 c = simp length-set (omega (arith, c .if2 .left))
 
 slice-write-out-3 : tie.Need-slice-write-out-3
 slice-write-out-3 c = simp length-set (omega (arith, c .if2 .left))
-
-slice-write-out-4 : tie.Need-slice-write-out-4
-slice-write-out-4 c = search needs
-
-same-length : tie.Need-same-length
-same-length c = search needs
 
 returns-3 : tie.Need-returns-3
 returns-3 c = four-fits (c .before .before .before .args .x) (c .before .before .before .args .out .now) (not-false _ (c .before .if1 .left)) (le-ltb _ _ (c .if2 .left))
@@ -40,13 +25,13 @@ pub put-four-spec : {M : Type 1} → statement M
 put-four-spec =
     tie.close
     (tie.spec
-    refused-requires
+    (λ c κs. search needs)
     returns
-    refused-requires-2
+    (λ c κs. search needs)
     returns-2
-    slice-write-out
+    (λ c. search needs)
     slice-write-out-2
     slice-write-out-3
-    slice-write-out-4
-    same-length
+    (λ c. search needs)
+    (λ c. search needs)
     returns-3)

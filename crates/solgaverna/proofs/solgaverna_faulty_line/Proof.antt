@@ -6,21 +6,6 @@ use borrow.Author.Needs.{needs}
 use Rattle.solgaverna.proofs.solgaverna_faulty_line.Statement.{statement}
 use Rattle.solgaverna.proofs.solgaverna_faulty_line.Tie as tie
 
-slice-aggregate-to-journal : tie.Need-slice-aggregate-to-journal
-slice-aggregate-to-journal c = search needs
-
-to-journal-requires : tie.Need-to-journal-requires
-to-journal-requires c κs = search needs
-
-enum-told : tie.Need-enum-told
-enum-told c = search needs
-
-enum-known-r : tie.Need-enum-known-r
-enum-known-r c = search needs
-
-enum-told-2 : tie.Need-enum-told-2
-enum-told-2 c = search needs
-
 returns : tie.Need-returns
 returns c = no-fault _ _ (λ z. omega arith) (sym (ap answered (c .enum-told .given .1)) ∙ c .before .before .before .to-journal .ensures .0)
 
@@ -34,11 +19,11 @@ pub solgaverna-faulty-line-spec : {M : Type 1} → statement M
 solgaverna-faulty-line-spec =
     tie.close
     (tie.spec
-    slice-aggregate-to-journal
-    to-journal-requires
-    enum-told
-    enum-known-r
-    enum-told-2
+    (λ c. search needs)
+    (λ c κs. search needs)
+    (λ c. search needs)
+    (λ c. search needs)
+    (λ c. search needs)
     returns
     returns-2
     returns-3)

@@ -6,27 +6,9 @@ use borrow.Author.Needs.{needs}
 use Rattle.solgaverna.proofs.solgaverna_listing.Statement.{statement}
 use Rattle.solgaverna.proofs.solgaverna_listing.Tie as tie
 
-listing-requires : tie.Need-listing-requires
-listing-requires c κs = search needs
-
-enum-known-r : tie.Need-enum-known-r
-enum-known-r c = search needs
-
-enum-told : tie.Need-enum-told
-enum-told c = search needs
-
-refused-requires : tie.Need-refused-requires
-refused-requires c κs = search needs
-
-same-length : tie.Need-same-length
-same-length c = search needs
-
 returns : tie.Need-returns
 unfolding pick
 returns c = (sym (ap (λ z. coded (listingSays z .0) (listingSays z .1)) (c .before .r .given .1)) ∙ ap (λ z. coded (z .0) (z .1)) (c .before .before .before .before .before .listing .ensures .0), c .before .before .before .before .before .listing .ensures .1)
-
-same-length-2 : tie.Need-same-length-2
-same-length-2 c = search needs
 
 returns-2 : tie.Need-returns-2
 unfolding pick
@@ -36,11 +18,11 @@ pub solgaverna-listing-spec : {M : Type 1} → statement M
 solgaverna-listing-spec =
     tie.close
     (tie.spec
-    listing-requires
-    enum-known-r
-    enum-told
-    refused-requires
-    same-length
+    (λ c κs. search needs)
+    (λ c. search needs)
+    (λ c. search needs)
+    (λ c κs. search needs)
+    (λ c. search needs)
     returns
-    same-length-2
+    (λ c. search needs)
     returns-2)

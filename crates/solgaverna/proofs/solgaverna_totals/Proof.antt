@@ -6,23 +6,8 @@ use borrow.Author.Needs.{needs}
 use Rattle.solgaverna.proofs.solgaverna_totals.Statement.{statement}
 use Rattle.solgaverna.proofs.solgaverna_totals.Tie as tie
 
-replay-requires : tie.Need-replay-requires
-replay-requires c κs = search needs
-
-refused-requires : tie.Need-refused-requires
-refused-requires c κs = search needs
-
 returns : tie.Need-returns
 returns c = malformed (c .before .before .before .before .before .args .journal .now) (c .before .before .before .before .before .args .out .now) _ (c .before .before .replay .ensures) (not-true _ (c .before .if1 .taken)) (c .refused .ensures)
-
-totals-of-requires : tie.Need-totals-of-requires
-totals-of-requires c κs = search needs
-
-put-four-requires : tie.Need-put-four-requires
-put-four-requires c κs = search needs
-
-same-length : tie.Need-same-length
-same-length c = search needs
 
 returns-2 : tie.Need-returns-2
 returns-2 c = whole (c .before .before .before .before .before .before .before .before .before .before .args .journal .now) (c .before .before .before .before .before .before .before .before .before .before .args .out .now) _ (c .before .before .before .before .before .before .before .replay .ensures) (not-false _ (c .before .before .before .before .before .before .if1 .left)) (c .before .before .put-four .ensures ∙ ap (λ r. fourOver r (c .before .before .before .before .before .before .before .before .before .before .args .out .now)) (c .before .before .before .totals-of .ensures))
@@ -31,10 +16,10 @@ pub solgaverna-totals-spec : {M : Type 1} → statement M
 solgaverna-totals-spec =
     tie.close
     (tie.spec
-    replay-requires
-    refused-requires
+    (λ c κs. search needs)
+    (λ c κs. search needs)
     returns
-    totals-of-requires
-    put-four-requires
-    same-length
+    (λ c κs. search needs)
+    (λ c κs. search needs)
+    (λ c. search needs)
     returns-2)

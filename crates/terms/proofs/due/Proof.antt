@@ -12,9 +12,6 @@ use borrow.Author.Needs.{needs}
 use Rattle.terms.proofs.due.Statement.{statement}
 use Rattle.terms.proofs.due.Tie as tie
 
-due-arguments-requires : tie.Need-due-arguments-requires
-due-arguments-requires c κs = search needs
-
 -- past the first test the arguments are in range
 ok : (s : tie.Else1) → dueArguments (s .before .before .args .s) (s .before .before .args .status) (s .before .before .args .repaid) ≡ true
 ok s = simp (toZ-ofZ (s .before .before .fits .repaid)) at (sym (s .before .due-arguments .ensures) ∙ not-false _ (s .if1 .left))
@@ -38,20 +35,8 @@ returns-4 : tie.Need-returns-4
 unfolding dueOf numberOf
 returns-4 c = on _ (ok (c .before .before .before)) (ap (λ (n : ℕ). (0, n)) (off _ (ne-eqb _ 4 (c .before .before .if2 .left)) (off _ (ne-eqb _ 5 (c .before .if3 .left)) (on _ (lt-ltb _ _ (c .if4 .taken)) refl))))
 
-seconds-requires : tie.Need-seconds-requires
-seconds-requires c κs = search needs
-
-cast-elapsed : tie.Need-cast-elapsed
-cast-elapsed c = search needs
-
 elapsed-requires : tie.Need-elapsed-requires
 elapsed-requires c κs = rw (c .seconds .ensures) (seconds-pos _ (good (c .before .before .before .before) .code))
-
-magnitude-requires : tie.Need-magnitude-requires
-magnitude-requires c κs = search needs
-
-magnitude-requires-2 : tie.Need-magnitude-requires-2
-magnitude-requires-2 c κs = search needs
 
 abbrev start : tie.After-magnitude2 → tie.Start
 start c = c .before .before .before .before .before .before .before .before .before .before
@@ -77,15 +62,15 @@ pub due-spec : {M : Type 1} → statement M
 due-spec =
     tie.close
     (tie.spec
-    due-arguments-requires
+    (λ c κs. search needs)
     returns
     returns-2
     returns-3
     returns-4
-    seconds-requires
-    cast-elapsed
+    (λ c κs. search needs)
+    (λ c. search needs)
     elapsed-requires
-    magnitude-requires
-    magnitude-requires-2
+    (λ c κs. search needs)
+    (λ c κs. search needs)
     next-requires
     returns-5)

@@ -18,9 +18,6 @@ use borrow.Author.Needs.{needs}
 use Rattle.terms.proofs.installment.Statement.{statement}
 use Rattle.terms.proofs.installment.Tie as tie
 
-terms-valid-requires : tie.Need-terms-valid-requires
-terms-valid-requires c κs = search needs
-
 -- past the tests the terms and the count are in range
 terms-ok : (s : tie.Else1) → termsOk (s .before .before .args .t) ≡ true
 terms-ok s = sym (s .before .terms-valid .ensures) ∙ not-false _ (s .if1 .left)
@@ -32,15 +29,9 @@ returns : tie.Need-returns
 unfolding installmentOf
 returns c = off _ (ap (λ (b : Bool). b && countOk (c .before .before .args .count)) (sym (c .before .terms-valid .ensures) ∙ not-true _ (c .if1 .taken))) refl
 
-count-valid-requires : tie.Need-count-valid-requires
-count-valid-requires c κs = search needs
-
 returns-2 : tie.Need-returns-2
 unfolding installmentOf
 returns-2 c = off _ (ap (λ (b : Bool). b && countOk (c .before .before .before .before .args .count)) (terms-ok (c .before .before)) ∙ (sym (c .before .count-valid .ensures) ∙ not-true _ (c .if2 .taken))) refl
-
-magnitude-requires : tie.Need-magnitude-requires
-magnitude-requires c κs = search needs
 
 abbrev start : tie.After-magnitude → tie.Start
 start c = c .before .before .before .before .before .before
@@ -61,9 +52,6 @@ count-pos c = leb-true 1 (start c .args .count) (both (leb 1 (start c .args .cou
 
 div-part : tie.Need-div-part
 div-part c = count-pos c
-
-cast-whole : tie.Need-cast-whole
-cast-whole c = search needs
 
 mul-whole : tie.Need-mul-whole
 mul-whole c = simp (amount-is c) (record { fits = omega (arith, product-le (start c .args .t) (start c .args .count) (in-range c)) })
@@ -86,13 +74,13 @@ pub installment-spec : {M : Type 1} → statement M
 installment-spec =
     tie.close
     (tie.spec
-    terms-valid-requires
+    (λ c κs. search needs)
     returns
-    count-valid-requires
+    (λ c κs. search needs)
     returns-2
-    magnitude-requires
+    (λ c κs. search needs)
     div-part
-    cast-whole
+    (λ c. search needs)
     mul-whole
     add-whole
     cast-t11

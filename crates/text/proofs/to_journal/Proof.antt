@@ -6,26 +6,11 @@ use borrow.Author.Needs.{needs}
 use Rattle.text.proofs.to_journal.Statement.{statement}
 use Rattle.text.proofs.to_journal.Tie as tie
 
-tell-lines-requires : tie.Need-tell-lines-requires
-tell-lines-requires c κs = search needs
-
-same-length : tie.Need-same-length
-same-length c = search needs
-
 returns : tie.Need-returns
 returns c = let t = c .before .before .before .tell-lines .ensures in at-fault (t .0) (journal-faulty _ (sym (t .1 .0) ∙ c .if1 .taken) ∙ ap faulty (sym (t .1 .1)))
 
-same-length-2 : tie.Need-same-length-2
-same-length-2 c = search needs
-
 returns-2 : tie.Need-returns-2
 returns-2 c = let t = c .before .before .before .before .before .tell-lines .ensures in no-space (t .0) (journal-whole _ (sym (t .1 .0) ∙ c .before .before .if1 .left)) (c .if2 .taken)
-
-tell-lines-requires-2 : tie.Need-tell-lines-requires-2
-tell-lines-requires-2 c κs = search needs
-
-same-length-3 : tie.Need-same-length-3
-same-length-3 c = search needs
 
 returns-3 : tie.Need-returns-3
 returns-3 c = let t = c .before .before .before .before .before .before .before .before .before .before .tell-lines .ensures in in-space (t .0) (journal-whole _ (sym (t .1 .0) ∙ c .before .before .before .before .before .before .before .if1 .left)) (c .before .before .before .before .before .if2 .left) (c .before .before .before .tell-lines2 .ensures .0)
@@ -34,11 +19,11 @@ pub to-journal-spec : {M : Type 1} → statement M
 to-journal-spec =
     tie.close
     (tie.spec
-    tell-lines-requires
-    same-length
+    (λ c κs. search needs)
+    (λ c. search needs)
     returns
-    same-length-2
+    (λ c. search needs)
     returns-2
-    tell-lines-requires-2
-    same-length-3
+    (λ c κs. search needs)
+    (λ c. search needs)
     returns-3)

@@ -6,21 +6,6 @@ use borrow.Author.Needs.{needs}
 use Rattle.book.proofs.Book.sound.Statement.{statement}
 use Rattle.book.proofs.Book.sound.Tie as tie
 
-sound-requires : tie.Need-sound-requires
-sound-requires c κs = search needs
-
-sound-requires-2 : tie.Need-sound-requires-2
-sound-requires-2 c κs = search needs
-
-sound-requires-3 : tie.Need-sound-requires-3
-sound-requires-3 c κs = search needs
-
-sound-requires-4 : tie.Need-sound-requires-4
-sound-requires-4 c κs = search needs
-
-sound-requires-5 : tie.Need-sound-requires-5
-sound-requires-5 c κs = search needs
-
 returns : tie.Need-returns
 unfolding bookTest
 returns c =
@@ -31,9 +16,9 @@ pub sound-spec : {M : Type 1} → statement M
 sound-spec =
     tie.close
     (tie.spec
-    sound-requires
-    sound-requires-2
-    sound-requires-3
-    sound-requires-4
-    sound-requires-5
+    (λ c κs. search needs)
+    (λ c κs. search needs)
+    (λ c κs. search needs)
+    (λ c κs. search needs)
+    (λ c κs. search needs)
     returns)

@@ -4,21 +4,6 @@ use borrow.Author.Needs.{needs}
 use Rattle.command.proofs.Other.key.Statement.{statement}
 use Rattle.command.proofs.Other.key.Tie as tie
 
-enum-told : tie.Need-enum-told
-enum-told c = search needs
-
-enum-known-self : tie.Need-enum-known-self
-enum-known-self c = search needs
-
-enum-told-2 : tie.Need-enum-told-2
-enum-told-2 c = search needs
-
-enum-told-3 : tie.Need-enum-told-3
-enum-told-3 c = search needs
-
-returns : tie.Need-returns
-returns c = search needs
-
 returns-2 : tie.Need-returns-2
 returns-2 c = sym (ap (λ z. otherKey z (c .before .before .before .args .lender) (c .before .before .before .args .originator)) (c .before .self .given .1))
 
@@ -32,11 +17,11 @@ pub key-spec : {M : Type 1} → statement M
 key-spec =
     tie.close
     (tie.spec
-    enum-told
-    enum-known-self
-    enum-told-2
-    enum-told-3
-    returns
+    (λ c. search needs)
+    (λ c. search needs)
+    (λ c. search needs)
+    (λ c. search needs)
+    (λ c. search needs)
     returns-2
     returns-3
     returns-4)

@@ -12,17 +12,8 @@ use Rattle.lists.specs.Listing.{told, listing, offersOf}
 use Rattle.lists.proofs.OfferRows.list.Statement.{statement}
 use Rattle.lists.proofs.OfferRows.list.Tie as tie
 
-is-known-requires : tie.Need-is-known-requires
-is-known-requires c κs = search needs
-
 returns : tie.Need-returns
 returns c = refuses told invalidInput _ _ _ (ap not (sym (c .before .is-known .ensures)) ∙ c .if1 .taken)
-
-count-of-requires : tie.Need-count-of-requires
-count-of-requires c κs = search needs
-
-mul-if2 : tie.Need-mul-if2
-mul-if2 c = search needs
 
 returns-2 : tie.Need-returns-2
 returns-2 c =
@@ -32,9 +23,6 @@ returns-2 c =
 
 write-requires : tie.Need-write-requires
 write-requires c κs = search needs
-
-same-length : tie.Need-same-length
-same-length c = search needs
 
 -- the answer and the buffer
 both : {n n′ : ℕ} {l l′ : List ℕ} → n ≡ n′ → l ≡ l′ → _≡_ {A = List ℕ × List ℕ} (n ∷ [], l) (n′ ∷ [], l′)
@@ -52,11 +40,11 @@ pub list-spec : {M : Type 1} → statement M
 list-spec =
     tie.close
     (tie.spec
-    is-known-requires
+    (λ c κs. search needs)
     returns
-    count-of-requires
-    mul-if2
+    (λ c κs. search needs)
+    (λ c. search needs)
     returns-2
     write-requires
-    same-length
+    (λ c. search needs)
     returns-3)

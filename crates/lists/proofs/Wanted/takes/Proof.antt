@@ -10,27 +10,6 @@ use Rattle.lists.proofs.Wanted.takes.Tie as tie
 by-case : (place : ℕ) (o : Offer) {v w : Wanted} → v ≡ w → wants w place o ≡ wants v place o
 by-case place o e = sym (ap (λ x. wants x place o) e)
 
-enum-known-self : tie.Need-enum-known-self
-enum-known-self c = search needs
-
-enum-known-self-2 : tie.Need-enum-known-self-2
-enum-known-self-2 c = search needs
-
-enum-known-self-3 : tie.Need-enum-known-self-3
-enum-known-self-3 c = search needs
-
-enum-known-self-4 : tie.Need-enum-known-self-4
-enum-known-self-4 c = search needs
-
-enum-told : tie.Need-enum-told
-enum-told c = search needs
-
-enum-known-self-5 : tie.Need-enum-known-self-5
-enum-known-self-5 c = search needs
-
-in-page-requires : tie.Need-in-page-requires
-in-page-requires c κs = search needs
-
 returns : tie.Need-returns
 unfolding wants
 returns c = by-case (c .before .before .before .args .place) (c .before .before .before .args .o) (c .before .self .given .1)
@@ -59,13 +38,13 @@ pub takes-spec : {M : Type 1} → statement M
 takes-spec =
     tie.close
     (tie.spec
-    enum-known-self
-    enum-known-self-2
-    enum-known-self-3
-    enum-known-self-4
-    enum-told
-    enum-known-self-5
-    in-page-requires
+    (λ c. search needs)
+    (λ c. search needs)
+    (λ c. search needs)
+    (λ c. search needs)
+    (λ c. search needs)
+    (λ c. search needs)
+    (λ c κs. search needs)
     returns
     returns-2
     returns-3

@@ -45,29 +45,14 @@ there c o m = λ e. c .with-amendment .ensures (c .before .before .before .befor
 flag : (c : tie.After-agrees) → (o : ℕ) (m : Model) → c .before .before .before .before .before .before .before .before .before .before .before .before .before .before .before .before .args .self ≡ viewOf (dealKeys (Id (c .before .before .before .before .before .before .before .before .before .before .before .before .before .before .before .before .args .caller)) (Id (originatorOf m o)) m o) m → c .agrees .result ≡ agreesOf roundSlots (offerIn m o .row .negotiation) (c .before .before .before .before .before .before .before .before .before .before .before .before .before .before .before .before .args .t)
 flag c o m = λ e. simp e at (c .agrees .ensures)
 
-amend-refusal-requires : tie.Need-amend-refusal-requires
-amend-refusal-requires c κs = search needs
-
 returns : tie.Need-returns
 returns c = λ o m e. same (dealKeys (Id (c .before .before .before .before .before .before .args .caller)) (Id (originatorOf m o)) m o) m e _ ∙ refused (turnOf (dealKeys (Id (c .before .before .before .before .before .before .args .caller)) (Id (originatorOf m o)) m o)) _ _ (stops ((amendChecks (offerIn m o) (c .before .before .before .before .before .before .args .now) (c .before .before .before .before .before .before .args .caller) (accountIn m (c .before .before .before .before .before .before .args .caller) .row) (c .before .before .before .before .before .before .args .t) (c .before .before .before .before .before .before .args .round)) ++ (reofferOf (accountIn m (c .before .before .before .before .before .before .args .caller) .row) (termsIn m o) (c .before .before .before .before .before .before .args .t)) .checks) _ (stops (amendChecks (offerIn m o) (c .before .before .before .before .before .before .args .now) (c .before .before .before .before .before .before .args .caller) (accountIn m (c .before .before .before .before .before .before .args .caller) .row) (c .before .before .before .before .before .before .args .t) (c .before .before .before .before .before .before .args .round)) ((reofferOf (accountIn m (c .before .before .before .before .before .before .args .caller) .row) (termsIn m o) (c .before .before .before .before .before .before .args .t)) .checks) (number (c .before) o m e) (eqb-false _ _ (not-true _ (c .if1 .taken)))) (eqb-false _ _ (not-true _ (c .if1 .taken)))) (eqb-false _ _ (not-true _ (c .if1 .taken)))
-
-reoffer-requires : tie.Need-reoffer-requires
-reoffer-requires c κs = search needs
 
 returns-2 : tie.Need-returns-2
 returns-2 c = λ o m e. same (dealKeys (Id (c .before .before .before .before .before .before .before .before .before .before .before .before .args .caller)) (Id (originatorOf m o)) m o) m e _ ∙ refused (turnOf (dealKeys (Id (c .before .before .before .before .before .before .before .before .before .before .before .before .args .caller)) (Id (originatorOf m o)) m o)) _ _ (stops ((amendChecks (offerIn m o) (c .before .before .before .before .before .before .before .before .before .before .before .before .args .now) (c .before .before .before .before .before .before .before .before .before .before .before .before .args .caller) (accountIn m (c .before .before .before .before .before .before .before .before .before .before .before .before .args .caller) .row) (c .before .before .before .before .before .before .before .before .before .before .before .before .args .t) (c .before .before .before .before .before .before .before .before .before .before .before .before .args .round)) ++ (reofferOf (accountIn m (c .before .before .before .before .before .before .before .before .before .before .before .before .args .caller) .row) (termsIn m o) (c .before .before .before .before .before .before .before .before .before .before .before .before .args .t)) .checks) _ (goes (amendChecks (offerIn m o) (c .before .before .before .before .before .before .before .before .before .before .before .before .args .now) (c .before .before .before .before .before .before .before .before .before .before .before .before .args .caller) (accountIn m (c .before .before .before .before .before .before .before .before .before .before .before .before .args .caller) .row) (c .before .before .before .before .before .before .before .before .before .before .before .before .args .t) (c .before .before .before .before .before .before .before .before .before .before .before .before .args .round)) ((reofferOf (accountIn m (c .before .before .before .before .before .before .before .before .before .before .before .before .args .caller) .row) (termsIn m o) (c .before .before .before .before .before .before .before .before .before .before .before .before .args .t)) .checks) (sym (number (c .before .before .before .before .before .before .before) o m e) ∙ eqb-true _ _ (not-false _ (c .before .before .before .before .before .before .if1 .left))) (answer (c .before .before) o m e)) (eqb-false _ _ (not-true _ (c .if2 .taken)))) (eqb-false _ _ (not-true _ (c .if2 .taken)))
 
-with-amendment-requires : tie.Need-with-amendment-requires
-with-amendment-requires c κs = search needs
-
-agrees-requires : tie.Need-agrees-requires
-agrees-requires c κs = search needs
-
 returns-3 : tie.Need-returns-3
 returns-3 c = λ o m e. ap (λ b. record { answer = 0; near = b }) (there (c .before .before .before) o m e) ∙ then-accepted (turnOf (dealKeys (Id (c .before .before .before .before .before .before .before .before .before .before .before .before .before .before .before .before .before .args .caller)) (Id (originatorOf m o)) m o)) _ (record { checks = (amendChecks (offerIn m o) (c .before .before .before .before .before .before .before .before .before .before .before .before .before .before .before .before .before .args .now) (c .before .before .before .before .before .before .before .before .before .before .before .before .before .before .before .before .before .args .caller) (accountIn m (c .before .before .before .before .before .before .before .before .before .before .before .before .before .before .before .before .before .args .caller) .row) (c .before .before .before .before .before .before .before .before .before .before .before .before .before .before .before .before .before .args .t) (c .before .before .before .before .before .before .before .before .before .before .before .before .before .before .before .before .before .args .round)) ++ (reofferOf (accountIn m (c .before .before .before .before .before .before .before .before .before .before .before .before .before .before .before .before .before .args .caller) .row) (termsIn m o) (c .before .before .before .before .before .before .before .before .before .before .before .before .before .before .before .before .before .args .t)) .checks; done = amendedIn m (c .before .before .before .before .before .before .before .before .before .before .before .before .before .before .before .before .before .args .now) (c .before .before .before .before .before .before .before .before .before .before .before .before .before .before .before .before .before .args .caller) o (c .before .before .before .before .before .before .before .before .before .before .before .before .before .before .before .before .before .args .t) }) (agreeing (agreesOf roundSlots (offerIn m o .row .negotiation) (c .before .before .before .before .before .before .before .before .before .before .before .before .before .before .before .before .before .args .t)) (c .before .before .before .before .before .before .before .before .before .before .before .before .before .before .before .before .before .args .now) o) _ (agrees-off _ _ _ (sym (flag (c .before) o m e) ∙ not-true _ (c .if3 .taken))) (both (c .before .before .before) o m e) (sym none-left) refl
-
-agree-requires : tie.Need-agree-requires
-agree-requires c κs = search needs
 
 returns-4 : tie.Need-returns-4
 returns-4 c = λ o m e. let w = amendedIn m (c .before .before .before .before .before .before .before .before .before .before .before .before .before .before .before .before .before .before .args .now) (c .before .before .before .before .before .before .before .before .before .before .before .before .before .before .before .before .before .before .args .caller) o (c .before .before .before .before .before .before .before .before .before .before .before .before .before .before .before .before .before .before .args .t) in let k = amend-keys m (c .before .before .before .before .before .before .before .before .before .before .before .before .before .before .before .before .before .before .args .now) (c .before .before .before .before .before .before .before .before .before .before .before .before .before .before .before .before .before .before .args .caller) o (c .before .before .before .before .before .before .before .before .before .before .before .before .before .before .before .before .before .before .args .t) (c .before .before .before .before .before .before .before .before .before .before .before .before .before .before .before .before .before .before .args .round) (asked (c .before .before .before .before) o m e) ((reofferOf (accountIn m (c .before .before .before .before .before .before .before .before .before .before .before .before .before .before .before .before .before .before .args .caller) .row) (termsIn m o) (c .before .before .before .before .before .before .before .before .before .before .before .before .before .before .before .before .before .before .args .t)) .done) in turn-at m (sym k) (concluding (c .before .before .before .before .before .before .before .before .before .before .before .before .before .before .before .before .before .before .args .now) o w) (c .agree .ensures o m w (view-at m k e) (view-at w k (there (c .before .before .before .before) o m e))) ∙ then-answers (turnOf (dealKeys (Id (c .before .before .before .before .before .before .before .before .before .before .before .before .before .before .before .before .before .before .args .caller)) (Id (originatorOf m o)) m o)) _ (record { checks = (amendChecks (offerIn m o) (c .before .before .before .before .before .before .before .before .before .before .before .before .before .before .before .before .before .before .args .now) (c .before .before .before .before .before .before .before .before .before .before .before .before .before .before .before .before .before .before .args .caller) (accountIn m (c .before .before .before .before .before .before .before .before .before .before .before .before .before .before .before .before .before .before .args .caller) .row) (c .before .before .before .before .before .before .before .before .before .before .before .before .before .before .before .before .before .before .args .t) (c .before .before .before .before .before .before .before .before .before .before .before .before .before .before .before .before .before .before .args .round)) ++ (reofferOf (accountIn m (c .before .before .before .before .before .before .before .before .before .before .before .before .before .before .before .before .before .before .args .caller) .row) (termsIn m o) (c .before .before .before .before .before .before .before .before .before .before .before .before .before .before .before .before .before .before .args .t)) .checks; done = amendedIn m (c .before .before .before .before .before .before .before .before .before .before .before .before .before .before .before .before .before .before .args .now) (c .before .before .before .before .before .before .before .before .before .before .before .before .before .before .before .before .before .before .args .caller) o (c .before .before .before .before .before .before .before .before .before .before .before .before .before .before .before .before .before .before .args .t) }) (agreeing (agreesOf roundSlots (offerIn m o .row .negotiation) (c .before .before .before .before .before .before .before .before .before .before .before .before .before .before .before .before .before .before .args .t)) (c .before .before .before .before .before .before .before .before .before .before .before .before .before .before .before .before .before .before .args .now) o) _ (agrees-on _ _ _ (sym (flag (c .before .before) o m e) ∙ not-false _ (c .before .if3 .left))) (both (c .before .before .before .before) o m e)
@@ -76,12 +61,12 @@ pub amended-spec : {M : Type 1} → statement M
 amended-spec =
     tie.close
     (tie.spec
-    amend-refusal-requires
+    (λ c κs. search needs)
     returns
-    reoffer-requires
+    (λ c κs. search needs)
     returns-2
-    with-amendment-requires
-    agrees-requires
+    (λ c κs. search needs)
+    (λ c κs. search needs)
     returns-3
-    agree-requires
+    (λ c κs. search needs)
     returns-4)

@@ -17,21 +17,9 @@ use Rattle.near.proofs.Near.conclude.Tie as tie
 number : (c : tie.After-agreement-refusal) → (o : ℕ) (m : Model) → c .before .before .before .before .before .before .before .args .self ≡ viewOf (sidesOf (c .before .before .before .before .before .before .before .args .lends) m o) m → c .agreement-refusal .result ≡ first (agreementChecks (offerIn m o .row) (c .before .before .before .before .before .before .before .args .now) (paperOf m o) (accountIn m (lenderOf m o)) (accountIn m (originatorOf m o)))
 number c o m = λ e. simp (c .before .before .side .ensures, c .before .side2 .ensures, e, side-by (c .before .before .before .before .before .before .before .args .lends) (lenderOf m o) (originatorOf m o) (m .accounts) .0, side-by (c .before .before .before .before .before .before .before .args .lends) (lenderOf m o) (originatorOf m o) (m .accounts) .1) at (c .agreement-refusal .ensures)
 
-side-requires : tie.Need-side-requires
-side-requires c κs = search needs
-
-side-requires-2 : tie.Need-side-requires-2
-side-requires-2 c κs = search needs
-
-agreement-refusal-requires : tie.Need-agreement-refusal-requires
-agreement-refusal-requires c κs = search needs
-
 returns : tie.Need-returns
 unfolding concluding
 returns c = λ o m e. same (sidesOf (c .before .before .before .before .before .before .before .before .args .lends) m o) m e _ ∙ refused (turnOf (sidesOf (c .before .before .before .before .before .before .before .before .args .lends) m o)) _ _ (next-stops _ (settling _ _) (number (c .before) o m e) (eqb-false _ _ (not-true _ (c .if1 .taken)))) (eqb-false _ _ (not-true _ (c .if1 .taken)))
-
-settle-requires : tie.Need-settle-requires
-settle-requires c κs = search needs
 
 returns-2 : tie.Need-returns-2
 unfolding concluding
@@ -41,9 +29,9 @@ pub conclude-spec : {M : Type 1} → statement M
 conclude-spec =
     tie.close
     (tie.spec
-    side-requires
-    side-requires-2
-    agreement-refusal-requires
+    (λ c κs. search needs)
+    (λ c κs. search needs)
+    (λ c κs. search needs)
     returns
-    settle-requires
+    (λ c κs. search needs)
     returns-2)

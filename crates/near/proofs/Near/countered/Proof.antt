@@ -30,23 +30,11 @@ there c o m = λ e. c .with-counter .ensures o (Id (c .before .before .before .b
 flag : (c : tie.After-same-terms) → (o : ℕ) (m : Model) → c .before .before .before .before .before .before .before .before .before .before .before .before .args .self ≡ viewOf (dealKeys (Id (c .before .before .before .before .before .before .before .before .before .before .before .before .args .caller)) (Id (lenderOf m o)) m o) m → c .same-terms .result ≡ sameTerms (termsIn m o) (c .before .before .before .before .before .before .before .before .before .before .before .before .args .t)
 flag c o m = λ e. simp e at (c .same-terms .ensures)
 
-counter-refusal-requires : tie.Need-counter-refusal-requires
-counter-refusal-requires c κs = search needs
-
 returns : tie.Need-returns
 returns c = λ o m e. same (dealKeys (Id (c .before .before .before .before .before .before .before .args .caller)) (Id (lenderOf m o)) m o) m e _ ∙ refused (turnOf (dealKeys (Id (c .before .before .before .before .before .before .before .args .caller)) (Id (lenderOf m o)) m o)) _ _ (stops (counterChecks (offerIn m o) (c .before .before .before .before .before .before .before .args .now) (c .before .before .before .before .before .before .before .args .caller) (accountIn m (c .before .before .before .before .before .before .before .args .caller) .row) (c .before .before .before .before .before .before .before .args .t) (c .before .before .before .before .before .before .before .args .round) (paperOf m o)) _ (number (c .before) o m e) (eqb-false _ _ (not-true _ (c .if1 .taken)))) (eqb-false _ _ (not-true _ (c .if1 .taken)))
 
-with-counter-requires : tie.Need-with-counter-requires
-with-counter-requires c κs = search needs
-
-same-terms-requires : tie.Need-same-terms-requires
-same-terms-requires c κs = search needs
-
 returns-2 : tie.Need-returns-2
 returns-2 c = λ o m e. ap (λ b. record { answer = 0; near = b }) (there (c .before .before .before .before .before) o m e) ∙ then-accepted (turnOf (dealKeys (Id (c .before .before .before .before .before .before .before .before .before .before .before .before .before .args .caller)) (Id (lenderOf m o)) m o)) _ (record { checks = (counterChecks (offerIn m o) (c .before .before .before .before .before .before .before .before .before .before .before .before .before .args .now) (c .before .before .before .before .before .before .before .before .before .before .before .before .before .args .caller) (accountIn m (c .before .before .before .before .before .before .before .before .before .before .before .before .before .args .caller) .row) (c .before .before .before .before .before .before .before .before .before .before .before .before .before .args .t) (c .before .before .before .before .before .before .before .before .before .before .before .before .before .args .round) (paperOf m o)); done = counteredIn m (c .before .before .before .before .before .before .before .before .before .before .before .before .before .args .now) o (c .before .before .before .before .before .before .before .before .before .before .before .before .before .args .t) }) (agreeing (sameTerms (termsIn m o) (c .before .before .before .before .before .before .before .before .before .before .before .before .before .args .t)) (c .before .before .before .before .before .before .before .before .before .before .before .before .before .args .now) o) _ (agrees-off _ _ _ (sym (flag (c .before) o m e) ∙ not-true _ (c .if2 .taken))) (asked (c .before .before .before .before .before) o m e) (sym none-left) refl
-
-agree-requires : tie.Need-agree-requires
-agree-requires c κs = search needs
 
 returns-3 : tie.Need-returns-3
 returns-3 c = λ o m e. let w = counteredIn m (c .before .before .before .before .before .before .before .before .before .before .before .before .before .before .args .now) o (c .before .before .before .before .before .before .before .before .before .before .before .before .before .before .args .t) in let k = counter-keys m (c .before .before .before .before .before .before .before .before .before .before .before .before .before .before .args .now) (c .before .before .before .before .before .before .before .before .before .before .before .before .before .before .args .caller) o (c .before .before .before .before .before .before .before .before .before .before .before .before .before .before .args .t) (c .before .before .before .before .before .before .before .before .before .before .before .before .before .before .args .round) (asked (c .before .before .before .before .before .before) o m e) in turn-at m (sym k) (concluding (c .before .before .before .before .before .before .before .before .before .before .before .before .before .before .args .now) o w) (c .agree .ensures o m w (view-at m k e) (view-at w k (there (c .before .before .before .before .before .before) o m e))) ∙ then-answers (turnOf (dealKeys (Id (c .before .before .before .before .before .before .before .before .before .before .before .before .before .before .args .caller)) (Id (lenderOf m o)) m o)) _ (record { checks = (counterChecks (offerIn m o) (c .before .before .before .before .before .before .before .before .before .before .before .before .before .before .args .now) (c .before .before .before .before .before .before .before .before .before .before .before .before .before .before .args .caller) (accountIn m (c .before .before .before .before .before .before .before .before .before .before .before .before .before .before .args .caller) .row) (c .before .before .before .before .before .before .before .before .before .before .before .before .before .before .args .t) (c .before .before .before .before .before .before .before .before .before .before .before .before .before .before .args .round) (paperOf m o)); done = counteredIn m (c .before .before .before .before .before .before .before .before .before .before .before .before .before .before .args .now) o (c .before .before .before .before .before .before .before .before .before .before .before .before .before .before .args .t) }) (agreeing (sameTerms (termsIn m o) (c .before .before .before .before .before .before .before .before .before .before .before .before .before .before .args .t)) (c .before .before .before .before .before .before .before .before .before .before .before .before .before .before .args .now) o) _ (agrees-on _ _ _ (sym (flag (c .before .before) o m e) ∙ not-false _ (c .before .if2 .left))) (asked (c .before .before .before .before .before .before) o m e)
@@ -55,10 +43,10 @@ pub countered-spec : {M : Type 1} → statement M
 countered-spec =
     tie.close
     (tie.spec
-    counter-refusal-requires
+    (λ c κs. search needs)
     returns
-    with-counter-requires
-    same-terms-requires
+    (λ c κs. search needs)
+    (λ c κs. search needs)
     returns-2
-    agree-requires
+    (λ c κs. search needs)
     returns-3)

@@ -35,29 +35,14 @@ summed c o b m = λ e. simp e at (c .count .ensures)
 counts : (c : tie.After-count) → (o : ℕ) (b : Named) (m : Model) → c .before .before .before .before .before .before .before .before .before .before .before .before .args .self ≡ viewOf (keysBy (Id (c .before .before .before .before .before .before .before .before .before .before .before .before .args .caller)) b (Id (c .before .before .before .before .before .before .before .before .before .before .before .before .args .paper)) (Id o)) m → c .count .result .answer ≡ first (countOf (m .totals) .checks)
 counts c o b m = λ e. number-of counted _ (countOf (m .totals)) (λ p. p .answer) (λ n x. refl) (summed c o b m e)
 
-create-refusal-requires : tie.Need-create-refusal-requires
-create-refusal-requires c κs = search needs
-
 returns : tie.Need-returns
 returns c = λ o b m f e. same (keysBy (Id (c .before .before .before .before .before .before .before .args .caller)) b (Id (c .before .before .before .before .before .before .before .args .paper)) (Id o)) m e _ ∙ refused (turnOf (keysBy (Id (c .before .before .before .before .before .before .before .args .caller)) b (Id (c .before .before .before .before .before .before .before .args .paper)) (Id o))) _ _ (stops _ _ (number (c .before) o b m f e) (eqb-false _ _ (not-true _ (c .if1 .taken)))) (eqb-false _ _ (not-true _ (c .if1 .taken)))
-
-offer-requires : tie.Need-offer-requires
-offer-requires c κs = search needs
 
 returns-2 : tie.Need-returns-2
 returns-2 c = λ o b m f e. same (keysBy (Id (c .before .before .before .before .before .before .before .before .before .before .args .caller)) b (Id (c .before .before .before .before .before .before .before .before .before .before .args .paper)) (Id o)) m e _ ∙ refused (turnOf (keysBy (Id (c .before .before .before .before .before .before .before .before .before .before .args .caller)) b (Id (c .before .before .before .before .before .before .before .before .before .before .args .paper)) (Id o))) _ _ (goes _ _ (sym (number (c .before .before .before .before) o b m f e) ∙ eqb-true _ _ (not-false _ (c .before .before .before .if1 .left))) (stops _ _ (offered (c .before .before) o b m e) (eqb-false _ _ (not-true _ (c .if2 .taken))))) (eqb-false _ _ (not-true _ (c .if2 .taken)))
 
-count-requires : tie.Need-count-requires
-count-requires c κs = search needs
-
 returns-3 : tie.Need-returns-3
 returns-3 c = λ o b m f e. same (keysBy (Id (c .before .before .before .before .before .before .before .before .before .before .before .before .before .before .args .caller)) b (Id (c .before .before .before .before .before .before .before .before .before .before .before .before .before .before .args .paper)) (Id o)) m e _ ∙ refused (turnOf (keysBy (Id (c .before .before .before .before .before .before .before .before .before .before .before .before .before .before .args .caller)) b (Id (c .before .before .before .before .before .before .before .before .before .before .before .before .before .before .args .paper)) (Id o))) _ _ (goes _ _ (sym (number (c .before .before .before .before .before .before .before .before) o b m f e) ∙ eqb-true _ _ (not-false _ (c .before .before .before .before .before .before .before .if1 .left))) (goes _ _ (sym (offered (c .before .before .before .before .before .before) o b m e) ∙ eqb-true _ _ (not-false _ (c .before .before .before .before .if2 .left))) (counts (c .before .before) o b m e))) (eqb-false _ _ (not-true _ (c .if3 .taken)))
-
-put-first-requires : tie.Need-put-first-requires
-put-first-requires c κs = search needs
-
-new-requires : tie.Need-new-requires
-new-requires c κs = search needs
 
 returns-4 : tie.Need-returns-4
 returns-4 c = λ o b m f e. let x = sym (number (c .before .before .before .before .before .before .before .before .before .before .before .before) o b m f e) ∙ eqb-true _ _ (not-false _ (c .before .before .before .before .before .before .before .before .before .before .before .if1 .left)) in let y = sym (offered (c .before .before .before .before .before .before .before .before .before .before) o b m e) ∙ eqb-true _ _ (not-false _ (c .before .before .before .before .before .before .before .before .if2 .left)) in let z = sym (counts (c .before .before .before .before .before .before) o b m e) ∙ eqb-true _ _ (not-false _ (c .before .before .before .before .if3 .left)) in let w = goes _ _ x (goes _ _ y (sym z)) in rw (c .before .before .put-first .ensures, c .before .new .ensures, done-of posted _ (offerOf (accountIn m (c .before .before .before .before .before .before .before .before .before .before .before .before .before .before .before .before .before .before .args .caller) .row) (c .before .before .before .before .before .before .before .before .before .before .before .before .before .before .before .before .before .before .args .t)) (λ p. p .row) (λ w. w) (λ n w. refl) (grown (c .before .before .before .before .before .before .before .before .before .before) o b m e) y, done-of counted _ (countOf (m .totals)) (λ p. p .row) (λ w. w) (λ n w. refl) (summed (c .before .before .before .before .before .before) o b m e) z) (ap (λ q. record { answer = 0; near = q }) (created-step m (c .before .before .before .before .before .before .before .before .before .before .before .before .before .before .before .before .before .before .args .caller) o b (Id (c .before .before .before .before .before .before .before .before .before .before .before .before .before .before .before .before .before .before .args .paper)) e (offer-room m (c .before .before .before .before .before .before .before .before .before .before .before .before .before .before .before .before .before .before .args .caller) o (c .before .before .before .before .before .before .before .before .before .before .before .before .before .before .before .before .before .before .args .paper) (c .before .before .before .before .before .before .before .before .before .before .before .before .before .before .before .before .before .before .args .t) (c .before .before .before .before .before .before .before .before .before .before .before .before .before .before .before .before .before .before .args .expires) (sym w) .new) _ _ _) ∙ accepted (turnOf (keysBy (Id (c .before .before .before .before .before .before .before .before .before .before .before .before .before .before .before .before .before .before .args .caller)) b (Id (c .before .before .before .before .before .before .before .before .before .before .before .before .before .before .before .before .before .before .args .paper)) (Id o))) _ _ w refl refl)
@@ -66,12 +51,12 @@ pub created-spec : {M : Type 1} → statement M
 created-spec =
     tie.close
     (tie.spec
-    create-refusal-requires
+    (λ c κs. search needs)
     returns
-    offer-requires
+    (λ c κs. search needs)
     returns-2
-    count-requires
+    (λ c κs. search needs)
     returns-3
-    put-first-requires
-    new-requires
+    (λ c κs. search needs)
+    (λ c κs. search needs)
     returns-4)

@@ -30,31 +30,13 @@ summed c o m = λ e. simp e at (c .finance .ensures)
 raised : (c : tie.After-finance) → (o : ℕ) (m : Model) → c .before .before .before .before .before .before .before .before .before .before .args .self ≡ viewOf (sidesOf (c .before .before .before .before .before .before .before .before .before .before .args .lends) m o) m → c .finance .result .answer ≡ first (financeOf (m .totals) (termsIn m o) .checks)
 raised c o m = λ e. number-of counted _ (financeOf (m .totals) (termsIn m o)) (λ p. p .answer) (λ n x. refl) (summed c o m e)
 
-settle-by-requires : tie.Need-settle-by-requires
-settle-by-requires c κs = search needs
-
 returns : tie.Need-returns
 unfolding settling
 returns c = λ o m e. same (sidesOf (c .before .before .before .before .before .before .before .before .args .lends) m o) m e _ ∙ refused (turnOf (sidesOf (c .before .before .before .before .before .before .before .before .args .lends) m o)) _ _ (stops _ _ (paid (c .before .before) o m e) (eqb-false _ _ (not-true _ (c .if1 .taken)))) (eqb-false _ _ (not-true _ (c .if1 .taken)))
 
-finance-requires : tie.Need-finance-requires
-finance-requires c κs = search needs
-
 returns-2 : tie.Need-returns-2
 unfolding settling
 returns-2 c = λ o m e. same (sidesOf (c .before .before .before .before .before .before .before .before .before .before .before .before .args .lends) m o) m e _ ∙ refused (turnOf (sidesOf (c .before .before .before .before .before .before .before .before .before .before .before .before .args .lends) m o)) _ _ (goes _ _ (sym (paid (c .before .before .before .before .before .before) o m e) ∙ eqb-true _ _ (not-false _ (c .before .before .before .before .if1 .left))) (raised (c .before .before) o m e)) (eqb-false _ _ (not-true _ (c .if2 .taken)))
-
-financed-requires : tie.Need-financed-requires
-financed-requires c κs = search needs
-
-put-requires : tie.Need-put-requires
-put-requires c κs = search needs
-
-settled-requires : tie.Need-settled-requires
-settled-requires c κs = search needs
-
-put-requires-2 : tie.Need-put-requires-2
-put-requires-2 c κs = search needs
 
 returns-3 : tie.Need-returns-3
 unfolding settling
@@ -64,12 +46,12 @@ pub settle-spec : {M : Type 1} → statement M
 settle-spec =
     tie.close
     (tie.spec
-    settle-by-requires
+    (λ c κs. search needs)
     returns
-    finance-requires
+    (λ c κs. search needs)
     returns-2
-    financed-requires
-    put-requires
-    settled-requires
-    put-requires-2
+    (λ c κs. search needs)
+    (λ c κs. search needs)
+    (λ c κs. search needs)
+    (λ c κs. search needs)
     returns-3)

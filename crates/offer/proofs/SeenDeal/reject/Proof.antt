@@ -6,14 +6,8 @@ use borrow.Author.Needs.{needs}
 use Rattle.offer.proofs.SeenDeal.reject.Statement.{statement}
 use Rattle.offer.proofs.SeenDeal.reject.Tie as tie
 
-refused-requires : tie.Need-refused-requires
-refused-requires c κs = search needs
-
 returns : tie.Need-returns
 returns c = c .refused .ensures ∙ refuses posted notFound _ _ _ (c .before .if1 .taken)
-
-refused-requires-2 : tie.Need-refused-requires-2
-refused-requires-2 c κs = search needs
 
 returns-2 : tie.Need-returns-2
 returns-2 c =
@@ -21,18 +15,12 @@ returns-2 c =
     goes-on posted notFound _ _ _ (c .before .before .before .if1 .left)
     (refuses posted invalidTransition _ _ _ (c .before .if2 .taken)))
 
-refused-requires-3 : tie.Need-refused-requires-3
-refused-requires-3 c κs = search needs
-
 returns-3 : tie.Need-returns-3
 returns-3 c =
     c .refused3 .ensures ∙ (
     goes-on posted notFound _ _ _ (c .before .before .before .before .before .if1 .left)
     (goes-on posted invalidTransition _ _ _ (c .before .before .before .if2 .left)
     (refuses posted notFound _ _ _ (c .before .if3 .taken))))
-
-refused-requires-4 : tie.Need-refused-requires-4
-refused-requires-4 c κs = search needs
 
 returns-4 : tie.Need-returns-4
 returns-4 c =
@@ -54,12 +42,12 @@ pub reject-spec : {M : Type 1} → statement M
 reject-spec =
     tie.close
     (tie.spec
-    refused-requires
+    (λ c κs. search needs)
     returns
-    refused-requires-2
+    (λ c κs. search needs)
     returns-2
-    refused-requires-3
+    (λ c κs. search needs)
     returns-3
-    refused-requires-4
+    (λ c κs. search needs)
     returns-4
     returns-5)

@@ -26,26 +26,11 @@ tested c =
     let told = simp (back (c .before .installment-of .result) (search needs)) at (c .is-zero .ensures) in
     sym (told ∙ ap isZero (c .before .installment-of .ensures))
 
-schedule-refusal-requires : tie.Need-schedule-refusal-requires
-schedule-refusal-requires c κs = search needs
-
-refused-requires : tie.Need-refused-requires
-refused-requires c κs = search needs
-
 returns : tie.Need-returns
 returns c =
     let stopped = eqb-false (c .before .before .schedule-refusal .result) 0 (not-true _ (c .before .if1 .taken)) in
     let told = c .before .before .schedule-refusal .ensures in
     c .refused .ensures ∙ refused posted _ _ (told ∙ sym (first-stop (checked (c .before .before .before .before .before)) _ (λ q. stopped (told ∙ q)))) stopped
-
-installment-of-requires : tie.Need-installment-of-requires
-installment-of-requires c κs = search needs
-
-is-zero-requires : tie.Need-is-zero-requires
-is-zero-requires c κs = search needs
-
-refused-requires-2 : tie.Need-refused-requires-2
-refused-requires-2 c κs = search needs
 
 returns-2 : tie.Need-returns-2
 returns-2 c =
@@ -62,11 +47,11 @@ pub schedule-spec : {M : Type 1} → statement M
 schedule-spec =
     tie.close
     (tie.spec
-    schedule-refusal-requires
-    refused-requires
+    (λ c κs. search needs)
+    (λ c κs. search needs)
     returns
-    installment-of-requires
-    is-zero-requires
-    refused-requires-2
+    (λ c κs. search needs)
+    (λ c κs. search needs)
+    (λ c κs. search needs)
     returns-2
     returns-3)

@@ -12,26 +12,14 @@ use Rattle.offer.proofs.SeenDeal.update_repaid.Tie as tie
 in-total : (c : tie.After-in-total-range) → not (c .in-total-range .result) ≡ not (inTotal (c .before .before .before .before .before .args .amount))
 in-total c = ap not (simp (toZ-ofZ (c .before .before .before .before .before .fits .amount)) at (c .in-total-range .ensures))
 
-refused-requires : tie.Need-refused-requires
-refused-requires c κs = search needs
-
 returns : tie.Need-returns
 returns c = c .refused .ensures ∙ refuses posted unauthorized _ _ _ (c .before .if1 .taken)
-
-refused-requires-2 : tie.Need-refused-requires-2
-refused-requires-2 c κs = search needs
 
 returns-2 : tie.Need-returns-2
 returns-2 c =
     c .refused2 .ensures ∙ (
     goes-on posted unauthorized _ _ _ (c .before .before .before .if1 .left)
     (refuses posted notFound _ _ _ (c .before .if2 .taken)))
-
-in-total-range-requires : tie.Need-in-total-range-requires
-in-total-range-requires c κs = search needs
-
-refused-requires-3 : tie.Need-refused-requires-3
-refused-requires-3 c κs = search needs
 
 returns-3 : tie.Need-returns-3
 returns-3 c =
@@ -51,11 +39,11 @@ pub update-repaid-spec : {M : Type 1} → statement M
 update-repaid-spec =
     tie.close
     (tie.spec
-    refused-requires
+    (λ c κs. search needs)
     returns
-    refused-requires-2
+    (λ c κs. search needs)
     returns-2
-    in-total-range-requires
-    refused-requires-3
+    (λ c κs. search needs)
+    (λ c κs. search needs)
     returns-3
     returns-4)

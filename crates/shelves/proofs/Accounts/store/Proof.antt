@@ -33,17 +33,11 @@ came c = λ q. ap (λ z. not z && (c .before .before .before .before .before .be
 wrote : (c : tie.After-over2) → asAccounts (c .before .before .before .before .before .before .before .before .before .before .before .before .before .args .t1 .ids) (set (set (c .before .before .before .before .before .before .before .before .before .before .before .before .before .args .t1 .rows) (c .before .before .before .before .before .before .before .before .before .spot-by .result .at) (c .before .before .before .before .before .before .before .over .result)) (c .before .before .before .spot-by2 .result .at) (c .over2 .result)) (c .before .before .before .before .before .before .before .before .before .before .before .before .before .args .t1 .count) ≡ storedAccounts (putBy (putBy (accountsOf (c .before .before .before .before .before .before .before .before .before .before .before .before .before .args .t1)) (c .before .before .before .before .before .before .before .before .before .before .before .before .before .args .second) (c .before .before .before .before .before .before .before .before .before .before .before .before .before .args .y)) (c .before .before .before .before .before .before .before .before .before .before .before .before .before .args .first) (c .before .before .before .before .before .before .before .before .before .before .before .before .before .args .x .row))
 wrote c = accounts-wrote (c .before .before .before .before .before .before .before .before .before .before .before .before .before .pre) (c .before .before .before .before .before .before .before .before .before .before .before .before .before .args .first) (c .before .before .before .before .before .before .before .before .before .before .before .before .before .args .second) (c .before .before .before .spot-by2 .ensures) (c .before .before .before .before .before .before .before .before .before .spot-by .ensures) (c .before .before .before .before .before .before .before .before .before .before .before .before .before .args .x .row) (c .before .before .before .before .before .before .before .before .before .before .before .before .before .args .y) (c .before .before .before .before .before .before .before .over .ensures) (c .over2 .ensures)
 
-spot-by-requires : tie.Need-spot-by-requires
-spot-by-requires c κs = search needs
-
 mul-other : tie.Need-mul-other
 mul-other c = omega (arith, below-b c)
 
 element-copy-out-other : tie.Need-element-copy-out-other
 element-copy-out-other c = omega (arith, below-b c)
-
-over-requires : tie.Need-over-requires
-over-requires c κs = search needs
 
 mul-b : tie.Need-mul-b
 mul-b c = omega (arith, below-b (c .before .before))
@@ -51,26 +45,17 @@ mul-b c = omega (arith, below-b (c .before .before))
 element-set-from-b : tie.Need-element-set-from-b
 element-set-from-b c = omega (arith, below-b (c .before .before))
 
-spot-by-requires-2 : tie.Need-spot-by-requires-2
-spot-by-requires-2 c κs = search needs
-
 mul-old : tie.Need-mul-old
 mul-old c = omega (arith, below-a c)
 
 element-copy-out-old : tie.Need-element-copy-out-old
 element-copy-out-old c = omega (arith, below-a c)
 
-over-requires-2 : tie.Need-over-requires-2
-over-requires-2 c κs = search needs
-
 mul-a : tie.Need-mul-a
 mul-a c = omega (arith, below-a (c .before .before .before))
 
 element-set-from-a : tie.Need-element-set-from-a
 element-set-from-a c = omega (arith, below-a (c .before .before .before))
-
-id-requires : tie.Need-id-requires
-id-requires c κs = search needs
 
 let-in-requires : tie.Need-let-in-requires
 let-in-requires c κs = subst AccountShelf (sym (wrote (c .before .before .before .before))) (accounts-keeping .good (fine-by (fine-by (accounts-keeping .fine _ (c .before .before .before .before .before .before .before .before .before .before .before .before .before .before .before .before .before .pre)) (c .before .before .before .before .before .before .before .before .before .before .before .before .before .before .before .before .before .args .second) (c .before .before .before .before .before .before .before .before .before .before .before .before .before .before .before .before .before .args .y)) (c .before .before .before .before .before .before .before .before .before .before .before .before .before .before .before .before .before .args .first) (c .before .before .before .before .before .before .before .before .before .before .before .before .before .before .before .before .before .args .x .row)))
@@ -85,19 +70,19 @@ pub store-spec : {M : Type 1} → statement M
 store-spec =
     tie.close
     (tie.spec
-    spot-by-requires
+    (λ c κs. search needs)
     mul-other
     element-copy-out-other
-    over-requires
+    (λ c κs. search needs)
     mul-b
     element-set-from-b
-    spot-by-requires-2
+    (λ c κs. search needs)
     mul-old
     element-copy-out-old
-    over-requires-2
+    (λ c κs. search needs)
     mul-a
     element-set-from-a
-    id-requires
+    (λ c κs. search needs)
     let-in-requires
     returns
     returns-2)

@@ -15,32 +15,14 @@ use Rattle.text.specs.LineLaws.{word-fits, word-in}
 use Rattle.text.proofs.writing.put_line.Statement.{statement}
 use Rattle.text.proofs.writing.put_line.Tie as tie
 
-word-requires : tie.Need-word-requires
-word-requires c κs = search needs
-
 array-share-prefix-name : tie.Need-array-share-prefix-name
 array-share-prefix-name c = word-fits (wordOf (c .before .before .before .before .args .tag)) (c .before .before .word .ensures)
 
 slice-aggregate-put : tie.Need-slice-aggregate-put
 slice-aggregate-put c = sym (length-take-le _ _ (word-fits (wordOf (c .before .before .before .before .before .args .tag)) (c .before .before .before .word .ensures)))
 
-put-requires : tie.Need-put-requires
-put-requires c κs = search needs
-
-fields-requires : tie.Need-fields-requires
-fields-requires c κs = search needs
-
 put-numerals-requires : tie.Need-put-numerals-requires
 put-numerals-requires c κs = omega (arith, ap (λ (r : Listed). r .0) (c .before .before .fields .ensures), few (c .before .before .before .before .before .before .before .before .before .before .before .args .tag))
-
-slice-aggregate-put-2 : tie.Need-slice-aggregate-put-2
-slice-aggregate-put-2 c = search needs
-
-put-requires-2 : tie.Need-put-requires-2
-put-requires-2 c κs = search needs
-
-same-length : tie.Need-same-length
-same-length c = search needs
 
 returns : tie.Need-returns
 unfolding lineOf
@@ -55,13 +37,13 @@ pub put-line-spec : {M : Type 1} → statement M
 put-line-spec =
     tie.close
     (tie.spec
-    word-requires
+    (λ c κs. search needs)
     array-share-prefix-name
     slice-aggregate-put
-    put-requires
-    fields-requires
+    (λ c κs. search needs)
+    (λ c κs. search needs)
     put-numerals-requires
-    slice-aggregate-put-2
-    put-requires-2
-    same-length
+    (λ c. search needs)
+    (λ c κs. search needs)
+    (λ c. search needs)
     returns)

@@ -9,33 +9,9 @@ use Rattle.text.specs.Line.{signedOf}
 use Rattle.text.proofs.writing.put_signed.Statement.{statement}
 use Rattle.text.proofs.writing.put_signed.Tie as tie
 
-put-decimal-requires : tie.Need-put-decimal-requires
-put-decimal-requires c κs = search needs
-
-same-length : tie.Need-same-length
-same-length c = search needs
-
 returns : tie.Need-returns
 unfolding signedOf
 returns c = retext (c .before .before .put-decimal .ensures) (sym (pick-on _ _ (lt-ltb _ _ (c .before .before .before .before .if1 .taken))))
-
-slice-aggregate-put : tie.Need-slice-aggregate-put
-slice-aggregate-put c = search needs
-
-put-requires : tie.Need-put-requires
-put-requires c κs = search needs
-
-sub-put-decimal : tie.Need-sub-put-decimal
-sub-put-decimal c = search needs
-
-add-put-decimal : tie.Need-add-put-decimal
-add-put-decimal c = search needs
-
-put-decimal-requires-2 : tie.Need-put-decimal-requires-2
-put-decimal-requires-2 c κs = search needs
-
-same-length-2 : tie.Need-same-length-2
-same-length-2 c = search needs
 
 returns-2 : tie.Need-returns-2
 unfolding signedOf
@@ -50,13 +26,13 @@ pub put-signed-spec : {M : Type 1} → statement M
 put-signed-spec =
     tie.close
     (tie.spec
-    put-decimal-requires
-    same-length
+    (λ c κs. search needs)
+    (λ c. search needs)
     returns
-    slice-aggregate-put
-    put-requires
-    sub-put-decimal
-    add-put-decimal
-    put-decimal-requires-2
-    same-length-2
+    (λ c. search needs)
+    (λ c κs. search needs)
+    (λ c. search needs)
+    (λ c. search needs)
+    (λ c κs. search needs)
+    (λ c. search needs)
     returns-2)
