@@ -9,17 +9,6 @@ pub const ROUND_SLOTS: u32 = 12;
 
 pub const ROUND_LIMIT: u32 = 12;
 
-// Where a negotiation stands. Closed, Accepted and Expired can be stored as its outcome; 0 is no outcome.
-pub const NONE: u32 = 0;
-
-pub const OPEN: u32 = 1;
-
-pub const CLOSED: u32 = 2;
-
-pub const ACCEPTED: u32 = 3;
-
-pub const EXPIRED: u32 = 4;
-
 // 32 bytes, so that a book of sixteen rounds an offer stays small.
 pub struct Round {
     pub amount: i64,
@@ -40,6 +29,17 @@ pub struct Negotiation {
     pub len: u32,
     pub outcome: u32,
 }
+
+// Where a negotiation stands. Closed, Accepted and Expired can be stored as its outcome; 0 is no outcome.
+pub const NONE: u32 = 0;
+
+pub const OPEN: u32 = 1;
+
+pub const CLOSED: u32 = 2;
+
+pub const ACCEPTED: u32 = 3;
+
+pub const EXPIRED: u32 = 4;
 
 impl Round {
     pub fn new(now: u64, t: Terms, party: u32) -> Round

@@ -49,12 +49,6 @@ pub struct DealPosted {
     pub row: Deal,
 }
 
-fn refused(row: Deal, answer: u64) -> DealPosted
-    ensures { λ r. ⌜ r ≡ posted answer row ⌝ }
-{
-    DealPosted { answer, row }
-}
-
 impl Offer {
     pub fn none() -> Offer
         ensures { λ r. ⌜ r ≡ noOffer ⌝ }
@@ -637,4 +631,10 @@ impl Deal {
         }
         self
     }
+}
+
+fn refused(row: Deal, answer: u64) -> DealPosted
+    ensures { λ r. ⌜ r ≡ posted answer row ⌝ }
+{
+    DealPosted { answer, row }
 }

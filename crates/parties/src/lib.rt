@@ -24,12 +24,6 @@ pub struct PartiesPosted {
     pub parties: Parties,
 }
 
-fn kept(answer: u64, parties: Parties) -> PartiesPosted
-    ensures { λ r. ⌜ r ≡ postedParties answer parties ⌝ }
-{
-    PartiesPosted { answer, parties }
-}
-
 impl Parties {
     pub fn put_first(mut self, row: Account) -> Parties
         ensures { λ r. ⌜ r ≡ putFirst self row ⌝ }
@@ -150,4 +144,10 @@ impl Parties {
         let back = p.parties;
         kept(p.answer, back.turned())
     }
+}
+
+fn kept(answer: u64, parties: Parties) -> PartiesPosted
+    ensures { λ r. ⌜ r ≡ postedParties answer parties ⌝ }
+{
+    PartiesPosted { answer, parties }
 }

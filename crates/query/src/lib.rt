@@ -21,30 +21,6 @@ ghost use Rattle.query.specs.Numbers.{offersOnly, scheduleNumbers, lende
 ghost use Rattle.query.specs.Reads.{listRead, asked, onSound, offerRead, scheduleRead, negotiationRead, deadlineRead, statusRead, dueRead, lenderRead, activeRead, countRead, totalsRead, windowRead, seatsRead, thresholdRead, pauseRead};
 ghost use Rattle.query.specs.Says.{numberTold, numberSays, offerSays, scheduleSays, lenderSays, totalsSays, negotiationTold};
 
-// The numbers of a schedule: how many installments, the code of their period, the amount of each, when the first is due.
-pub struct ScheduleNumbers {
-    pub count: u64,
-    pub code: u64,
-    pub installment: u64,
-    pub first: u64,
-}
-
-// A lender's figures.
-pub struct LenderNumbers {
-    pub offered: u64,
-    pub accepted: u64,
-    pub pending: u64,
-    pub repaid: u64,
-}
-
-// The book's totals.
-pub struct TotalsNumbers {
-    pub offers: u64,
-    pub financed: u64,
-    pub repaid: u64,
-    pub fees: u64,
-}
-
 pub enum NumberAnswer {
     Number(u64),
     Unsound,
@@ -56,6 +32,14 @@ pub enum OfferAnswer {
     Unsound,
 }
 
+// The numbers of a schedule: how many installments, the code of their period, the amount of each, when the first is due.
+pub struct ScheduleNumbers {
+    pub count: u64,
+    pub code: u64,
+    pub installment: u64,
+    pub first: u64,
+}
+
 // An absent schedule is no refusal.
 pub enum ScheduleAnswer {
     Schedule(ScheduleNumbers),
@@ -63,9 +47,25 @@ pub enum ScheduleAnswer {
     Unsound,
 }
 
+// A lender's figures.
+pub struct LenderNumbers {
+    pub offered: u64,
+    pub accepted: u64,
+    pub pending: u64,
+    pub repaid: u64,
+}
+
 pub enum LenderAnswer {
     Lender(LenderNumbers),
     Unsound,
+}
+
+// The book's totals.
+pub struct TotalsNumbers {
+    pub offers: u64,
+    pub financed: u64,
+    pub repaid: u64,
+    pub fees: u64,
 }
 
 pub enum TotalsAnswer {

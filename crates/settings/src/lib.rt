@@ -25,12 +25,6 @@ pub struct SettingsPosted {
     pub row: Settings,
 }
 
-fn refused(row: Settings, answer: u64) -> SettingsPosted
-    ensures { λ r. ⌜ r ≡ posted answer row ⌝ }
-{
-    SettingsPosted { answer, row }
-}
-
 impl Settings {
     // Seat 0 alone with threshold 1, no repayment account, not paused.
     pub fn fresh() -> Settings
@@ -144,4 +138,10 @@ impl Settings {
             row: self,
         }
     }
+}
+
+fn refused(row: Settings, answer: u64) -> SettingsPosted
+    ensures { λ r. ⌜ r ≡ posted answer row ⌝ }
+{
+    SettingsPosted { answer, row }
 }

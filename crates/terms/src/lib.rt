@@ -6,19 +6,6 @@ ghost use Rattle.terms.specs.Installment.{installmentOf, installmentSays
 ghost use Rattle.terms.specs.Schedule.{periodListed, secondsOf, periodOf, periodSays, scheduleOk, scheduleZero};
 ghost use Rattle.terms.specs.Due.{elapsedOf, nextOf, dueOf, dueSays, dueArguments};
 
-// Where an offer stands.
-pub const PENDING: u32 = 0;
-
-pub const ACCEPTED: u32 = 1;
-
-pub const REJECTED: u32 = 2;
-
-pub const FINANCED: u32 = 3;
-
-pub const REPAID: u32 = 4;
-
-pub const DEFAULTED: u32 = 5;
-
 // An amount in minor units, a rate in basis points and a duration in seconds.
 pub struct Terms {
     pub amount: i64,
@@ -171,6 +158,19 @@ fn due_arguments(s: Schedule, status: u32, repaid: i64) -> bool
 {
     schedule_ok(s) & (status <= DEFAULTED) & money::in_total_range(repaid)
 }
+
+// Where an offer stands.
+pub const PENDING: u32 = 0;
+
+pub const ACCEPTED: u32 = 1;
+
+pub const REJECTED: u32 = 2;
+
+pub const FINANCED: u32 = 3;
+
+pub const REPAID: u32 = 4;
+
+pub const DEFAULTED: u32 = 5;
 
 pub fn due(s: Schedule, status: u32, repaid: i64, now: u64) -> DueAnswer
     ensures { λ r. ⌜ dueSays r ≡ dueOf s status repaid now ⌝ }

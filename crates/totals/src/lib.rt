@@ -17,12 +17,6 @@ pub struct TotalsPosted {
     pub row: Totals,
 }
 
-fn refused(row: Totals, answer: u64) -> TotalsPosted
-    ensures { λ r. ⌜ r ≡ counted answer row ⌝ }
-{
-    TotalsPosted { answer, row }
-}
-
 impl Totals {
     // The totals of a fresh book.
     pub fn none() -> Totals
@@ -99,4 +93,10 @@ impl Totals {
             row: self,
         }
     }
+}
+
+fn refused(row: Totals, answer: u64) -> TotalsPosted
+    ensures { λ r. ⌜ r ≡ counted answer row ⌝ }
+{
+    TotalsPosted { answer, row }
 }
