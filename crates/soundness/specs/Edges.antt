@@ -60,7 +60,7 @@ asking t count =
     ∷ ScheduleRepayment 100 1 20 count 1 200
     ∷ []
 
-unfoldable sameList : List ℕ → List ℕ → Bool
+unfoldable pub sameList : List ℕ → List ℕ → Bool
 sameList [] [] = true
 sameList [] (b ∷ m) = false
 sameList (a ∷ l) [] = false
