@@ -4,13 +4,14 @@ use mathlib.Core.Path.{_≡_, refl, sym, ap, _∙_}
 use mathlib.Core.Bool.{Bool, true, false}
 use lib.Dec.{leb, eqb}
 use lib.IntN.{ℤ}
-use borrow.Author.Tests.{eqb-true, ltb-false, le-leb, not-false}
+use borrow.Author.Tests.{eqb-true, not-false}
 use Rattle.money.specs.Range.{inTotal, inInstallment, isZero}
 use Rattle.refusal.specs.Choice.{pick}
 use Rattle.refusal.specs.ChoiceLaws.{pick-on, pick-off}
 use Rattle.refusal.specs.Refusal.{first}
 use Rattle.refusal.specs.Rule.{Rule, after}
 use Rattle.refusal.specs.RuleLaws.{passed}
+use Rattle.terms.specs.Status.{statusListed}
 use Rattle.terms.specs.Terms.{termsOk, countOk}
 use Rattle.terms.specs.Schedule.{periodListed}
 use Rattle.terms.specs.Installment.{installmentOf}
@@ -127,8 +128,7 @@ schedule-keeps s now caller count code first paper h e =
 pub status-update-keeps : (s : SeenDeal) (allowed : Bool) (code : ℕ) → Keeps (s .row) (statusUpdateOf s allowed code)
 status-update-keeps s allowed code h e =
     let r = kept-ranges h in
-    let l = ltb-false 5 code (passed _ _ _ (passed _ _ _ e .1) .0) in
-    offer-kept h (withStatus code (s .row .offer)) (r .terms-in) (r .repaid-in) (le-leb code 5 l)
+    offer-kept h (withStatus code (s .row .offer)) (r .terms-in) (r .repaid-in) (not-false (statusListed code) (passed _ _ _ (passed _ _ _ e .1) .0))
 
 pub repaid-update-keeps : (s : SeenDeal) (allowed : Bool) (x : ℤ) → Keeps (s .row) (repaidUpdateOf s allowed x)
 repaid-update-keeps s allowed x h e =

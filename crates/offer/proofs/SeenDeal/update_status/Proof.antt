@@ -1,5 +1,4 @@
 use mathlib.Core.Path.{refl, _∙_}
-use borrow.Author.Tests.{lt-ltb, le-ltb}
 use Rattle.refusal.specs.Refusal.{unauthorized, invalidInput, notFound}
 use Rattle.refusal.specs.RuleLaws.{refuses, goes-on, does}
 use Rattle.offer.specs.Offer.{posted}
@@ -14,19 +13,19 @@ returns-2 : tie.Need-returns-2
 returns-2 c =
     c .refused2 .ensures ∙ (
     goes-on posted unauthorized _ _ _ (c .before .before .if1 .left)
-    (refuses posted invalidInput _ _ _ (lt-ltb _ _ (c .before .if2 .taken))))
+    (refuses posted invalidInput _ _ _ (c .before .if2 .taken)))
 
 returns-3 : tie.Need-returns-3
 returns-3 c =
     c .refused3 .ensures ∙ (
     goes-on posted unauthorized _ _ _ (c .before .before .before .before .if1 .left)
-    (goes-on posted invalidInput _ _ _ (le-ltb _ _ (c .before .before .before .if2 .left))
+    (goes-on posted invalidInput _ _ _ (c .before .before .before .if2 .left)
     (refuses posted notFound _ _ _ (c .before .if3 .taken))))
 
 returns-4 : tie.Need-returns-4
 returns-4 c =
     goes-on posted unauthorized _ _ _ (c .before .before .before .before .if1 .left)
-    (goes-on posted invalidInput _ _ _ (le-ltb _ _ (c .before .before .before .if2 .left))
+    (goes-on posted invalidInput _ _ _ (c .before .before .before .if2 .left)
     (goes-on posted notFound _ _ _ (c .before .if3 .left)
     (does posted _ _ refl)))
 
