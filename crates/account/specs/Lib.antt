@@ -1,3 +1,4 @@
+pub mod Purse
 pub mod Account
 pub mod Post
 pub mod Rules

@@ -1,5 +1,6 @@
 // A book of given rows, from a list of numbers in the order of crate bridge_show. Rows past the tables' room are left out.
 use account::Account;
+use account::Purse;
 use book::Book;
 use invoice::Invoice;
 use money::of_bits;
@@ -51,11 +52,14 @@ fn totals(s: &[u8; 65536]) -> Totals {
 }
 
 fn account(s: &[u8; 65536], at: usize) -> Account {
-    Account {
+    let purse = Purse {
         balance: of_bits(bridge_words::get(s, at, 1)),
         allowance: of_bits(bridge_words::get(s, at, 2)),
         offered: of_bits(bridge_words::get(s, at, 3)),
         accepted: of_bits(bridge_words::get(s, at, 4)),
+    };
+    Account {
+        purse,
         pending: bridge_words::half(bridge_words::get(s, at, 5)),
         repaid: bridge_words::half(bridge_words::get(s, at, 6)),
         blacklisted: bridge_words::get(s, at, 7) == 1,

@@ -28,11 +28,12 @@ fn totals(out: &mut [u8; 65536], at: usize, t: Totals) -> usize {
 }
 
 fn account(out: &mut [u8; 65536], at: usize, id: u64, a: Account) -> usize {
+    let purse = a.purse;
     let mut p = bridge_words::put(out, at, id);
-    p = bridge_words::put(out, p, money::bits(a.balance));
-    p = bridge_words::put(out, p, money::bits(a.allowance));
-    p = bridge_words::put(out, p, money::bits(a.offered));
-    p = bridge_words::put(out, p, money::bits(a.accepted));
+    p = bridge_words::put(out, p, money::bits(purse.balance));
+    p = bridge_words::put(out, p, money::bits(purse.allowance));
+    p = bridge_words::put(out, p, money::bits(purse.offered));
+    p = bridge_words::put(out, p, money::bits(purse.accepted));
     p = bridge_words::put(out, p, a.pending as u64);
     p = bridge_words::put(out, p, a.repaid as u64);
     bridge_words::put(out, p, bridge_words::flag(a.blacklisted))

@@ -119,13 +119,13 @@ ledger l (c ∷ h) = post (entryOf c) (ledger l h)
 
 -- ── What a book shows of it ───────────────────────────────────────
 abbrev pub balanceOf : Found Account → ℤ
-balanceOf s = seenAccount s .row .balance
+balanceOf s = seenAccount s .row .purse .balance
 
 abbrev pub offeredOf : Found Account → ℤ
-offeredOf s = seenAccount s .row .offered
+offeredOf s = seenAccount s .row .purse .offered
 
 abbrev pub acceptedIn : Found Account → ℤ
-acceptedIn s = seenAccount s .row .accepted
+acceptedIn s = seenAccount s .row .purse .accepted
 
 abbrev pub originatorIn : Found Invoice → ℕ
 originatorIn s = seenInvoice s .row .originator

@@ -10,7 +10,8 @@ use Rattle.refusal.specs.ChoiceLaws.{pick-on, pick-off}
 use Rattle.table.specs.Tables.{Found, absent, here, Table, find, insert}
 use Rattle.terms.specs.declared.Terms.{Terms}
 use Rattle.account.specs.declared.Account.{Account}
-use Rattle.account.specs.Account.{noAccount, gains, pays, accepts}
+use Rattle.account.specs.Purse.{gains, pays, accepts}
+use Rattle.account.specs.Account.{noAccount, withPurse}
 use Rattle.parties.specs.Settlement.{seenIn, settleAccounts}
 use Rattle.history.specs.History.{share}
 use Rattle.history.specs.Figures.{put, tally, at-insert, at-kept, figure-put, tally-put, tally-kept, tally-insert}
@@ -20,9 +21,9 @@ use Rattle.history.specs.Agrees.{Pursed}
 
 -- a row with the same three figures
 pub record Like (old new : Account) : Type 0 where
-  pub balance : new .balance ≡ old .balance
-  pub offered : new .offered ≡ old .offered
-  pub accepted : new .accepted ≡ old .accepted
+  pub balance : new .purse .balance ≡ old .purse .balance
+  pub offered : new .purse .offered ≡ old .purse .offered
+  pub accepted : new .purse .accepted ≡ old .purse .accepted
 
 -- a row let in that shows what is shown where there is none
 unseen : (v : Found Account → ℤ) (t : Table Account) (a : ℕ) (r : Account) → find t a ≡ absent → v (here r) ≡ v absent → (j : ℕ) → v (find (insert t a r) j) ≡ v (find t j)
@@ -51,18 +52,18 @@ module _ {q : Purses} {t : Table Account} (P : Pursed q t) where
 
   module _ (a : ℕ) (x : ℤ) (n : find t a ≡ here (seenIn t a .row)) where
     -- a deposit of x, and a payout of -x
-    pub moved : Pursed (banked a x q) (put t a (gains x (seenIn t a .row)))
+    pub moved : Pursed (banked a x q) (put t a (withPurse (gains x) (seenIn t a .row)))
     moved =
         let r : Account = seenIn t a .row in
         record {
-          balances = λ j. figure-put balanceOf t a r (gains x r) x n refl j ∙ ap (λ z. z +ℤ share a j x) (P .balances j);
-          offereds = λ j. at-kept offeredOf t a (gains x r) refl j ∙ P .offereds j;
-          accepteds = λ j. at-kept acceptedIn t a (gains x r) refl j ∙ P .accepteds j;
-          together = tally-put balanceOf t a r (gains x r) x n refl ∙ ap (λ z. z +ℤ x) (P .together);
+          balances = λ j. figure-put balanceOf t a r (withPurse (gains x) r) x n refl j ∙ ap (λ z. z +ℤ share a j x) (P .balances j);
+          offereds = λ j. at-kept offeredOf t a (withPurse (gains x) r) refl j ∙ P .offereds j;
+          accepteds = λ j. at-kept acceptedIn t a (withPurse (gains x) r) refl j ∙ P .accepteds j;
+          together = tally-put balanceOf t a r (withPurse (gains x) r) x n refl ∙ ap (λ z. z +ℤ x) (P .together);
         }
 
     -- an offer of x, and an amendment by x
-    pub offered-by : (new : Account) → new .offered ≡ seenIn t a .row .offered +ℤ x → new .balance ≡ seenIn t a .row .balance → new .accepted ≡ seenIn t a .row .accepted
+    pub offered-by : (new : Account) → new .purse .offered ≡ seenIn t a .row .purse .offered +ℤ x → new .purse .balance ≡ seenIn t a .row .purse .balance → new .purse .accepted ≡ seenIn t a .row .purse .accepted
         → Pursed (offering a x q) (put t a new)
     offered-by new e f g = record {
       balances = λ j. at-kept balanceOf t a new f j ∙ P .balances j;
@@ -74,11 +75,11 @@ module _ {q : Purses} {t : Table Account} (P : Pursed q t) where
   -- settlement: a pays, b has it, and a's accepted total grows; debit before credit if both are one row
   pub settled : (a b : ℕ) (x : Terms) → Passes (settleAccounts t a b x .checks) → Pursed (paying a b (x .amount) q) (settleAccounts t a b x .done)
   settled a b x p =
-      let one : Account = pays (negℤ (x .amount)) (seenIn t a .row) in
+      let one : Account = withPurse (pays (negℤ (x .amount))) (seenIn t a .row) in
       let u : Table Account = put t a one in
-      let two : Account = gains (x .amount) (seenIn u b .row) in
+      let two : Account = withPurse (gains (x .amount)) (seenIn u b .row) in
       let w : Table Account = put u b two in
-      let three : Account = accepts (x .amount) (seenIn w a .row) in
+      let three : Account = withPurse (accepts (x .amount)) (seenIn w a .row) in
       let e : find t a ≡ here (seenIn t a .row) = account-there (find t a) (search) in
       let f : find u b ≡ here (seenIn u b .row) = account-there (find u b) (search) in
       let g : find w a ≡ here (seenIn w a .row) = account-there (find w a) (search) in

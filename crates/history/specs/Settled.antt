@@ -9,7 +9,8 @@ use Rattle.refusal.specs.Choice.{pick}
 use Rattle.table.specs.Tables.{here, find}
 use Rattle.terms.specs.declared.Terms.{Terms}
 use Rattle.negotiation.specs.Rounds.{roundLimit}
-use Rattle.account.specs.Account.{reoffers}
+use Rattle.account.specs.Purse.{reoffers}
+use Rattle.account.specs.Account.{withPurse}
 use Rattle.totals.specs.Totals.{financeOf}
 use Rattle.parties.specs.Settlement.{settleAccounts}
 use Rattle.offer.specs.Rules.{agreementChecks}
@@ -71,6 +72,6 @@ module _ {l : Ledger} {m : Model} (A : Agrees l m) (now o : ℕ) where
           bargains = Bargains.amended (A .bargains) o now (m .settings .window) t n room;
           papers = A .papers;
           purses = subst (λ (z : Bargain). Pursed (offering (z .lender) (t .amount -ℤ z .terms .amount) (l .purses)) (amendedIn m now a o t .accounts)) (A .bargains .shown o)
-              (subst (λ z. Pursed (offering z x (l .purses)) (amendedIn m now a o t .accounts)) e (Purses.offered-by (A .purses) a x h (reoffers x (accountIn m a .row)) refl refl refl));
+              (subst (λ z. Pursed (offering z x (l .purses)) (amendedIn m now a o t .accounts)) e (Purses.offered-by (A .purses) a x h (withPurse (reoffers x) (accountIn m a .row)) refl refl refl));
           financed = A .financed;
         }

@@ -37,8 +37,8 @@ readSince s h = readAfter (saidBefore s) h
 -- ── The figures of m, after the accepted commands h from s ────────
 -- offered: a lender's offers count for their present amounts, less the amounts that they started with
 pub record MeetsSince (s : Model) (h : List Command) (m : Model) : Type 0 where
-  pub offereds : (a : ℕ) → accountIn m a .row .offered ≡ accountIn s a .row .offered -ℤ offered (saidBefore s) a +ℤ offered (readSince s h) a
-  pub accepteds : (a : ℕ) → accountIn m a .row .accepted ≡ accountIn s a .row .accepted +ℤ accepted (readSince s h) a
-  pub balances : (a : ℕ) → accountIn m a .row .balance ≡ accountIn s a .row .balance +ℤ balance (readSince s h) a
-  pub all-balances : sum (λ e. e .1 .balance) (m .accounts) ≡ sum (λ e. e .1 .balance) (s .accounts) +ℤ together (readSince s h)
+  pub offereds : (a : ℕ) → accountIn m a .row .purse .offered ≡ accountIn s a .row .purse .offered -ℤ offered (saidBefore s) a +ℤ offered (readSince s h) a
+  pub accepteds : (a : ℕ) → accountIn m a .row .purse .accepted ≡ accountIn s a .row .purse .accepted +ℤ accepted (readSince s h) a
+  pub balances : (a : ℕ) → accountIn m a .row .purse .balance ≡ accountIn s a .row .purse .balance +ℤ balance (readSince s h) a
+  pub all-balances : sum (λ e. e .1 .purse .balance) (m .accounts) ≡ sum (λ e. e .1 .purse .balance) (s .accounts) +ℤ together (readSince s h)
   pub financed-total : m .totals .financed ≡ s .totals .financed +ℤ financed (readSince s h)

@@ -35,8 +35,8 @@ pub account-most : (id : ℕ) (r : Account) → id < 18446744073709551616 → ac
 unfolding accountLine
 account-most id r h e =
     let k = sound-ranges e in
-    let ns : List ℕ = id ∷ magnitudeOf (r .balance) ∷ magnitudeOf (r .allowance) ∷ magnitudeOf (r .offered) ∷ magnitudeOf (r .accepted) ∷ [] in
-    let s : Small ns = (h, (total-small (r .balance) (k .balance-in), (total-small (r .allowance) (k .allowance-in), (total-small (r .offered) (k .offered-in), (total-small (r .accepted) (k .accepted-in), tt))))) in
+    let ns : List ℕ = id ∷ magnitudeOf (r .purse .balance) ∷ magnitudeOf (r .purse .allowance) ∷ magnitudeOf (r .purse .offered) ∷ magnitudeOf (r .purse .accepted) ∷ [] in
+    let s : Small ns = (h, (total-small (r .purse .balance) (k .balance-in), (total-small (r .purse .allowance) (k .allowance-in), (total-small (r .purse .offered) (k .offered-in), (total-small (r .purse .accepted) (k .accepted-in), tt))))) in
     rw (length-append accountWord) (omega (arith, numbers-most ns s))
 
 pub accounts-most : (t : Table Account) → Small (keys t) → All (λ r. accountSound r ≡ true) t → length (accountLines t) ≤ 113 * length t

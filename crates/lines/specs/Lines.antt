@@ -25,7 +25,7 @@ markLine n at = decimalOf n ++ numbersOf (number journalMalformed ∷ at ∷ [])
 
 -- columns: balance, allowance, offered, accepted
 unfoldable pub accountLine : ℕ → Account → List ℕ
-accountLine id r = accountWord ++ numbersOf (id ∷ magnitudeOf (r .balance) ∷ magnitudeOf (r .allowance) ∷ magnitudeOf (r .offered) ∷ magnitudeOf (r .accepted) ∷ [])
+accountLine id r = accountWord ++ numbersOf (id ∷ magnitudeOf (r .purse .balance) ∷ magnitudeOf (r .purse .allowance) ∷ magnitudeOf (r .purse .offered) ∷ magnitudeOf (r .purse .accepted) ∷ [])
 
 -- the accounts in the table's order, which is that of their ids
 unfoldable pub accountLines : Table Account → List ℕ

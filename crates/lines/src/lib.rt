@@ -29,10 +29,11 @@ pub fn put_account(out: &mut [u8], pen: Pen, ink: bool, id: u64, row: Account) -
     ensures { λ r. ⌜ Wrote ink (accountLine id row) (now (out .entry)) pen (now (out .exit)) r ⌝ }
 {
     let p = sheet::put(out, pen, ink, b"account");
-    let balance = money::magnitude(row.balance);
-    let allowance = money::magnitude(row.allowance);
-    let offered = money::magnitude(row.offered);
-    let accepted = money::magnitude(row.accepted);
+    let purse = row.purse;
+    let balance = money::magnitude(purse.balance);
+    let allowance = money::magnitude(purse.allowance);
+    let offered = money::magnitude(purse.offered);
+    let accepted = money::magnitude(purse.accepted);
     let xs = [id, balance, allowance, offered, accepted];
     sheet::put_numbers(out, p, ink, &xs)
 }

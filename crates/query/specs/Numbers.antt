@@ -22,7 +22,7 @@ abbrev pub scheduleNumbers : Schedule → ScheduleNumbers
 scheduleNumbers s = record { count = s .count; code = s .code; installment = bitsOf (s .installment); first = s .first }
 
 abbrev pub lenderNumbers : Account → LenderNumbers
-lenderNumbers a = record { offered = bitsOf (a .offered); accepted = bitsOf (a .accepted); pending = a .pending; repaid = a .repaid }
+lenderNumbers a = record { offered = bitsOf (a .purse .offered); accepted = bitsOf (a .purse .accepted); pending = a .pending; repaid = a .repaid }
 
 abbrev pub totalsNumbers : Totals → TotalsNumbers
 totalsNumbers t = record { offers = t .offers; financed = bitsOf (t .financed); repaid = bitsOf (t .repaid); fees = bitsOf (t .fees) }

@@ -97,8 +97,9 @@ impl LenderNumbers {
     fn of(a: Account) -> LenderNumbers
         ensures { λ r. ⌜ r ≡ lenderNumbers a ⌝ }
     {
-        let offered = money::bits(a.offered);
-        let accepted = money::bits(a.accepted);
+        let purse = a.purse;
+        let offered = money::bits(purse.offered);
+        let accepted = money::bits(purse.accepted);
         LenderNumbers {
             offered,
             accepted,

@@ -43,7 +43,7 @@ session-answers = refl
 
 -- balance, allowance, offered, accepted
 abbrev figures : Model → ℕ → List ℤ
-figures m a = accountIn m a .row .balance ∷ accountIn m a .row .allowance ∷ accountIn m a .row .offered ∷ accountIn m a .row .accepted ∷ []
+figures m a = accountIn m a .row .purse .balance ∷ accountIn m a .row .purse .allowance ∷ accountIn m a .row .purse .offered ∷ accountIn m a .row .purse .accepted ∷ []
 
 pub session-lender : figures (played freshModel session) 1 ≡ pos 4100 ∷ pos 4100 ∷ pos 900 ∷ pos 900 ∷ []
 unfolding played session pick first after find adjust insert termsOk sameTerms deadlineOf statusOf addedOf acceptedOf latestBelow matches agreesOf expired settledDeal amendedDeal counteredDeal settling concluding agreeing shapeOf accountNames offerNames settingsNames namesFor accountRule offerRule settingsRule ruled

@@ -1,5 +1,5 @@
--- A walk of the code by hand: the row's borrow is opened, its total is read and passed to `money::change`, of which only the
--- contract is known; the total that comes back is written, and the borrow is closed at the row with that total.
+-- A walk of the code by hand: the purse's borrow is opened, its total is read and passed to `money::change`, of which only the
+-- contract is known; the total that comes back is written, and the borrow is closed at the purse with that total.
 use mathlib.Core.Path.{_≡_, refl, ap}
 use Prim.Native.Nat.{ℕ}
 use mathlib.Core.List.{[], _∷_, List}
@@ -50,10 +50,10 @@ use Rattle.money.proofs.change.Symbol as change-def
 use Rattle.money.proofs.change.Symbol.{name as #money·change}
 use Rattle.money.proofs.change.Met as change-thm
 use Rattle.account.specs.Post.{withOffered}
-use Rattle.account.specs.declared.Account.{Account}
+use Rattle.account.specs.declared.Purse.{Purse}
 use Rattle.account.proofs.Row.{num, Fits, val, offered-fits, written, offered-put, Amounts, amounts}
-use Rattle.account.proofs.Account as T
-use Rattle.account.proofs.Account.Laws as T′
+use Rattle.account.proofs.Purse as T
+use Rattle.account.proofs.Purse.Laws as T′
 use Rattle.account.proofs.post.Key.{name as #account·post}
 use Rattle.account.proofs.post as f
 use Rattle.account.proofs.post.Statement as stated
@@ -66,8 +66,8 @@ stayed = (stay-ref (0 ∷ []) tt (plain (λ _. T.the-row)), (stay-none (λ _. i6
 abbrev Change : {M : Type 1} (𝓤 : URA M) (H : Heap 𝓤) (A : Atoms 𝓤) (at-mem : Memory → SProp 𝓤) (run : Routine → Fun 𝓤) → Contract 𝓤
 Change 𝓤 H A at-mem run = tripleOf 𝓤 H A change.signature (change.spec 𝓤 H A at-mem run)
 
-module _ {M : Type 1} (𝓤 : URA M) (H : Heap 𝓤) (A : Atoms 𝓤) (W : Given 𝓤 H A) (at-mem : Memory → SProp 𝓤) (run : Routine → Fun 𝓤) (κ : Lft) (q : Share) (b o : ℕ) (γ : GName) (h : Account) (old new : ℤ) (old-fits : Fits old) (new-fits : Fits new) where
-  abbrev x : RefT Account × (ℤ × (ℤ × Unit {0}))
+module _ {M : Type 1} (𝓤 : URA M) (H : Heap 𝓤) (A : Atoms 𝓤) (W : Given 𝓤 H A) (at-mem : Memory → SProp 𝓤) (run : Routine → Fun 𝓤) (κ : Lft) (q : Share) (b o : ℕ) (γ : GName) (h : Purse) (old new : ℤ) (old-fits : Fits old) (new-fits : Fits new) where
+  abbrev x : RefT Purse × (ℤ × (ℤ × Unit {0}))
   x = (record { ptr = (b, o); name = γ; now = h }, (old, (new, tt)))
 
   abbrev at : List Val × (List Val × (List Val × Unit {0}))
@@ -86,7 +86,7 @@ module _ {M : Type 1} (𝓤 : URA M) (H : Heap 𝓤) (A : Atoms 𝓤) (W : Given
       use0 W (‵ (Amounts old new)) (amounts 𝓤 H A W old new old-fits new-fits) $ move ! (1 ∷ 0 ∷ []) $ fjoin ! $
       owned ! bool (Is bool) (bool-makes 𝓤 H A W) (r .ok) _ refl $ move ! (1 ∷ 0 ∷ []) $ done !
 
-  -- what `change` is passed, and that the row's owner has what it asks
+  -- what `change` is passed, and that the purse's owner has what it asks
   abbrev given-to : ℤ × (ℤ × (ℤ × Unit {0}))
   given-to = (h .offered, (old, (new, tt)))
 
@@ -113,14 +113,14 @@ module _ {M : Type 1} (𝓤 : URA M) (H : Heap 𝓤) (A : Atoms 𝓤) (W : Given
         pass1 ! (init ! 8 refl (tt, tt)) $ pass1 ! (init ! 6 refl (tt, fits-ofZ {z = old} (record { sfits = old-fits }))) $ pass1 ! (init ! 4 refl (tt, fits-ofZ {z = new} (record { sfits = new-fits }))) $ pass0 ! $
         move ! (12 ∷ 13 ∷ 14 ∷ []) $ opens ! tt T.the-row {h = h} b o (λ vs. spelt ! T.the-row (Is T.the-row) (shows 𝓤 H A T.the-row) (LL.vals T.the-type T′.the-laws) (LL.tells T.the-type T′.the-laws) fullShare h vs b o $
         move ! (1 ∷ []) $ peeks ! T.the-row (Is T.the-row) (shows 𝓤 H A T.the-row) h (val h ∷ []) (λ was. move ! (1 ∷ 0 ∷ []) $
-        -- [the row's cell; what an Account owns; the open borrow; obs; auth; _5; …; _4; …; _3; …; _2; …; _1; …; room for _0; …]
+        -- [the purse's cell; what a Purse owns; the open borrow; obs; auth; _5; …; _4; …; _3; …; _2; …; _1; …; room for _0; …]
         assigns ! (of-opd ! (load ! (from ! (hop ! (look ! 13 refl) (fld ! refl (stop !)))) (look-in ! 0 (sub ! 2 refl (whole !))))) (from ! (stop !)) (init ! 5 refl (tt, fits-ofZ {z = h .offered} (record { sfits = offered-fits h was }))) $
         use0 W (‵ (Amounts old new)) (amounts 𝓤 H A W old new old-fits new-fits) $
         owned ! i64 (Is i64) (sint-makes 𝓤 H A W w64) (h .offered) _ (refl, offered-fits h was) $ fjoin ! $ nothing ! $ use2 W (raw (Change 𝓤 H A at-mem run .pre to-change)) goes-change $
         calls-at ! fm (Change 𝓤 H A at-mem run) known to-change (and-then ! (load ! (from ! (stop !)) (look ! 6 refl)) (and-then ! (load ! (from ! (stop !)) (look ! 12 refl)) (and-then ! (load ! (from ! (stop !)) (look ! 10 refl)) (no-more !)))) (λ v.
         use1 W (later (some (λ (r : Moved). (‵ ftrue ⊛ ‵ (Mv.the-row .own r (v ∷ []))) ⊛ raw (ensured 𝓤 H A change.ended (change.clauses 𝓤 H A at-mem run) tt given-to tt r)))) (id⊢ 𝓤 _) $ await ! tt $ pick ! (λ r.
         split ! $ move ! (1 ∷ []) $ use1 W (raw (fact 𝓤 (r ≡ movedOf (h .offered) (new -ℤ old)))) (said r) $ heard ! (r ≡ movedOf (h .offered) (new -ℤ old)) (λ e. split ! $ drop ! $
-        -- [what the Moved owns; the row's cell; …]
+        -- [what the Moved owns; the purse's cell; …]
         peeks ! Mv.the-row (Is Mv.the-row) (shows 𝓤 H A Mv.the-row) r (v ∷ []) (λ is.
         land ! (from ! (stop !)) (init ! 8 refl (LL.lawful Mv.the-type Mv′.the-laws 𝓤 H A W .typed r _ is .0)) $
         rewrite ! 8 (λ (us : List Val). ‵ (fat fullShare Mv′.mir l₄ 0 (only us))) (LL.tells Mv.the-type Mv′.the-laws r (v ∷ []) is) refl $

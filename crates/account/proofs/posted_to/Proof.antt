@@ -1,4 +1,4 @@
--- A walk of the code by hand: the row lies in a local, which is lent to `post` for a lifetime of its own. All that is known of
+-- A walk of the code by hand: the purse lies in a local, which is lent to `post` for a lifetime of its own. All that is known of
 -- `post` is its contract, which says the last value of what was lent; that is what the local holds once the lifetime is over.
 use mathlib.Core.Path.{refl}
 use mathlib.Core.Bool.{Bool}
@@ -40,14 +40,14 @@ use denote.Triple.Clauses.{ensured, lasts}
 use denote.Triple.Table.{entered, cited}
 use denote.Triple.Walked.{says, Stays, stay-none, walkOf, goes-none, ends-at, walked, walk-meets}
 use denote.Exit.{yes}
-use Rattle.account.specs.declared.Account.{Account}
-use Rattle.account.specs.declared.MovedAccount.{MovedAccount}
-use Rattle.account.proofs.Row.{num, Fits, val, Good, moved-val, moved-good, row-typed, moved-typed, Amounts, amounts}
+use Rattle.account.specs.declared.Purse.{Purse}
+use Rattle.account.specs.declared.MovedPurse.{MovedPurse}
+use Rattle.account.proofs.Row.{num, Fits, val, Good, moved-val, moved-good, purse-typed, moved-typed, Amounts, amounts}
 use Rattle.account.proofs.Lent.{lies-in, lies-out, Said, passed, own-ref, Posts, to-post, goes-post}
-use Rattle.account.proofs.Account as T
-use Rattle.account.proofs.Account.Laws as T′
-use Rattle.account.proofs.MovedAccount as R
-use Rattle.account.proofs.MovedAccount.Laws as R′
+use Rattle.account.proofs.Purse as T
+use Rattle.account.proofs.Purse.Laws as T′
+use Rattle.account.proofs.MovedPurse as R
+use Rattle.account.proofs.MovedPurse.Laws as R′
 use Rattle.account.proofs.post as post
 use Rattle.account.proofs.post.Symbol as post-def
 use Rattle.account.proofs.post.Symbol.{name as #account·post}
@@ -60,8 +60,8 @@ use Rattle.account.proofs.posted_to.Code as code
 abbrev stayed : Stays (f.ended .signature .params) (f.ended .kept)
 stayed = (stay-none (λ _. T.the-row) yes, (stay-none (λ _. i64) yes, (stay-none (λ _. i64) yes, tt)))
 
-module _ {M : Type 1} (𝓤 : URA M) (H : Heap 𝓤) (A : Atoms 𝓤) (W : Given 𝓤 H A) (at-mem : Memory → SProp 𝓤) (run : Routine → Fun 𝓤) (h : Account) (old new : ℤ) (good : Good h) (old-fits : Fits old) (new-fits : Fits new) where
-  abbrev x : Account × (ℤ × (ℤ × Unit {0}))
+module _ {M : Type 1} (𝓤 : URA M) (H : Heap 𝓤) (A : Atoms 𝓤) (W : Given 𝓤 H A) (at-mem : Memory → SProp 𝓤) (run : Routine → Fun 𝓤) (h : Purse) (old new : ℤ) (good : Good h) (old-fits : Fits old) (new-fits : Fits new) where
+  abbrev x : Purse × (ℤ × (ℤ × Unit {0}))
   x = (h, (old, (new, tt)))
 
   abbrev at : List Val × (List Val × (List Val × Unit {0}))
@@ -70,10 +70,10 @@ module _ {M : Type 1} (𝓤 : URA M) (H : Heap 𝓤) (A : Atoms 𝓤) (W : Given
   abbrev Post : Val → SProp 𝓤
   Post = walkOf 𝓤 H A f.ended stayed (f.clauses 𝓤 H A at-mem run) .post ((tt, tt, tt, x, at), tt)
 
-  abbrev res : Bool → Account → MovedAccount
-  res ok z = record { ok = ok; row = z }
+  abbrev res : Bool → Purse → MovedPurse
+  res ok z = record { ok = ok; purse = z }
 
-  exits : (ok : Bool) (z : Account) → Said h old new ok z → Good z → ent 𝓤 (emp 𝓤) (Post (moved-val (res ok z)))
+  exits : (ok : Bool) (z : Purse) → Said h old new ok z → Good z → ent 𝓤 (emp 𝓤) (Post (moved-val (res ok z)))
   exits ok z e g =
       qed W [] ∵ suffices ! _ (ends-at 𝓤 H A f.ended stayed (f.clauses 𝓤 H A at-mem run) W ((tt, tt, tt, x, at), tt) (moved-val (res ok z)) (res ok z) (tt, (tt, (tt, tt))) (tt, (tt, (tt, tt)))) $
       says ! (λ i. res (e .0 i) (e .1 i)) $ owned ! R.the-row (Is R.the-row) (LL.makes R.the-type R′.the-plain 𝓤 H A) (res ok z) _ (moved-good ok z g) $
@@ -85,10 +85,10 @@ module _ {M : Type 1} (𝓤 : URA M) (H : Heap 𝓤) (A : Atoms 𝓤) (W : Given
     walk =
         qed W (‵ ftrue ∷ ‵ (owns (T.the-row ∷ i64 ∷ i64 ∷ []) x at) ∷ []) ∵ enter ! C Λ code.function (val h ∷ num old ∷ num new ∷ []) _ $
         alloc1 ! (λ l₀. alloc1 ! (λ l₁. alloc1 ! (λ l₂. alloc1 ! (λ l₃. alloc1 ! (λ l₄. alloc1 ! (λ l₅. alloc1 ! (λ l₆. alloc1 ! (λ l₇. alloc0 ! $ params1 ! $
-        pass1 ! (init ! 12 refl (row-typed 𝓤 H A W h good)) $
+        pass1 ! (init ! 12 refl (purse-typed 𝓤 H A W h good)) $
         pass1 ! (init ! 10 refl (tt, fits-ofZ {z = old} (record { sfits = old-fits }))) $ pass1 ! (init ! 8 refl (tt, fits-ofZ {z = new} (record { sfits = new-fits }))) $ pass0 ! $
         -- [_7; …; _6; …; _5; …; _4; …; _3; …; _2; …; _1; …; room for _0; …]
-        assigns ! (of-opd ! (load ! (from ! (stop !)) (look ! 12 refl))) (from ! (stop !)) (init ! 6 refl (row-typed 𝓤 H A W h good)) $
+        assigns ! (of-opd ! (load ! (from ! (stop !)) (look ! 12 refl))) (from ! (stop !)) (init ! 6 refl (purse-typed 𝓤 H A W h good)) $
         assigns ! (addr ! (from ! (stop !))) (from ! (stop !)) (init ! 2 refl (tt, tt)) $
         -- the local is lent for α
         move ! (6 ∷ []) $ use1 W (‵ (mem T.the-row .lies h l₄ 0)) (lies-in 𝓤 H A W h l₄ good) $ lft-new ! tt (λ α. move ! (1 ∷ []) $
@@ -97,7 +97,7 @@ module _ {M : Type 1} (𝓤 : URA M) (H : Heap 𝓤) (A : Atoms 𝓤) (W : Given
         -- [what `post` asks; the lender's part; _7; …; _6; …; _5; …; …; _3; …; _2; …; _1; …; room for _0; …]
         calls-at ! fm (Posts 𝓤 H A at-mem run) known (to-post 𝓤 H A at-mem run h old new α l₄ γ) (and-then ! (load ! (from ! (stop !)) (look ! 4 refl)) (and-then ! (load ! (from ! (stop !)) (look ! 11 refl)) (and-then ! (load ! (from ! (stop !)) (look ! 9 refl)) (no-more !)))) (λ w.
         use1 W (later (some (λ (ok : Bool). ((‵ (flft (α ∷ []) fullShare) ⊛ ‵ ftrue) ⊛ ‵ (bool .own ok (w ∷ []))) ⊛ raw (ensured 𝓤 H A post.ended (post.clauses 𝓤 H A at-mem run) (α ∷ [], tt) (passed h old new l₄ γ) tt ok)))) (id⊢ 𝓤 _) $ await ! tt $ pick ! (λ ok.
-        split ! $ move ! (1 ∷ []) $ use1 W (some (λ (zs : Account × (Unit {0} × (Unit {0} × Unit {0}))). ‵ (lasts post.ended (α ∷ [], tt) (passed h old new l₄ γ) zs) ⊛ raw (fact 𝓤 (Said h old new ok (zs .0))))) (id⊢ 𝓤 _) $ pick ! (λ zs.
+        split ! $ move ! (1 ∷ []) $ use1 W (some (λ (zs : Purse × (Unit {0} × (Unit {0} × Unit {0}))). ‵ (lasts post.ended (α ∷ [], tt) (passed h old new l₄ γ) zs) ⊛ raw (fact 𝓤 (Said h old new ok (zs .0))))) (id⊢ 𝓤 _) $ pick ! (λ zs.
         split ! $ move ! (1 ∷ []) $ heard ! (Said h old new ok (zs .0)) (λ e. fsplit ! $ move ! (2 ∷ []) $ split ! $ split ! $ move ! (2 ∷ []) $
         -- [what the flag owns; the token; true; the last value; …; the lender's part; _7; …; _6; …; _5; …]
         peeks ! bool (Is bool) (shows 𝓤 H A bool) ok (w ∷ []) (λ is. land ! (from ! (stop !)) (init ! 10 refl (bool-lawful 𝓤 H A W .typed ok _ is .0)) $
@@ -106,7 +106,7 @@ module _ {M : Type 1} (𝓤 : URA M) (H : Heap 𝓤) (A : Atoms 𝓤) (W : Given
         move ! (1 ∷ []) $ lft-end ! tt $ move ! (0 ∷ 5 ∷ 3 ∷ []) $ use3 W (later (‵ (mem T.the-row .lies (zs .0) l₄ 0))) (ref-back 𝓤 H A W T.the-row (α ∷ []) γ (zs .0) l₄ 0) $ await ! tt $
         use1 W (given (Good (zs .0)) (‵ (fat fullShare T′.mir l₄ 0 (val (zs .0))))) (lies-out 𝓤 H A W (zs .0) l₄) $ learn ! (λ g.
         -- [_4; …; …; …; _7; …; _6; …; _5; …; …; _3; …; _2; …; _1; …; room for _0; …]
-        assigns ! (of-opd ! (load ! (from ! (stop !)) (look ! 0 refl))) (from ! (stop !)) (init ! 4 refl (row-typed 𝓤 H A W (zs .0) g)) $
+        assigns ! (of-opd ! (load ! (from ! (stop !)) (look ! 0 refl))) (from ! (stop !)) (init ! 4 refl (purse-typed 𝓤 H A W (zs .0) g)) $
         assigns ! (agg ! (and-then ! (load ! (from ! (stop !)) (look ! 8 refl)) (and-then ! (load ! (from ! (stop !)) (look ! 4 refl)) (no-more !)))) (from ! (stop !)) (init ! 17 refl (moved-typed 𝓤 H A W (res ok (zs .0)) (moved-good ok (zs .0) g))) $
         returns ! (look ! 17 refl) $ forget ! 0 refl $ forget ! 4 refl $ forget ! 6 refl $ forget ! 8 refl $ forget ! 11 refl $ forget ! 13 refl $ forget ! 15 refl $ forget ! 17 refl $
         move ! (17 ∷ 18 ∷ []) $ free1 ! $ move ! (15 ∷ 16 ∷ []) $ free1 ! $ move ! (13 ∷ 14 ∷ []) $ free1 ! $ move ! (11 ∷ 12 ∷ []) $ free1 ! $ move ! (0 ∷ 10 ∷ []) $ free1 ! $ move ! (7 ∷ 8 ∷ []) $ free1 ! $ move ! (5 ∷ 6 ∷ []) $ free1 ! $ move ! (3 ∷ 4 ∷ []) $ free1 ! $ free0 ! $

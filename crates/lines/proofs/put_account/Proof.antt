@@ -10,12 +10,12 @@ use Rattle.lines.proofs.put_account.Tie as tie
 returns : tie.Need-returns
 unfolding accountLine
 returns c =
-    let row = c .before .before .before .before .before .before .before .before .before .before .before .before .before .before .before .before .before .before .before .args .row in
-    let balance = c .before .before .before .before .before .before .before .before .before .before .before .magnitude .ensures ∙ ap magnitudeOf (back (row .balance) (c .before .before .before .before .before .before .before .before .before .before .before .before .struct-told .given .0 .1)) in
-    let allowance = c .before .before .before .before .before .before .before .before .before .magnitude2 .ensures ∙ ap magnitudeOf (back (row .allowance) (c .before .before .before .before .before .before .before .before .before .before .struct-told2 .given .1 .0 .1)) in
-    let offered = c .before .before .before .before .before .before .before .magnitude3 .ensures ∙ ap magnitudeOf (back (row .offered) (c .before .before .before .before .before .before .before .before .struct-told3 .given .1 .1 .0 .1)) in
-    let accepted = c .before .before .before .before .before .magnitude4 .ensures ∙ ap magnitudeOf (back (row .accepted) (c .before .before .before .before .before .before .struct-told4 .given .1 .1 .1 .0 .1)) in
-    next (c .before .before .before .before .before .before .before .before .before .before .before .before .before .before .before .put .ensures) (retext (c .before .before .put-numbers .ensures) (cc))
+    let p = c .before .before .before .before .before .before .before .before .before .before .before .before .before .before .before .before .before .before .before .before .args .row .purse in
+    let balance = c .before .before .before .before .before .before .before .before .before .before .before .magnitude .ensures ∙ ap magnitudeOf (back (p .balance) (search needs)) in
+    let allowance = c .before .before .before .before .before .before .before .before .before .magnitude2 .ensures ∙ ap magnitudeOf (back (p .allowance) (search needs)) in
+    let offered = c .before .before .before .before .before .before .before .magnitude3 .ensures ∙ ap magnitudeOf (back (p .offered) (search needs)) in
+    let accepted = c .before .before .before .before .before .magnitude4 .ensures ∙ ap magnitudeOf (back (p .accepted) (search needs)) in
+    next (c .before .before .before .before .before .before .before .before .before .before .before .before .before .before .before .before .put .ensures) (retext (c .before .before .put-numbers .ensures) (cc))
 
 pub put-account-spec : {M : Type 1} → statement M
 put-account-spec =

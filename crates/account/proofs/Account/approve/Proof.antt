@@ -13,12 +13,12 @@ amount-in : (c : tie.After-in-total-range) → c .in-total-range .result ≡ inT
 amount-in c = simp (toZ-ofZ (c .before .fits .amount)) at (c .in-total-range .ensures)
 
 returns : tie.Need-returns
-returns c = refuses posted invalidInput _ _ _ (ap not (sym (amount-in (c .before))) ∙ c .if1 .taken)
+returns c = c .refused .ensures ∙ refuses posted invalidInput _ _ _ (ap not (sym (amount-in (c .before .before))) ∙ c .before .if1 .taken)
 
 returns-2 : tie.Need-returns-2
 returns-2 c =
-    goes-on posted invalidInput _ _ _ (ap not (sym (amount-in (c .before))) ∙ c .if1 .left)
-    (does posted _ _ (rw (toZ-ofZ (c .before .before .fits .amount))))
+    goes-on posted invalidInput _ _ _ (ap not (sym (amount-in (c .before .before))) ∙ c .before .if1 .left)
+    (does posted _ _ (rw (toZ-ofZ (c .before .before .before .fits .amount))))
 
 pub approve-spec : {M : Type 1} → statement M
-approve-spec = tie.close (tie.spec (λ c κs. search needs) returns returns-2)
+approve-spec = tie.close (tie.spec (λ c κs. search needs) (λ c κs. search needs) returns returns-2)

@@ -1,51 +1,61 @@
-use Rattle.money.specs.Range.{countLimit}
-use mathlib.Core.Path.{refl}
-use Prim.Native.Nat.{_+_}
+use mathlib.Core.Path.{_≡_, refl, sym, _∙_}
+use Prim.Native.Nat.{_+_, _≤_}
 use native.Mathlib.Omega.{arith}
-use borrow.Author.Tests.{lt-ltb, le-ltb}
-use Rattle.account.specs.Rules.{posted}
-use Rattle.refusal.specs.Refusal.{unauthorized, invalidInput, notFound, outOfRange}
-use Rattle.refusal.specs.RuleLaws.{refuses, goes-on, does}
+use borrow.Author.Tests.{lt-ltb, le-ltb, ltb-false, eqb-true, eqb-false, not-true, not-false}
+use Rattle.money.specs.Range.{countLimit}
+use Rattle.account.specs.Rules.{posted, flagChecks}
+use Rattle.refusal.specs.Refusal.{first, outOfRange}
+use Rattle.refusal.specs.RefusalLaws.{refusal-not-0, fails, passes, none-left}
+use Rattle.refusal.specs.RuleLaws.{refused, accepted, passed}
+use Rattle.refusal.specs.Chain.{stops, goes}
 use borrow.Author.Needs.{needs}
 use Rattle.account.proofs.SeenAccount.lender_repaid.Statement.{statement}
 use Rattle.account.proofs.SeenAccount.lender_repaid.Tie as tie
 
+-- where nothing stands against the flag, it is 0 or 1
+clear : (c : tie.Else1) → let a = c .before .before .before .args in first (flagChecks (a .self) (a .allowed) (a .flag)) ≡ 0
+clear c = sym (c .before .flag-refusal .ensures) ∙ eqb-true _ _ (not-false _ (c .if1 .left))
+
+small : (c : tie.Else1) → c .before .before .before .args .flag ≤ 1
+small c = ltb-false 1 _ (passed _ _ _ (passed _ _ _ (clear c) .1) .0)
+
 returns : tie.Need-returns
-returns c = refuses posted unauthorized _ _ _ (c .if1 .taken)
+returns c =
+    let stopped = eqb-false (c .before .before .flag-refusal .result) 0 (not-true _ (c .before .if1 .taken)) in
+    c .refused .ensures ∙ refused posted _ _ (stops _ _ (c .before .before .flag-refusal .ensures) stopped) stopped
 
 returns-2 : tie.Need-returns-2
 returns-2 c =
-    goes-on posted unauthorized _ _ _ (c .before .if1 .left)
-    (refuses posted invalidInput _ _ _ (lt-ltb _ _ (c .if2 .taken)))
+    let a = c .before .before .before .before .before .args in
+    c .refused2 .ensures
+    ∙ refused posted _ _ (goes _ _ (clear (c .before .before)) (fails outOfRange _ (lt-ltb countLimit (a .self .row .repaid + a .flag) (omega arith)))) (eqb-false _ _ (refusal-not-0 outOfRange))
+
+add-if3 : tie.Need-add-if3
+add-if3 c = let s = small (c .before) in search needs
 
 returns-3 : tie.Need-returns-3
 returns-3 c =
-    goes-on posted unauthorized _ _ _ (c .before .before .before .if1 .left)
-    (goes-on posted invalidInput _ _ _ (le-ltb _ _ (c .before .before .if2 .left))
-    (refuses posted notFound _ _ _ (c .if3 .taken)))
+    c .refused3 .ensures
+    ∙ refused posted _ _ (goes _ _ (clear (c .before .before .before)) (fails outOfRange _ (lt-ltb _ _ (c .before .if3 .taken)))) (eqb-false _ _ (refusal-not-0 outOfRange))
+
+add-row : tie.Need-add-row
+add-row c = let s = small (c .before .before) in search needs
 
 returns-4 : tie.Need-returns-4
 returns-4 c =
-    goes-on posted unauthorized _ _ _ (c .before .before .before .before .if1 .left)
-    (goes-on posted invalidInput _ _ _ (le-ltb _ _ (c .before .before .before .if2 .left))
-    (goes-on posted notFound _ _ _ (c .before .if3 .left)
-    (refuses posted outOfRange _ _ _ (let a = c .before .before .before .before .before .before .args in lt-ltb countLimit (a .self .row .repaid + a .flag) (omega arith)))))
-
-returns-5 : tie.Need-returns-5
-returns-5 c =
-    goes-on posted unauthorized _ _ _ (c .before .before .before .before .before .if1 .left)
-    (goes-on posted invalidInput _ _ _ (le-ltb _ _ (c .before .before .before .before .if2 .left))
-    (goes-on posted notFound _ _ _ (c .before .before .if3 .left)
-    (refuses posted outOfRange _ _ _ (lt-ltb _ _ (c .if5 .taken)))))
-
-returns-6 : tie.Need-returns-6
-returns-6 c =
-    goes-on posted unauthorized _ _ _ (c .before .before .before .before .before .if1 .left)
-    (goes-on posted invalidInput _ _ _ (le-ltb _ _ (c .before .before .before .before .if2 .left))
-    (goes-on posted notFound _ _ _ (c .before .before .if3 .left)
-    (goes-on posted outOfRange _ _ _ (le-ltb _ _ (c .if5 .left))
-    (does posted _ _ refl))))
+    accepted posted _ _ (goes _ _ (clear (c .before .before)) (passes outOfRange _ (le-ltb _ _ (c .if3 .left)) none-left)) refl refl
 
 pub lender-repaid-spec : {M : Type 1} → statement M
 lender-repaid-spec =
-    tie.close (tie.spec returns returns-2 returns-3 returns-4 (λ c. search needs) returns-5 (λ c. search needs) returns-6)
+    tie.close
+    (tie.spec
+    (λ c κs. search needs)
+    (λ c κs. search needs)
+    returns
+    (λ c κs. search needs)
+    returns-2
+    add-if3
+    (λ c κs. search needs)
+    returns-3
+    add-row
+    returns-4)

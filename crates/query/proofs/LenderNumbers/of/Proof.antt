@@ -4,9 +4,9 @@ use Rattle.query.proofs.LenderNumbers.of.Statement.{statement}
 use Rattle.query.proofs.LenderNumbers.of.Tie as tie
 
 returns : tie.Need-returns
-returns c = rw (
-  simp (back (c .before .before .before .before .before .before .args .a .offered) (c .before .before .before .before .before .struct-told .given .1 .1 .0 .1)) at (c .before .before .before .before .bits .ensures),
-  simp (back (c .before .before .before .before .before .before .args .a .accepted) (c .before .before .before .struct-told2 .given .1 .1 .1 .0 .1)) at (c .before .before .bits2 .ensures),
+returns c = let p = c .before .before .before .before .before .before .before .args .a .purse in rw (
+  simp (back (p .offered) (search needs)) at (c .before .before .before .before .bits .ensures),
+  simp (back (p .accepted) (search needs)) at (c .before .before .bits2 .ensures),
 )
 
 pub of-spec : {M : Type 1} → statement M
