@@ -1,5 +1,5 @@
 -- The book of a run is the book after its commands; and what every accepted command keeps holds after any.
-use mathlib.Core.Path.{_≡_, refl, ap, _∙_}
+use mathlib.Core.Path.{_≡_, refl, sym, ap, _∙_}
 use mathlib.Core.Bool.{Bool, true, false}
 use mathlib.Core.List.{List, [], _∷_}
 use lib.Dec.{eqb}
@@ -9,9 +9,13 @@ use Rattle.refusal.specs.Rule.{after}
 use Rattle.command.specs.declared.Command.{Command}
 use Rattle.rules.specs.Model.{Model}
 use Rattle.rules.specs.Rules.{commanded}
-use Rattle.soundness.specs.Played.{answerTo, played}
+use Rattle.soundness.specs.Played.{answerTo, played, acceptedBy}
 use Rattle.history.specs.Passed.{Passes, all-pass}
 use Rattle.history.specs.Run.{Run, taken, go, run}
+use Rattle.book.specs.Stored.{stored, answers}
+use Rattle.soundness.specs.Sound.{ModelSound}
+use Rattle.soundness.specs.Keeps.{stays-sound}
+use Rattle.soundness.specs.Calls.{one-answer, one-call}
 
 -- the book that a command leaves, as the code's answer has it
 go-after : (r : Run) (c : Command) → go r c .model ≡ after (r .model) (commanded (r .model) c)
@@ -27,6 +31,19 @@ pub run-played : (r : Run) (cs : List Command) → run r cs .model ≡ played (r
 unfolding run played
 run-played r [] = refl
 run-played r (c ∷ cs) = run-played (go r c) cs ∙ ap (λ m. played m cs) (go-after r c)
+
+-- the accepted commands are those that the calls of the code accept
+pub run-accepted : {m : Model} → ModelSound m → (h cs : List Command) → run (record { history = h; model = m }) cs .history ≡ acceptedBy h (stored m) cs
+unfolding run acceptedBy
+run-accepted s h [] = refl
+run-accepted {m} s h (c ∷ cs) =
+    ap (λ r. run r cs .history) (gone (eqb (answerTo m c) 0))
+    ∙ run-accepted (stays-sound s c) (pick (eqb (answerTo m c) 0) (c ∷ h) h) cs
+    ∙ sym (ap (λ n. acceptedBy (pick (eqb n 0) (c ∷ h) h) (answers (stored m) c .book) cs) (one-answer s c) ∙ ap (λ b. acceptedBy (pick (eqb (answerTo m c) 0) (c ∷ h) h) b cs) (one-call s c))
+  where
+    gone : (g : Bool) → pick g (taken (record { history = h; model = m }) c) (record { history = h; model = m }) ≡ record { history = pick g (c ∷ h) h; model = pick g (commanded m c .done) m }
+    gone true = refl
+    gone false = refl
 
 -- what every accepted command keeps holds after any commands
 module _ (P : List Command → Model → Type 0) (keep : (h : List Command) (m : Model) (c : Command) → P h m → Passes (commanded m c .checks) → P (c ∷ h) (commanded m c .done)) where

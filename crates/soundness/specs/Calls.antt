@@ -17,7 +17,7 @@ use Rattle.book.specs.Shelving.{back, model-stored}
 use Rattle.book.specs.Tested.{shelved-of}
 use Rattle.soundness.specs.Sound.{ModelSound}
 use Rattle.soundness.specs.Keeps.{stays-sound}
-use Rattle.soundness.specs.Played.{called, played}
+use Rattle.soundness.specs.Played.{answerTo, called, played}
 use Rattle.soundness.specs.Books.{Typed, book-sound}
 
 -- ── A refusal returns the very book ───────────────────────────────
@@ -42,7 +42,14 @@ module _ (b : Book) (c : Command) where
       go false e h = refl
 
 -- ── Any calls ─────────────────────────────────────────────────────
-one-call : {m : Model} → ModelSound m → (c : Command) → answers (stored m) c .book ≡ stored (after m (commanded m c))
+-- what one answers and what it leaves is what the rules say
+pub one-answer : {m : Model} → ModelSound m → (c : Command) → answers (stored m) c .answer ≡ answerTo m c
+unfolding answers answered
+one-answer {m} s c =
+    ap (λ z. z .answer) (pick-on (answered stepOf (modelOf (stored m)) (commanded (modelOf (stored m)) c)) _ (book-sound s))
+    ∙ ap (λ n. answerTo n c) (model-stored (s .fits))
+
+pub one-call : {m : Model} → ModelSound m → (c : Command) → answers (stored m) c .book ≡ stored (after m (commanded m c))
 unfolding answers answered
 one-call {m} s c =
     ap (λ z. z .book) (pick-on (answered stepOf (modelOf (stored m)) (commanded (modelOf (stored m)) c)) _ (book-sound s))

@@ -1,6 +1,8 @@
 -- The book after any commands, refused ones among them, and their answers: of the model, and of the code.
 use Prim.Native.Nat.{ℕ}
 use mathlib.Core.List.{List, [], _∷_}
+use lib.Dec.{eqb}
+use Rattle.refusal.specs.Choice.{pick}
 use Rattle.refusal.specs.Refusal.{first}
 use Rattle.refusal.specs.Rule.{after}
 use Rattle.command.specs.declared.Command.{Command}
@@ -28,3 +30,8 @@ answersOf m (c ∷ cs) = answerTo m c ∷ answersOf (obeyed m c) cs
 unfoldable pub called : Book → List Command → Book
 called b [] = b
 called b (c ∷ cs) = called (answers b c .book) cs
+
+-- the accepted ones among them by the answers that the calls gave, the latest first, before those of h
+unfoldable pub acceptedBy : List Command → Book → List Command → List Command
+acceptedBy h b [] = h
+acceptedBy h b (c ∷ cs) = acceptedBy (pick (eqb (answers b c .answer) 0) (c ∷ h) h) (answers b c .book) cs

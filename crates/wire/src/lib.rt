@@ -4,7 +4,7 @@ ghost use Prim.Native.Nat.{_+_, _≤_, _<_, _%_};
 ghost use lib.ListN.{length, drop};
 ghost use Rattle.wire.specs.Field.{numberIn, bytesOf, fieldOf, headOf, begins, numberAt};
 ghost use Rattle.refusal.specs.Placed.{laid};
-ghost use Rattle.wire.specs.FieldLaws.{Room};
+ghost use Rattle.wire.specs.Room.{Room};
 
 // Whether n places from p on lie within len.
 fn room(len: usize, p: usize, n: usize) -> bool
