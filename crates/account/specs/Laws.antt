@@ -14,7 +14,7 @@ use Rattle.money.specs.Facts.{both, zero-is}
 use Rattle.refusal.specs.ChoiceLaws.{pick-on, pick-off}
 use Rattle.refusal.specs.Refusal.{Refusal, number, _gives_}
 use Rattle.refusal.specs.Rule.{answered}
-use Rattle.refusal.specs.RuleLaws.{Keeps, refuses, goes-on, does, passed}
+use Rattle.refusal.specs.RuleLaws.{KeepsTest, refuses, goes-on, does, passed}
 use Rattle.terms.specs.declared.Terms.{Terms}
 use Rattle.account.specs.declared.Purse.{Purse}
 use Rattle.account.specs.declared.Account.{Account}
@@ -94,22 +94,22 @@ gains-kept r x h e =
     let a = moves-in (r .purse .balance) x e in
     ranges-sound (search needs)
 
-pub deposit-keeps : (r : Account) (x : ℤ) → Keeps accountSound r (depositOf r x)
+pub deposit-keeps : (r : Account) (x : ℤ) → KeepsTest accountSound r (depositOf r x)
 deposit-keeps r x h e = gains-kept r x h (passed _ _ _ (passed _ _ _ e .1) .0)
 
-pub payout-keeps : (r : Account) (x : ℤ) → Keeps accountSound r (payoutOf r x)
+pub payout-keeps : (r : Account) (x : ℤ) → KeepsTest accountSound r (payoutOf r x)
 payout-keeps r x h e = gains-kept r (negℤ x) h (passed _ _ _ (passed _ _ _ e .1) .0)
 
-pub credit-keeps : (r : Account) (t : Terms) → Keeps accountSound r (creditOf r t)
+pub credit-keeps : (r : Account) (t : Terms) → KeepsTest accountSound r (creditOf r t)
 credit-keeps r t h e = gains-kept r (t .amount) h (passed _ _ _ e .0)
 
-pub approve-keeps : (r : Account) (x : ℤ) → Keeps accountSound r (approveOf r x)
+pub approve-keeps : (r : Account) (x : ℤ) → KeepsTest accountSound r (approveOf r x)
 approve-keeps r x h e =
     let s = sound-ranges h in
     let a = not-false (inTotal x) (passed _ _ _ e .0) in
     ranges-sound (search needs)
 
-pub offer-keeps : (r : Account) (t : Terms) → Keeps accountSound r (offerOf r t)
+pub offer-keeps : (r : Account) (t : Terms) → KeepsTest accountSound r (offerOf r t)
 offer-keeps r t h e =
     let s = sound-ranges h in
     let p = passed _ _ _ e in
@@ -118,13 +118,13 @@ offer-keeps r t h e =
     let b = le-leb (r .pending + 1) countLimit (omega arith) in
     ranges-sound (search needs)
 
-pub reoffer-keeps : (r : Account) (old new : Terms) → Keeps accountSound r (reofferOf r old new)
+pub reoffer-keeps : (r : Account) (old new : Terms) → KeepsTest accountSound r (reofferOf r old new)
 reoffer-keeps r old new h e =
     let s = sound-ranges h in
     let a = moves-in (r .purse .offered) (new .amount -ℤ old .amount) (passed _ _ _ e .0) in
     ranges-sound (search needs)
 
-pub debit-keeps : (r : Account) (t : Terms) → Keeps accountSound r (debitOf r t)
+pub debit-keeps : (r : Account) (t : Terms) → KeepsTest accountSound r (debitOf r t)
 debit-keeps r t h e =
     let s = sound-ranges h in
     let p = passed _ _ _ e in
@@ -132,13 +132,13 @@ debit-keeps r t h e =
     let b = moves-in (r .purse .balance) (negℤ (t .amount)) (passed _ _ _ (p .1) .0) in
     ranges-sound (search needs)
 
-pub accept-keeps : (r : Account) (t : Terms) → Keeps accountSound r (acceptOf r t)
+pub accept-keeps : (r : Account) (t : Terms) → KeepsTest accountSound r (acceptOf r t)
 accept-keeps r t h e =
     let s = sound-ranges h in
     let a = moves-in (r .purse .accepted) (t .amount) (passed _ _ _ e .0) in
     ranges-sound (search needs)
 
-pub lender-repaid-keeps : (s : SeenAccount) (allowed : Bool) (flag : ℕ) → Keeps accountSound (s .row) (lenderRepaidOf s allowed flag)
+pub lender-repaid-keeps : (s : SeenAccount) (allowed : Bool) (flag : ℕ) → KeepsTest accountSound (s .row) (lenderRepaidOf s allowed flag)
 lender-repaid-keeps s allowed flag h e =
     let k = sound-ranges h in
     let p = passed _ _ _ (passed _ _ _ (passed _ _ _ e .1) .1) in
@@ -147,6 +147,6 @@ lender-repaid-keeps s allowed flag h e =
     ranges-sound (search needs)
 
 -- only the mark changes, and soundness does not speak of it
-pub blacklist-keeps : (s : SeenAccount) (allowed : Bool) (code : ℕ) → Keeps accountSound (s .row) (blacklistOf s allowed code)
+pub blacklist-keeps : (s : SeenAccount) (allowed : Bool) (code : ℕ) → KeepsTest accountSound (s .row) (blacklistOf s allowed code)
 unfolding accountSound
 blacklist-keeps s allowed code h e = h

@@ -10,7 +10,7 @@ use Rattle.refusal.specs.Choice.{pick}
 use Rattle.refusal.specs.ChoiceLaws.{pick-on, pick-off}
 use Rattle.refusal.specs.Refusal.{first}
 use Rattle.refusal.specs.Rule.{Rule, after}
-use Rattle.refusal.specs.RuleLaws.{passed}
+use Rattle.refusal.specs.RuleLaws.{Keeps, passed}
 use Rattle.terms.specs.Status.{statusListed}
 use Rattle.terms.specs.Terms.{termsOk, countOk}
 use Rattle.terms.specs.Schedule.{periodListed}
@@ -69,13 +69,8 @@ countered-kept s now caller originator t round paper window h e =
     let room = room-left roundLimit (s .row .negotiation) (pending (s .row)) now round (passed _ _ _ (passed _ _ _ (passed _ _ _ (a .1) .1) .1) .1) in
     round-kept now window t 1 refl k room h
 
--- ── Rules ─────────────────────────────────────────────────────────
--- a rule keeps a row sound where its checks pass
-abbrev pub Keeps : Deal → Rule Deal → Type 0
-Keeps d u = DealKept d → first (u .checks) ≡ 0 → DealKept (u .done)
-
 -- so the row is sound after it
-pub after-kept : (d : Deal) (u : Rule Deal) → Keeps d u → DealKept d → DealKept (after d u)
+pub after-kept : (d : Deal) (u : Rule Deal) → Keeps DealKept d u → DealKept d → DealKept (after d u)
 unfolding after
 after-kept d u k h = go (eqb (first (u .checks)) 0) refl
   where
@@ -86,10 +81,10 @@ after-kept d u k h = go (eqb (first (u .checks)) 0) refl
 rejected-kept : (d : Deal) → DealKept d → DealKept (record { offer = withStatus 2 (d .offer); negotiation = d .negotiation; schedule = d .schedule })
 rejected-kept d h = let r = kept-ranges h in offer-kept h (withStatus 2 (d .offer)) (r .terms-in) (r .repaid-in) refl
 
-pub withdraw-keeps : (s : SeenDeal) (caller : ℕ) → Keeps (s .row) (withdrawOf s caller)
+pub withdraw-keeps : (s : SeenDeal) (caller : ℕ) → Keeps DealKept (s .row) (withdrawOf s caller)
 withdraw-keeps s caller h e = rejected-kept (s .row) h
 
-pub reject-keeps : (s : SeenDeal) (caller : ℕ) (paper : SeenInvoice) → Keeps (s .row) (rejectOf s caller paper)
+pub reject-keeps : (s : SeenDeal) (caller : ℕ) (paper : SeenInvoice) → Keeps DealKept (s .row) (rejectOf s caller paper)
 reject-keeps s caller paper h e = rejected-kept (s .row) h
 
 -- what a close stores can be stored
@@ -101,7 +96,7 @@ outcome-stored status = go (eqb status 4)
     go true = refl
     go false = refl
 
-pub close-keeps : (s : SeenDeal) (now caller : ℕ) (paper : SeenInvoice) → Keeps (s .row) (closeOf s now caller paper)
+pub close-keeps : (s : SeenDeal) (now caller : ℕ) (paper : SeenInvoice) → Keeps DealKept (s .row) (closeOf s now caller paper)
 close-keeps s now caller paper h e =
     let n = s .row .negotiation in
     let o = outcomeAt (standing s now) in
@@ -114,7 +109,7 @@ stored-installment t count h k z =
     let v = ap (λ (q : ℕ × ℤ). q .1) (installment-valid t count h k) in
     ap inInstallment v ∙ installment-in t count (terms-in t h) (ap isZero (sym v) ∙ z)
 
-pub schedule-keeps : (s : SeenDeal) (now caller count code first : ℕ) (paper : SeenInvoice) → Keeps (s .row) (scheduleOf s now caller count code first paper)
+pub schedule-keeps : (s : SeenDeal) (now caller count code first : ℕ) (paper : SeenInvoice) → Keeps DealKept (s .row) (scheduleOf s now caller count code first paper)
 schedule-keeps s now caller count code first paper h e =
     let t = s .row .offer .terms in
     let a = passed _ _ _ e in
@@ -125,12 +120,12 @@ schedule-keeps s now caller count code first paper h e =
     let made : Schedule = record { count = count; code = code; installment = installmentOf t count .1; first = first } in
     schedule-kept h made (made-ok made k (not-false (periodListed code) (b .0)) x)
 
-pub status-update-keeps : (s : SeenDeal) (allowed : Bool) (code : ℕ) → Keeps (s .row) (statusUpdateOf s allowed code)
+pub status-update-keeps : (s : SeenDeal) (allowed : Bool) (code : ℕ) → Keeps DealKept (s .row) (statusUpdateOf s allowed code)
 status-update-keeps s allowed code h e =
     let r = kept-ranges h in
     offer-kept h (withStatus code (s .row .offer)) (r .terms-in) (r .repaid-in) (not-false (statusListed code) (passed _ _ _ (passed _ _ _ e .1) .0))
 
-pub repaid-update-keeps : (s : SeenDeal) (allowed : Bool) (x : ℤ) → Keeps (s .row) (repaidUpdateOf s allowed x)
+pub repaid-update-keeps : (s : SeenDeal) (allowed : Bool) (x : ℤ) → Keeps DealKept (s .row) (repaidUpdateOf s allowed x)
 repaid-update-keeps s allowed x h e =
     let r = kept-ranges h in
     let l = not-false (inTotal x) (passed _ _ _ (passed _ _ _ (passed _ _ _ e .1) .1) .0) in

@@ -82,6 +82,9 @@ both-pass (k ∷ ks) b e =
 pub one-result : {A : Type 0} {x y z : A} → x ≡ z → y ≡ z → x ≡ y
 one-result p q = p ∙ sym q
 
--- a rule keeps what it works on sound where its checks pass
-abbrev pub Keeps : {A : Type 0} → (A → Bool) → A → Rule A → Type 0
-Keeps sound old u = sound old ≡ true → first (u .checks) ≡ 0 → sound (u .done) ≡ true
+-- a rule keeps what holds of the thing that it works on, or a test of it, where its checks pass
+abbrev pub Keeps : {A : Type 0} → (A → Type 0) → A → Rule A → Type 0
+Keeps P old u = P old → first (u .checks) ≡ 0 → P (u .done)
+
+abbrev pub KeepsTest : {A : Type 0} → (A → Bool) → A → Rule A → Type 0
+KeepsTest q old u = Keeps (λ x. q x ≡ true) old u

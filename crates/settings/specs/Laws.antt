@@ -5,7 +5,7 @@ use mathlib.Core.Bool.{Bool, true}
 use borrow.Author.Needs.{needs}
 use borrow.Author.Tests.{not-false}
 use Rattle.money.specs.Facts.{both}
-use Rattle.refusal.specs.RuleLaws.{passed, Keeps}
+use Rattle.refusal.specs.RuleLaws.{passed, KeepsTest}
 use Rattle.seats.specs.Seats.{thresholdOk, countSeats, countBelow}
 use Rattle.settings.specs.declared.Settings.{Settings}
 use Rattle.settings.specs.Settings.{freshSettings, inWindow, settingsSound, pauseOf, windowOf, repayerOf, seatsOf}
@@ -30,21 +30,21 @@ unfolding settingsSound
 ranges-settings {s} h = rw (h .window-in, h .threshold-in)
 
 -- soundness speaks of neither the pause nor the repayment account
-pub pause-keeps : (s : Settings) (presented : ℕ) (b : Bool) → Keeps settingsSound s (pauseOf s presented b)
+pub pause-keeps : (s : Settings) (presented : ℕ) (b : Bool) → KeepsTest settingsSound s (pauseOf s presented b)
 unfolding settingsSound
 pause-keeps s presented b h e = h
 
-pub repayer-keeps : (s : Settings) (presented id : ℕ) (known : Bool) → Keeps settingsSound s (repayerOf s presented id known)
+pub repayer-keeps : (s : Settings) (presented id : ℕ) (known : Bool) → KeepsTest settingsSound s (repayerOf s presented id known)
 unfolding settingsSound
 repayer-keeps s presented id known h e = h
 
-pub window-keeps : (s : Settings) (presented w : ℕ) → Keeps settingsSound s (windowOf s presented w)
+pub window-keeps : (s : Settings) (presented w : ℕ) → KeepsTest settingsSound s (windowOf s presented w)
 window-keeps s presented w h e =
     let k = settings-ranges h in
     let a = not-false (inWindow w) (passed _ _ _ (passed _ _ _ e .1) .0) in
     ranges-settings (search needs)
 
-pub seats-keeps : (s : Settings) (presented threshold next : ℕ) → Keeps settingsSound s (seatsOf s presented threshold next)
+pub seats-keeps : (s : Settings) (presented threshold next : ℕ) → KeepsTest settingsSound s (seatsOf s presented threshold next)
 seats-keeps s presented threshold next h e =
     let k = settings-ranges h in
     let a = not-false (thresholdOk next threshold) (passed _ _ _ (passed _ _ _ e .1) .0) in

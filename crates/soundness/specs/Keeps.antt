@@ -9,7 +9,7 @@ use Rattle.refusal.specs.Choice.{pick}
 use Rattle.refusal.specs.ChoiceLaws.{pick-on, pick-off}
 use Rattle.refusal.specs.Refusal.{first}
 use Rattle.refusal.specs.Rule.{Rule, after}
-use Rattle.refusal.specs.RuleLaws.{passed, both-pass}
+use Rattle.refusal.specs.RuleLaws.{KeepsTest, Keeps, passed, both-pass}
 use Rattle.money.specs.Range.{inAmount}
 use Rattle.table.specs.Tables.{here, full}
 use Rattle.table.specs.Sound.{all-insert}
@@ -70,11 +70,11 @@ module _ {m : Model} (s : ModelSound m) (now a o : ℕ) (t : Terms) (n : ℕ) wh
       agreed-sound (countered-sound (p .0)) _ now o (p .1)
 
 module _ {m : Model} (s : ModelSound m) where
-  posted : (a : ℕ) (u : Rule Account) → Account.Keeps (accountIn m a .row) u → first (u .checks) ≡ 0 → ModelSound (onAccount m a u .done)
+  posted : (a : ℕ) (u : Rule Account) → KeepsTest accountSound (accountIn m a .row) u → first (u .checks) ≡ 0 → ModelSound (onAccount m a u .done)
   posted a u k e =
       with-accounts s _ (account-put (m .accounts) a (u .done) (s .accounts) (λ z. k z e)) (record { accounts = fine-adjust (s .fits .accounts) _ _; invoices = s .fits .invoices; offers = s .fits .offers })
 
-  dealt : (o : ℕ) (u : Rule Deal) → Deal.Keeps (offerIn m o .row) u → first (u .checks) ≡ 0 → ModelSound (onOffer m o u .done)
+  dealt : (o : ℕ) (u : Rule Deal) → Keeps DealKept (offerIn m o .row) u → first (u .checks) ≡ 0 → ModelSound (onOffer m o u .done)
   dealt o u k e =
       with-offers s _ (deal-put (m .offers) o (u .done) (s .offers) (λ z. k z e)) (record { accounts = s .fits .accounts; invoices = s .fits .invoices; offers = fine-adjust (s .fits .offers) _ _ })
 
@@ -94,7 +94,7 @@ module _ {m : Model} (s : ModelSound m) where
         settings = s .settings;
       }
 
-  keeps-account : (a : ℕ) (u : OnAccount) → Account.Keeps (accountIn m a .row) (accountRule m a u)
+  keeps-account : (a : ℕ) (u : OnAccount) → KeepsTest accountSound (accountIn m a .row) (accountRule m a u)
   unfolding accountRule
   keeps-account a (deposits x) = Account.deposit-keeps (accountIn m a .row) x
   keeps-account a (pays x) = Account.payout-keeps (accountIn m a .row) x
@@ -102,7 +102,7 @@ module _ {m : Model} (s : ModelSound m) where
   keeps-account a (lenderRepaid b f) = Account.lender-repaid-keeps (accountIn m a) (isRepayer (m .settings) b) f
   keeps-account a (blacklists p c) = Account.blacklist-keeps (accountIn m a) (adminPasses (m .settings) p) c
 
-  keeps-offer : (o : ℕ) (u : OnOffer) → Deal.Keeps (offerIn m o .row) (offerRule m o u)
+  keeps-offer : (o : ℕ) (u : OnOffer) → Keeps DealKept (offerIn m o .row) (offerRule m o u)
   unfolding offerRule
   keeps-offer o (withdraws a) = Deal.withdraw-keeps (offerIn m o) a
   keeps-offer o (rejects a) = Deal.reject-keeps (offerIn m o) a (paperOf m o)

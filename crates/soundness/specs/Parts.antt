@@ -5,7 +5,7 @@ use mathlib.Core.Bool.{Bool, true, false}
 use Rattle.refusal.specs.Choice.{pick}
 use Rattle.refusal.specs.Refusal.{first}
 use Rattle.refusal.specs.Rule.{Rule}
-use Rattle.refusal.specs.RuleLaws.{passed, both-pass}
+use Rattle.refusal.specs.RuleLaws.{KeepsTest, passed, both-pass}
 use Rattle.table.specs.Tables.{Table, find, adjust}
 use Rattle.table.specs.Sound.{All}
 use Rattle.terms.specs.declared.Terms.{Terms}
@@ -49,7 +49,7 @@ invoice-put t i x = put-sound (λ r. invoiceSound r ≡ true) (λ o. seenInvoice
 pub deal-put : (t : Table Deal) (o : ℕ) (x : Deal) → All DealKept t → (DealKept (seenDeal (find t o) .row) → DealKept x) → All DealKept (adjust t o (λ old. x))
 deal-put t o x = put-sound DealKept (λ o. seenDeal o .row) (λ r. refl) t o x
 
-on-row : (a : ℕ) (f : Account → Rule Account) (t : Table Account) → ((r : Account) → Account.Keeps r (f r)) → Good t → first (onRow a f t .checks) ≡ 0 → Good (onRow a f t .done)
+on-row : (a : ℕ) (f : Account → Rule Account) (t : Table Account) → ((r : Account) → KeepsTest accountSound r (f r)) → Good t → first (onRow a f t .checks) ≡ 0 → Good (onRow a f t .done)
 on-row a f t k g e = account-put t a (f (seenIn t a .row) .done) g (λ s. k (seenIn t a .row) s (passed _ _ _ e .1))
 
 -- settlement's transfer

@@ -10,7 +10,7 @@ use borrow.Author.Tests.{leb-false, le-leb}
 use Rattle.money.specs.Range.{countLimit, inTotal}
 use Rattle.money.specs.Moves.{moves-in}
 use Rattle.money.specs.Facts.{both}
-use Rattle.refusal.specs.RuleLaws.{passed, Keeps}
+use Rattle.refusal.specs.RuleLaws.{passed, KeepsTest}
 use Rattle.terms.specs.declared.Terms.{Terms}
 use Rattle.totals.specs.declared.Totals.{Totals}
 use Rattle.totals.specs.Totals.{noTotals, totalsSound, countOf, financeOf, repayOf}
@@ -38,20 +38,20 @@ pub ranges-totals : {t : Totals} → TotalsRanges t → totalsSound t ≡ true
 unfolding totalsSound
 ranges-totals {t} h = rw (h .financed-in, h .repaid-in, h .fees-in, h .offers-in)
 
-pub count-keeps : (t : Totals) → Keeps totalsSound t (countOf t)
+pub count-keeps : (t : Totals) → KeepsTest totalsSound t (countOf t)
 count-keeps t h e =
     let k = totals-ranges h in
     let l = leb-false countLimit (t .offers) (passed _ _ _ e .0) in
     let a = le-leb (t .offers + 1) countLimit (omega arith) in
     ranges-totals (search needs)
 
-pub finance-keeps : (t : Totals) (x : Terms) → Keeps totalsSound t (financeOf t x)
+pub finance-keeps : (t : Totals) (x : Terms) → KeepsTest totalsSound t (financeOf t x)
 finance-keeps t x h e =
     let k = totals-ranges h in
     let a = moves-in (t .financed) (x .amount) (passed _ _ _ e .0) in
     ranges-totals (search needs)
 
-pub repay-keeps : (t : Totals) (allowed : Bool) (x fee : ℤ) → Keeps totalsSound t (repayOf t allowed x fee)
+pub repay-keeps : (t : Totals) (allowed : Bool) (x fee : ℤ) → KeepsTest totalsSound t (repayOf t allowed x fee)
 repay-keeps t allowed x fee h e =
     let k = totals-ranges h in
     let p = passed _ _ _ (passed _ _ _ e .1) in
