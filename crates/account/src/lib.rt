@@ -20,82 +20,7 @@ pub struct Purse {
     pub accepted: i64,
 }
 
-// What the book holds of one account.
-pub struct Account {
-    pub purse: Purse,
-    pub pending: u32,
-    pub repaid: u32,
-    pub blacklisted: bool,
-}
-
-// A row looked up: whether it is there, and the row, which is zero where it is not.
-pub struct SeenAccount {
-    pub here: bool,
-    pub row: Account,
-}
-
-// An answer's number, 0 where the row was changed, and the row.
-pub struct AccountPosted {
-    pub answer: u64,
-    pub row: Account,
-}
-
-// What comes of posting to a purse: the purse with its new total, or as it was where the posting is refused.
-struct MovedPurse {
-    pub ok: bool,
-    pub purse: Purse,
-}
-
-// The purse's offered total moves in place by the new amount minus the old, with its sign, and no other field changes. Where the
-// posting is refused the total stays too.
-pub fn post(purse: &mut Purse, old: i64, new: i64) -> bool
-    ensures { λ r. ⌜ (r ≡ movedOf (now (purse .entry) .offered) (new -ℤ old) .ok)
-        × (now (purse .exit) ≡ withOffered (now (purse .entry)) (movedOf (now (purse .entry) .offered) (new -ℤ old) .total)) ⌝ }
-{
-    let moved = money::change(purse.offered, old, new);
-    purse.offered = moved.total;
-    moved.ok
-}
-
-// The same of a purse by value, which is lent for the posting: whoever calls it needs no reference.
-fn posted_to(mut purse: Purse, old: i64, new: i64) -> MovedPurse
-    ensures { λ r. ⌜ r ≡ postedTo purse (new -ℤ old) ⌝ }
-{
-    let ok = post(&mut purse, old, new);
-    MovedPurse { ok, purse }
-}
-
-// The row as it was, with the number of what stands against a change.
-fn refused(row: Account, answer: u64) -> AccountPosted
-    ensures { λ r. ⌜ r ≡ posted answer row ⌝ }
-{
-    AccountPosted { answer, row }
-}
-
-// The row with another purse, or refused with this number where its totals could not move.
-fn repursed(mut row: Account, purse: Purse, ok: bool, answer: u64) -> AccountPosted
-    ensures { λ r. ⌜ r ≡ repursed row purse ok answer ⌝ }
-{
-    if !ok {
-        return refused(row, answer);
-    }
-    row.purse = purse;
-    AccountPosted { answer: 0, row }
-}
-
 impl Purse {
-    // The purse of a new account.
-    pub fn none() -> Purse
-        ensures { λ r. ⌜ r ≡ noPurse ⌝ }
-    {
-        Purse {
-            balance: 0,
-            allowance: 0,
-            offered: 0,
-            accepted: 0,
-        }
-    }
-
     // Whether every number is one that a sound book holds.
     pub fn sound(self) -> bool
         ensures { λ r. ⌜ r ≡ purseSound self ⌝ }
@@ -117,22 +42,29 @@ impl Purse {
         let accepted = money::is_zero(self.accepted);
         balance & allowance & offered & accepted
     }
+
+    // The purse of a new account.
+    pub fn none() -> Purse
+        ensures { λ r. ⌜ r ≡ noPurse ⌝ }
+    {
+        Purse {
+            balance: 0,
+            allowance: 0,
+            offered: 0,
+            accepted: 0,
+        }
+    }
+}
+
+// What the book holds of one account.
+pub struct Account {
+    pub purse: Purse,
+    pub pending: u32,
+    pub repaid: u32,
+    pub blacklisted: bool,
 }
 
 impl Account {
-    // The row of a new account.
-    pub fn none() -> Account
-        ensures { λ r. ⌜ r ≡ noAccount ⌝ }
-    {
-        let purse = Purse::none();
-        Account {
-            purse,
-            pending: 0,
-            repaid: 0,
-            blacklisted: false,
-        }
-    }
-
     // Whether every number is one that a sound book holds.
     pub fn sound(self) -> bool
         ensures { λ r. ⌜ r ≡ accountSound self ⌝ }
@@ -154,6 +86,19 @@ impl Account {
         let repaid = self.repaid;
         let blacklisted = self.blacklisted;
         zero & (pending == 0) & (repaid == 0) & !blacklisted
+    }
+
+    // The row of a new account.
+    pub fn none() -> Account
+        ensures { λ r. ⌜ r ≡ noAccount ⌝ }
+    {
+        let purse = Purse::none();
+        Account {
+            purse,
+            pending: 0,
+            repaid: 0,
+            blacklisted: false,
+        }
     }
 
     // Money comes in: the balance grows by the amount.
@@ -265,6 +210,12 @@ impl Account {
     }
 }
 
+// A row looked up: whether it is there, and the row, which is zero where it is not.
+pub struct SeenAccount {
+    pub here: bool,
+    pub row: Account,
+}
+
 impl SeenAccount {
     // The number of what stands against a flag, 0 where nothing does.
     fn flag_refusal(self, allowed: bool, flag: u32) -> u64
@@ -340,6 +291,55 @@ impl SeenAccount {
         }
         SeenAccount { here: true, row }
     }
+}
+
+// An answer's number, 0 where the row was changed, and the row.
+pub struct AccountPosted {
+    pub answer: u64,
+    pub row: Account,
+}
+
+// What comes of posting to a purse: the purse with its new total, or as it was where the posting is refused.
+struct MovedPurse {
+    pub ok: bool,
+    pub purse: Purse,
+}
+
+// The purse's offered total moves in place by the new amount minus the old, with its sign, and no other field changes. Where the
+// posting is refused the total stays too.
+pub fn post(purse: &mut Purse, old: i64, new: i64) -> bool
+    ensures { λ r. ⌜ (r ≡ movedOf (now (purse .entry) .offered) (new -ℤ old) .ok)
+        × (now (purse .exit) ≡ withOffered (now (purse .entry)) (movedOf (now (purse .entry) .offered) (new -ℤ old) .total)) ⌝ }
+{
+    let moved = money::change(purse.offered, old, new);
+    purse.offered = moved.total;
+    moved.ok
+}
+
+// The same of a purse by value, which is lent for the posting: whoever calls it needs no reference.
+fn posted_to(mut purse: Purse, old: i64, new: i64) -> MovedPurse
+    ensures { λ r. ⌜ r ≡ postedTo purse (new -ℤ old) ⌝ }
+{
+    let ok = post(&mut purse, old, new);
+    MovedPurse { ok, purse }
+}
+
+// The row as it was, with the number of what stands against a change.
+fn refused(row: Account, answer: u64) -> AccountPosted
+    ensures { λ r. ⌜ r ≡ posted answer row ⌝ }
+{
+    AccountPosted { answer, row }
+}
+
+// The row with another purse, or refused with this number where its totals could not move.
+fn repursed(mut row: Account, purse: Purse, ok: bool, answer: u64) -> AccountPosted
+    ensures { λ r. ⌜ r ≡ repursed row purse ok answer ⌝ }
+{
+    if !ok {
+        return refused(row, answer);
+    }
+    row.purse = purse;
+    AccountPosted { answer: 0, row }
 }
 
 impl Account {

@@ -20,18 +20,6 @@ pub struct Invoice {
     pub status: u32,
 }
 
-// A row looked up: whether it is there, and the row, which is zero where it is not.
-pub struct SeenInvoice {
-    pub here: bool,
-    pub row: Invoice,
-}
-
-// An answer's number, 0 where the row was changed, and the row.
-pub struct InvoicePosted {
-    pub answer: u64,
-    pub row: Invoice,
-}
-
 impl Invoice {
     pub fn none() -> Invoice
         ensures { λ r. ⌜ r ≡ noInvoice ⌝ }
@@ -85,6 +73,12 @@ impl Invoice {
     }
 }
 
+// A row looked up: whether it is there, and the row, which is zero where it is not.
+pub struct SeenInvoice {
+    pub here: bool,
+    pub row: Invoice,
+}
+
 impl SeenInvoice {
     pub fn cancel(self, caller: u64) -> InvoicePosted
         ensures { λ r. ⌜ r ≡ answered posted (self .row) (cancelOf self caller) ⌝ }
@@ -115,22 +109,6 @@ impl SeenInvoice {
     }
 }
 
-// The number of what stands against a new invoice, 0 where nothing does.
-pub fn register_refusal(amount: i64, exists: bool, full: bool) -> u64
-    ensures { λ r. ⌜ r ≡ first (registerChecks amount exists full) ⌝ }
-{
-    if !money::in_amount_range(amount) {
-        return refusal::INVALID_INPUT;
-    }
-    if exists {
-        return refusal::ALREADY_EXISTS;
-    }
-    if full {
-        return refusal::NO_ROOM;
-    }
-    0
-}
-
 impl SeenInvoice {
     // What is read at a spot: the row where it is there, else none.
     pub fn at(here: bool, row: Invoice) -> SeenInvoice
@@ -155,6 +133,28 @@ impl SeenInvoice {
         }
         SeenInvoice { here: true, row }
     }
+}
+
+// An answer's number, 0 where the row was changed, and the row.
+pub struct InvoicePosted {
+    pub answer: u64,
+    pub row: Invoice,
+}
+
+// The number of what stands against a new invoice, 0 where nothing does.
+pub fn register_refusal(amount: i64, exists: bool, full: bool) -> u64
+    ensures { λ r. ⌜ r ≡ first (registerChecks amount exists full) ⌝ }
+{
+    if !money::in_amount_range(amount) {
+        return refusal::INVALID_INPUT;
+    }
+    if exists {
+        return refusal::ALREADY_EXISTS;
+    }
+    if full {
+        return refusal::NO_ROOM;
+    }
+    0
 }
 
 impl Invoice {

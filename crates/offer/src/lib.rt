@@ -30,25 +30,6 @@ pub struct Offer {
     pub status: u32,
 }
 
-// An offer with its negotiation and its schedule: one row of the offers' table.
-pub struct Deal {
-    pub offer: Offer,
-    pub negotiation: Negotiation,
-    pub schedule: Schedule,
-}
-
-// A row looked up: whether it is there, and the row, which is zero where it is not.
-pub struct SeenDeal {
-    pub here: bool,
-    pub row: Deal,
-}
-
-// An answer's number, 0 where the row was changed, and the row.
-pub struct DealPosted {
-    pub answer: u64,
-    pub row: Deal,
-}
-
 impl Offer {
     pub fn none() -> Offer
         ensures { λ r. ⌜ r ≡ noOffer ⌝ }
@@ -90,6 +71,13 @@ impl Offer {
         let s = self.status;
         a & (p == 0) & (q == 0) & (i == 0) & (l == 0) & (e == 0) & (f == 0) & b & (s == 0)
     }
+}
+
+// An offer with its negotiation and its schedule: one row of the offers' table.
+pub struct Deal {
+    pub offer: Offer,
+    pub negotiation: Negotiation,
+    pub schedule: Schedule,
 }
 
 impl Deal {
@@ -242,65 +230,10 @@ impl Deal {
     }
 }
 
-// The number of what stands against a new offer, 0 where nothing does.
-pub fn create_refusal(
-    caller: u64,
-    lender: Account,
-    t: Terms,
-    paper: SeenInvoice,
-    exists: bool,
-    full: bool,
-) -> u64
-    ensures { λ r. ⌜ r ≡ first (createChecks caller lender t paper exists full) ⌝ }
-{
-    if lender.blacklisted {
-        return refusal::BLACKLISTED;
-    }
-    if !terms::terms_valid(t) {
-        return refusal::INVALID_INPUT;
-    }
-    if !paper.here {
-        return refusal::NOT_FOUND;
-    }
-    let i = paper.row;
-    let s = i.status;
-    if !(s == invoice::PENDING) {
-        return refusal::INVALID_TRANSITION;
-    }
-    let g = i.originator;
-    if g == caller {
-        return refusal::INVALID_INPUT;
-    }
-    if !i.covers(t) {
-        return refusal::INVALID_INPUT;
-    }
-    if exists {
-        return refusal::ALREADY_EXISTS;
-    }
-    if full {
-        return refusal::NO_ROOM;
-    }
-    0
-}
-
-// The installment, 0 where the terms or the count are out of range.
-fn installment_of(t: Terms, count: u32) -> i64
-    ensures { λ r. ⌜ r ≡ installmentOf t count .1 ⌝ }
-{
-    let InstallmentAnswer::Of(x) = terms::installment(t, count) else {
-        return 0;
-    };
-    x
-}
-
-// What a close stores of a negotiation that is Expired or Open.
-fn outcome_at(status: u32) -> u32
-    ensures { λ r. ⌜ r ≡ outcomeAt status ⌝ }
-{
-    if status == negotiation::EXPIRED {
-        return negotiation::EXPIRED;
-    }
-    negotiation::CLOSED
+// A row looked up: whether it is there, and the row, which is zero where it is not.
+pub struct SeenDeal {
+    pub here: bool,
+    pub row: Deal,
 }
 
 impl SeenDeal {
@@ -621,6 +554,79 @@ impl SeenDeal {
     }
 }
 
+// An answer's number, 0 where the row was changed, and the row.
+pub struct DealPosted {
+    pub answer: u64,
+    pub row: Deal,
+}
+
+// The number of what stands against a new offer, 0 where nothing does.
+pub fn create_refusal(
+    caller: u64,
+    lender: Account,
+    t: Terms,
+    paper: SeenInvoice,
+    exists: bool,
+    full: bool,
+) -> u64
+    ensures { λ r. ⌜ r ≡ first (createChecks caller lender t paper exists full) ⌝ }
+{
+    if lender.blacklisted {
+        return refusal::BLACKLISTED;
+    }
+    if !terms::terms_valid(t) {
+        return refusal::INVALID_INPUT;
+    }
+    if !paper.here {
+        return refusal::NOT_FOUND;
+    }
+    let i = paper.row;
+    let s = i.status;
+    if !(s == invoice::PENDING) {
+        return refusal::INVALID_TRANSITION;
+    }
+    let g = i.originator;
+    if g == caller {
+        return refusal::INVALID_INPUT;
+    }
+    if !i.covers(t) {
+        return refusal::INVALID_INPUT;
+    }
+    if exists {
+        return refusal::ALREADY_EXISTS;
+    }
+    if full {
+        return refusal::NO_ROOM;
+    }
+    0
+}
+
+// The installment, 0 where the terms or the count are out of range.
+fn installment_of(t: Terms, count: u32) -> i64
+    ensures { λ r. ⌜ r ≡ installmentOf t count .1 ⌝ }
+{
+    let InstallmentAnswer::Of(x) = terms::installment(t, count) else {
+        return 0;
+    };
+    x
+}
+
+// What a close stores of a negotiation that is Expired or Open.
+fn outcome_at(status: u32) -> u32
+    ensures { λ r. ⌜ r ≡ outcomeAt status ⌝ }
+{
+    if status == negotiation::EXPIRED {
+        return negotiation::EXPIRED;
+    }
+    negotiation::CLOSED
+}
+
+fn refused(row: Deal, answer: u64) -> DealPosted
+    ensures { λ r. ⌜ r ≡ posted answer row ⌝ }
+{
+    DealPosted { answer, row }
+}
+
 impl Deal {
     // What is written at a spot: the row where it is there, else what was read.
     pub fn over(self, here: bool, old: Deal) -> Deal
@@ -631,10 +637,4 @@ impl Deal {
         }
         self
     }
-}
-
-fn refused(row: Deal, answer: u64) -> DealPosted
-    ensures { λ r. ⌜ r ≡ posted answer row ⌝ }
-{
-    DealPosted { answer, row }
 }

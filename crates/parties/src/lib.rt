@@ -18,12 +18,6 @@ pub struct Parties {
     pub one: bool,
 }
 
-// An answer's number, 0 where rows were changed, and the rows.
-pub struct PartiesPosted {
-    pub answer: u64,
-    pub parties: Parties,
-}
-
 impl Parties {
     pub fn put_first(mut self, row: Account) -> Parties
         ensures { λ r. ⌜ r ≡ putFirst self row ⌝ }
@@ -144,6 +138,12 @@ impl Parties {
         let back = p.parties;
         kept(p.answer, back.turned())
     }
+}
+
+// An answer's number, 0 where rows were changed, and the rows.
+pub struct PartiesPosted {
+    pub answer: u64,
+    pub parties: Parties,
 }
 
 fn kept(answer: u64, parties: Parties) -> PartiesPosted

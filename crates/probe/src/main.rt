@@ -46,6 +46,15 @@ fn say_listed(l: Listed) {
     end();
 }
 
+// 0 and four numbers.
+fn four(a: u64, b: u64, c: u64, d: u64) {
+    word(0);
+    word(a);
+    word(b);
+    word(c);
+    word(d);
+}
+
 fn say_number(a: NumberAnswer) {
     match a {
         NumberAnswer::Number(n) => {
@@ -82,13 +91,7 @@ fn say_offer(a: OfferAnswer) {
 fn say_schedule(a: ScheduleAnswer) {
     io::write_all(1, b"schedule");
     match a {
-        ScheduleAnswer::Schedule(s) => {
-            word(0);
-            word(s.count);
-            word(s.code);
-            word(s.installment);
-            word(s.first);
-        }
+        ScheduleAnswer::Schedule(s) => four(s.count, s.code, s.installment, s.first),
         ScheduleAnswer::Absent => word(0),
         ScheduleAnswer::Unsound => word(15),
     }
@@ -114,13 +117,7 @@ fn say_negotiation(a: NegotiationAnswer) {
 fn say_lender(a: LenderAnswer) {
     io::write_all(1, b"lender");
     match a {
-        LenderAnswer::Lender(l) => {
-            word(0);
-            word(l.offered);
-            word(l.accepted);
-            word(l.pending);
-            word(l.repaid);
-        }
+        LenderAnswer::Lender(l) => four(l.offered, l.accepted, l.pending, l.repaid),
         LenderAnswer::Unsound => word(15),
     }
     end();
@@ -129,13 +126,7 @@ fn say_lender(a: LenderAnswer) {
 fn say_totals(a: TotalsAnswer) {
     io::write_all(1, b"stats");
     match a {
-        TotalsAnswer::Totals(t) => {
-            word(0);
-            word(t.offers);
-            word(t.financed);
-            word(t.repaid);
-            word(t.fees);
-        }
+        TotalsAnswer::Totals(t) => four(t.offers, t.financed, t.repaid, t.fees),
         TotalsAnswer::Unsound => word(15),
     }
     end();

@@ -21,6 +21,19 @@ ghost use Rattle.query.specs.Numbers.{offersOnly, scheduleNumbers, lende
 ghost use Rattle.query.specs.Reads.{listRead, asked, onSound, offerRead, scheduleRead, negotiationRead, deadlineRead, statusRead, dueRead, lenderRead, activeRead, countRead, totalsRead, windowRead, seatsRead, thresholdRead, pauseRead};
 ghost use Rattle.query.specs.Says.{numberTold, numberSays, offerSays, scheduleSays, lenderSays, totalsSays, negotiationTold};
 
+// The book's totals.
+pub struct TotalsNumbers {
+    pub offers: u64,
+    pub financed: u64,
+    pub repaid: u64,
+    pub fees: u64,
+}
+
+pub enum TotalsAnswer {
+    Totals(TotalsNumbers),
+    Unsound,
+}
+
 pub enum NumberAnswer {
     Number(u64),
     Unsound,
@@ -57,19 +70,6 @@ pub struct LenderNumbers {
 
 pub enum LenderAnswer {
     Lender(LenderNumbers),
-    Unsound,
-}
-
-// The book's totals.
-pub struct TotalsNumbers {
-    pub offers: u64,
-    pub financed: u64,
-    pub repaid: u64,
-    pub fees: u64,
-}
-
-pub enum TotalsAnswer {
-    Totals(TotalsNumbers),
     Unsound,
 }
 

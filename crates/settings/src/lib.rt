@@ -19,12 +19,6 @@ pub struct Settings {
     pub paused: bool,
 }
 
-// An answer's number, 0 where the settings were changed, and the settings.
-pub struct SettingsPosted {
-    pub answer: u64,
-    pub row: Settings,
-}
-
 impl Settings {
     // Seat 0 alone with threshold 1, no repayment account, not paused.
     pub fn fresh() -> Settings
@@ -138,6 +132,12 @@ impl Settings {
             row: self,
         }
     }
+}
+
+// An answer's number, 0 where the settings were changed, and the settings.
+pub struct SettingsPosted {
+    pub answer: u64,
+    pub row: Settings,
 }
 
 fn refused(row: Settings, answer: u64) -> SettingsPosted

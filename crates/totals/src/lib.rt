@@ -11,12 +11,6 @@ pub struct Totals {
     pub offers: u32,
 }
 
-// An answer's number, 0 where the totals were changed, and the totals.
-pub struct TotalsPosted {
-    pub answer: u64,
-    pub row: Totals,
-}
-
 impl Totals {
     // The totals of a fresh book.
     pub fn none() -> Totals
@@ -99,4 +93,10 @@ fn refused(row: Totals, answer: u64) -> TotalsPosted
     ensures { λ r. ⌜ r ≡ counted answer row ⌝ }
 {
     TotalsPosted { answer, row }
+}
+
+// An answer's number, 0 where the totals were changed, and the totals.
+pub struct TotalsPosted {
+    pub answer: u64,
+    pub row: Totals,
 }
