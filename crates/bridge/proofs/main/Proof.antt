@@ -9,29 +9,11 @@ Inv-loop book₀ left₀ book left = Unit {0}
 abbrev μ-loop : tie.MeasureT-loop
 μ-loop book₀ left₀ book left = left
 
-fresh-requires : tie.Need-fresh-requires Inv-loop μ-loop
-fresh-requires c κs = tt
-
-loop-holds : tie.Need-loop-holds Inv-loop μ-loop
-loop-holds c = tt
-
-take-turn-requires : tie.Need-take-turn-requires Inv-loop μ-loop
-take-turn-requires c κs = tt
-
 returns : tie.Need-returns Inv-loop μ-loop
 returns c = tt
-
-sub-left : tie.Need-sub-left Inv-loop μ-loop
-sub-left c = omega arith
-
-loop-less : tie.Need-loop-less Inv-loop μ-loop
-loop-less c = omega arith
-
-loop-again : tie.Need-loop-again Inv-loop μ-loop
-loop-again c = tt
 
 returns-2 : tie.Need-returns-2 Inv-loop μ-loop
 returns-2 c = tt
 
 pub main-spec : {M : Type 1} → statement M
-main-spec = tie.close (tie.spec Inv-loop μ-loop fresh-requires loop-holds take-turn-requires returns sub-left loop-less loop-again returns-2)
+main-spec = tie.close (tie.spec Inv-loop μ-loop (λ c κs. tt) (λ c. tt) (λ c κs. tt) returns (λ c. omega arith) (λ c. omega arith) (λ c. tt) returns-2)

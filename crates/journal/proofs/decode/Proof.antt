@@ -54,9 +54,6 @@ held c =
 returns : tie.Need-returns
 returns c = at-end _ _ (c .if1 .taken)
 
-mul-begins : tie.Need-mul-begins
-mul-begins c = omega (arith, count c, few (tag c))
-
 returns-2 : tie.Need-returns-2
 returns-2 c =
     let d = c .before .before in
@@ -101,7 +98,7 @@ decode-spec =
     returns
     (λ c. search needs)
     (λ c κs. search needs)
-    mul-begins
+    (λ c. omega (arith, count c, few (tag c)))
     (λ c κs. search needs)
     returns-2
     (λ c. search needs)

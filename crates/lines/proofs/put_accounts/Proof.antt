@@ -20,42 +20,15 @@ abbrev μ-loop : tie.MeasureT-loop
 loop-holds : tie.Need-loop-holds Inv-loop μ-loop
 loop-holds c = (search needs, search needs, retext (none _ _ _) (sym (lines-none _ _)))
 
-same-length : tie.Need-same-length Inv-loop μ-loop
-same-length c = kept (c .before .before .loop .inv .2)
-
 returns : tie.Need-returns Inv-loop μ-loop
 returns c =
     let e : c .before .before .loop .i ≡ c .before .before .before .before .args .n = omega arith in
     rw e at (c .before .before .loop .inv .2)
 
-mul-put-account : tie.Need-mul-put-account Inv-loop μ-loop
-mul-put-account c = search needs
-
-array-read-put-account : tie.Need-array-read-put-account Inv-loop μ-loop
-array-read-put-account c = search needs
-
-mul-put-account-2 : tie.Need-mul-put-account-2 Inv-loop μ-loop
-mul-put-account-2 c = search needs
-
-array-copy-out-put-account : tie.Need-array-copy-out-put-account Inv-loop μ-loop
-array-copy-out-put-account c = search needs
-
-put-account-requires : tie.Need-put-account-requires Inv-loop μ-loop
-put-account-requires c κs = search needs
-
-add-i : tie.Need-add-i Inv-loop μ-loop
-add-i c = search needs
-
-loop-less : tie.Need-loop-less Inv-loop μ-loop
-loop-less c = search needs
-
 loop-again : tie.Need-loop-again Inv-loop μ-loop
 loop-again c =
     let l = c .before .before .before .before .before .before .before .loop in
     (search needs, search needs, retext (next (l .inv .2) (c .before .before .put-account .ensures)) (sym (lines-turn noAccount _ _ (l .i) (search needs) (search needs))))
-
-same-length-2 : tie.Need-same-length-2 Inv-loop μ-loop
-same-length-2 c = kept (c .before .loop .inv .2)
 
 returns-2 : tie.Need-returns-2 Inv-loop μ-loop
 returns-2 c =
@@ -69,15 +42,15 @@ put-accounts-spec =
     Inv-loop
     μ-loop
     loop-holds
-    same-length
+    (λ c. kept (c .before .before .loop .inv .2))
     returns
-    mul-put-account
-    array-read-put-account
-    mul-put-account-2
-    array-copy-out-put-account
-    put-account-requires
-    add-i
-    loop-less
+    (λ c. search needs)
+    (λ c. search needs)
+    (λ c. search needs)
+    (λ c. search needs)
+    (λ c κs. search needs)
+    (λ c. search needs)
+    (λ c. search needs)
     loop-again
-    same-length-2
+    (λ c. kept (c .before .loop .inv .2))
     returns-2)

@@ -28,26 +28,11 @@ kept s j h = length-paste (s .args .out .now) (s .args .at) (s .args .t3) j (ome
 loop-holds : tie.Need-loop-holds Inv-loop μ-loop
 loop-holds c = (omega arith, paste-zero (c .args .out .now) (c .args .at) (c .args .t3))
 
-mul-out : tie.Need-mul-out Inv-loop μ-loop
-mul-out c = search needs
-
-array-read-out : tie.Need-array-read-out Inv-loop μ-loop
-array-read-out c = search needs
-
-add-out : tie.Need-add-out Inv-loop μ-loop
-add-out c = search needs
-
 mul-out-2 : tie.Need-mul-out-2 Inv-loop μ-loop
 mul-out-2 c = omega (arith, c .before .before .pre, ap length (c .before .loop .inv .1) ∙ kept (c .before .before) (c .before .loop .j) (c .before .loop .inv .0))
 
 slice-write-out : tie.Need-slice-write-out Inv-loop μ-loop
 slice-write-out c = omega (arith, c .before .before .pre, ap length (c .before .loop .inv .1) ∙ kept (c .before .before) (c .before .loop .j) (c .before .loop .inv .0))
-
-add-j : tie.Need-add-j Inv-loop μ-loop
-add-j c = search needs
-
-loop-less : tie.Need-loop-less Inv-loop μ-loop
-loop-less c = search needs
 
 loop-again : tie.Need-loop-again Inv-loop μ-loop
 loop-again c =
@@ -81,13 +66,13 @@ put-spec =
     Inv-loop
     μ-loop
     loop-holds
-    mul-out
-    array-read-out
-    add-out
+    (λ c. search needs)
+    (λ c. search needs)
+    (λ c. search needs)
     mul-out-2
     slice-write-out
-    add-j
-    loop-less
+    (λ c. search needs)
+    (λ c. search needs)
     loop-again
     same-length
     returns)

@@ -12,12 +12,6 @@ returns c = four-refused (c .before .before .before .args .x) (c .before .before
 returns-2 : tie.Need-returns-2
 returns-2 c = four-short (c .before .before .before .before .args .x) (c .before .before .before .before .args .out .now) (c .refused2 .ensures) (not-false _ (c .before .before .if1 .left)) (lt-ltb _ _ (c .before .if2 .taken))
 
-slice-write-out-2 : tie.Need-slice-write-out-2
-slice-write-out-2 c = simp length-set (omega (arith, c .if2 .left))
-
-slice-write-out-3 : tie.Need-slice-write-out-3
-slice-write-out-3 c = simp length-set (omega (arith, c .if2 .left))
-
 returns-3 : tie.Need-returns-3
 returns-3 c = four-fits (c .before .before .before .args .x) (c .before .before .before .args .out .now) (not-false _ (c .before .if1 .left)) (le-ltb _ _ (c .if2 .left))
 
@@ -30,8 +24,8 @@ put-four-spec =
     (λ c κs. search needs)
     returns-2
     (λ c. search needs)
-    slice-write-out-2
-    slice-write-out-3
+    (λ c. simp length-set (omega (arith, c .if2 .left)))
+    (λ c. simp length-set (omega (arith, c .if2 .left)))
     (λ c. search needs)
     (λ c. search needs)
     returns-3)

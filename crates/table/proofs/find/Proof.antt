@@ -14,29 +14,14 @@ Inv-loop ids len id i₀ i = (i ≤ length ids) × (findFrom 0 (take len ids) id
 abbrev μ-loop : tie.MeasureT-loop
 μ-loop ids len id i₀ i = length ids - i
 
-loop-holds : tie.Need-loop-holds Inv-loop μ-loop
-loop-holds c = (search needs, refl)
-
 returns : tie.Need-returns Inv-loop μ-loop
 returns c = sym (c .before .before .loop .inv .1 ∙ walk-end _ _ _ _ (inl (c .if1 .taken)))
-
-mul-x : tie.Need-mul-x Inv-loop μ-loop
-mul-x c = search needs
-
-shared-slice-read-x : tie.Need-shared-slice-read-x Inv-loop μ-loop
-shared-slice-read-x c = search needs
 
 returns-2 : tie.Need-returns-2 Inv-loop μ-loop
 returns-2 c = sym (c .before .before .before .before .before .loop .inv .1 ∙ walk-at _ _ _ _ (c .before .before .before .if1 .left) (c .before .before .before .before .loop-test .taken) (c .if3 .taken))
 
 returns-3 : tie.Need-returns-3 Inv-loop μ-loop
 returns-3 c = sym (c .before .before .before .before .before .loop .inv .1 ∙ walk-stop _ _ _ _ (c .before .before .before .if1 .left) (c .before .before .before .before .loop-test .taken) (c .before .if2 .taken) (c .if3 .left))
-
-add-i : tie.Need-add-i Inv-loop μ-loop
-add-i c = search needs
-
-loop-less : tie.Need-loop-less Inv-loop μ-loop
-loop-less c = search needs
 
 loop-again : tie.Need-loop-again Inv-loop μ-loop
 loop-again c = (search needs, c .before .before .before .before .loop .inv .1 ∙ walk-on _ _ _ _ (c .before .before .if1 .left) (c .before .before .before .loop-test .taken) (c .if2 .left))
@@ -50,13 +35,13 @@ find-spec =
     (tie.spec
     Inv-loop
     μ-loop
-    loop-holds
+    (λ c. (search needs, refl))
     returns
-    mul-x
-    shared-slice-read-x
+    (λ c. search needs)
+    (λ c. search needs)
     returns-2
     returns-3
-    add-i
-    loop-less
+    (λ c. search needs)
+    (λ c. search needs)
     loop-again
     returns-4)

@@ -15,21 +15,6 @@ Inv-loop ids len ok₀ prev₀ i₀ ok prev i = (prev ≡ getD (0 ∷ ids) i 0) 
 abbrev μ-loop : tie.MeasureT-loop
 μ-loop ids len ok₀ prev₀ i₀ ok prev i = 64 - i
 
-loop-holds : tie.Need-loop-holds Inv-loop μ-loop
-loop-holds c = (refl, check-start _ _)
-
-mul-x : tie.Need-mul-x Inv-loop μ-loop
-mul-x c = search needs
-
-element-copy-out-x : tie.Need-element-copy-out-x Inv-loop μ-loop
-element-copy-out-x c = search needs
-
-add-i : tie.Need-add-i Inv-loop μ-loop
-add-i c = search needs
-
-loop-less : tie.Need-loop-less Inv-loop μ-loop
-loop-less c = search needs
-
 loop-again : tie.Need-loop-again Inv-loop μ-loop
 loop-again c = (rw add-one, check-turn (c .before .before .loop .inv .1) (c .before .loop-test .taken) (rw (c .before .before .loop .inv .0)))
 
@@ -42,10 +27,10 @@ ids-sound-spec =
     (tie.spec
     Inv-loop
     μ-loop
-    loop-holds
-    mul-x
-    element-copy-out-x
-    add-i
-    loop-less
+    (λ c. (refl, check-start _ _))
+    (λ c. search needs)
+    (λ c. search needs)
+    (λ c. search needs)
+    (λ c. search needs)
     loop-again
     returns)

@@ -50,17 +50,8 @@ whole-le c = installment-le (start c .args .t) (start c .args .count) (in-range 
 count-pos : (c : tie.After-magnitude) → 0 < start c .args .count
 count-pos c = leb-true 1 (start c .args .count) (both (leb 1 (start c .args .count)) (leb (start c .args .count) 1200) (count-ok (c .before .before)) .0)
 
-div-part : tie.Need-div-part
-div-part c = count-pos c
-
 mul-whole : tie.Need-mul-whole
 mul-whole c = simp (amount-is c) (record { fits = omega (arith, product-le (start c .args .t) (start c .args .count) (in-range c)) })
-
-add-whole : tie.Need-add-whole
-add-whole c = simp (amount-is c) (record { fits = omega (arith, whole-le c) })
-
-cast-t11 : tie.Need-cast-t11
-cast-t11 c = simp (amount-is c) (record { sfits = omega (arith, whole-le c) })
 
 returns-3 : tie.Need-returns-3
 unfolding installmentOf installmentAmount
@@ -79,9 +70,9 @@ installment-spec =
     (λ c κs. search needs)
     returns-2
     (λ c κs. search needs)
-    div-part
+    (λ c. count-pos c)
     (λ c. search needs)
     mul-whole
-    add-whole
-    cast-t11
+    (λ c. simp (amount-is c) (record { fits = omega (arith, whole-le c) }))
+    (λ c. simp (amount-is c) (record { sfits = omega (arith, whole-le c) }))
     returns-3)

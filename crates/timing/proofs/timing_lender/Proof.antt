@@ -9,30 +9,6 @@ Inv-loop journal account times book mixed₀ i₀ mixed i = i ≤ times
 abbrev μ-loop : tie.MeasureT-loop
 μ-loop journal account times book mixed₀ i₀ mixed i = times - i
 
-replay-requires : tie.Need-replay-requires Inv-loop μ-loop
-replay-requires c κs = search needs
-
-loop-holds : tie.Need-loop-holds Inv-loop μ-loop
-loop-holds c = search needs
-
-get-lender-stats-requires : tie.Need-get-lender-stats-requires Inv-loop μ-loop
-get-lender-stats-requires c κs = search needs
-
-enum-known-r : tie.Need-enum-known-r Inv-loop μ-loop
-enum-known-r c = search needs
-
-enum-told : tie.Need-enum-told Inv-loop μ-loop
-enum-told c = search needs
-
-add-i : tie.Need-add-i Inv-loop μ-loop
-add-i c = search needs
-
-loop-less : tie.Need-loop-less Inv-loop μ-loop
-loop-less c = search needs
-
-loop-again : tie.Need-loop-again Inv-loop μ-loop
-loop-again c = search needs
-
 returns : tie.Need-returns Inv-loop μ-loop
 returns c = search needs
 
@@ -42,12 +18,12 @@ timing-lender-spec =
     (tie.spec
     Inv-loop
     μ-loop
-    replay-requires
-    loop-holds
-    get-lender-stats-requires
-    enum-known-r
-    enum-told
-    add-i
-    loop-less
-    loop-again
+    (λ c κs. search needs)
+    (λ c. search needs)
+    (λ c κs. search needs)
+    (λ c. search needs)
+    (λ c. search needs)
+    (λ c. search needs)
+    (λ c. search needs)
+    (λ c. search needs)
     returns)

@@ -30,16 +30,10 @@ returns-2 c =
     c .refused2 .ensures
     ∙ refused posted _ _ (goes _ _ (clear (c .before .before)) (fails outOfRange _ (lt-ltb countLimit (a .self .row .repaid + a .flag) (omega arith)))) (eqb-false _ _ (refusal-not-0 outOfRange))
 
-add-if3 : tie.Need-add-if3
-add-if3 c = let s = small (c .before) in search needs
-
 returns-3 : tie.Need-returns-3
 returns-3 c =
     c .refused3 .ensures
     ∙ refused posted _ _ (goes _ _ (clear (c .before .before .before)) (fails outOfRange _ (lt-ltb _ _ (c .before .if3 .taken)))) (eqb-false _ _ (refusal-not-0 outOfRange))
-
-add-row : tie.Need-add-row
-add-row c = let s = small (c .before .before) in search needs
 
 returns-4 : tie.Need-returns-4
 returns-4 c =
@@ -54,8 +48,8 @@ lender-repaid-spec =
     returns
     (λ c κs. search needs)
     returns-2
-    add-if3
+    (λ c. let s = small (c .before) in search needs)
     (λ c κs. search needs)
     returns-3
-    add-row
+    (λ c. let s = small (c .before .before) in search needs)
     returns-4)

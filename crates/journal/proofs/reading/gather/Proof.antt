@@ -35,14 +35,8 @@ stop : (c : tie.In-loop Inv-loop μ-loop) → fieldIn (getD (c .before .before .
     → (false, zeros) ≡ gatheredIn (take (c .before .before .before .args .n) (c .before .before .before .args .t4)) (drop (c .before .before .before .args .p) (c .before .before .before .args .s .now))
 stop c e = going-out _ _ _ (c .before .loop .i) (c .before .loop .q) _ (here c) (tag-is c) e (c .before .loop .inv .1 .1)
 
-loop-holds : tie.Need-loop-holds Inv-loop μ-loop
-loop-holds c = (search needs, (search needs, record { well = refl; same = refl }))
-
 in-reach : (c : tie.In-loop Inv-loop μ-loop) → c .before .loop .q + 11 ≤ length (c .before .before .before .args .s .now)
 in-reach c = omega (arith, c .before .before .before .pre .0, c .before .loop .inv)
-
-array-read-f : tie.Need-array-read-f Inv-loop μ-loop
-array-read-f c = omega (arith, c .before .before .before .pre .0)
 
 returns : tie.Need-returns Inv-loop μ-loop
 returns c =
@@ -89,8 +83,8 @@ gather-spec =
     (tie.spec
     Inv-loop
     μ-loop
-    loop-holds
-    array-read-f
+    (λ c. (search needs, (search needs, record { well = refl; same = refl })))
+    (λ c. omega (arith, c .before .before .before .pre .0))
     (λ c κs. search needs)
     returns
     (λ c. omega (arith, in-reach (c .before .before)))

@@ -21,29 +21,8 @@ small c =
     omega
     (arith, c .active .ensures, small-amount (c .before .before .before .before .in-use .ensures) (c .before .before .before .loop .i) (c .before .before .loop-test .taken) (s .pre) (s .args .lender))
 
-in-use-requires : tie.Need-in-use-requires Inv-loop μ-loop
-in-use-requires c κs = search needs
-
-loop-holds : tie.Need-loop-holds Inv-loop μ-loop
-loop-holds c = sum-start _ _ _
-
-mul-row : tie.Need-mul-row Inv-loop μ-loop
-mul-row c = search needs
-
-element-copy-out-row : tie.Need-element-copy-out-row Inv-loop μ-loop
-element-copy-out-row c = search needs
-
-active-requires : tie.Need-active-requires Inv-loop μ-loop
-active-requires c κs = search needs
-
 add-sum : tie.Need-add-sum Inv-loop μ-loop
 add-sum c = omega (arith, small c, c .before .before .before .loop .inv .small, c .before .before .loop-test .taken, c .before .before .before .before .in-use .ensures .few)
-
-add-i : tie.Need-add-i Inv-loop μ-loop
-add-i c = search needs
-
-loop-less : tie.Need-loop-less Inv-loop μ-loop
-loop-less c = search needs
 
 loop-again : tie.Need-loop-again Inv-loop μ-loop
 loop-again c =
@@ -61,13 +40,13 @@ active-total-spec =
     (tie.spec
     Inv-loop
     μ-loop
-    in-use-requires
-    loop-holds
-    mul-row
-    element-copy-out-row
-    active-requires
+    (λ c κs. search needs)
+    (λ c. sum-start _ _ _)
+    (λ c. search needs)
+    (λ c. search needs)
+    (λ c κs. search needs)
     add-sum
-    add-i
-    loop-less
+    (λ c. search needs)
+    (λ c. search needs)
     loop-again
     returns)

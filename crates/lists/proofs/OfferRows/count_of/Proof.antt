@@ -14,30 +14,6 @@ Inv-loop w self m n₀ i₀ n i = Walked (taking w) (offersOf self) i n
 abbrev μ-loop : tie.MeasureT-loop
 μ-loop w self m n₀ i₀ n i = m - i
 
-in-use-requires : tie.Need-in-use-requires Inv-loop μ-loop
-in-use-requires c κs = search needs
-
-loop-holds : tie.Need-loop-holds Inv-loop μ-loop
-loop-holds c = walk-start _ _
-
-mul-row : tie.Need-mul-row Inv-loop μ-loop
-mul-row c = search needs
-
-element-copy-out-row : tie.Need-element-copy-out-row Inv-loop μ-loop
-element-copy-out-row c = search needs
-
-takes-requires : tie.Need-takes-requires Inv-loop μ-loop
-takes-requires c κs = search needs
-
-add-n : tie.Need-add-n Inv-loop μ-loop
-add-n c = omega (arith, walk-few (c .before .before .before .before .loop .inv))
-
-add-i : tie.Need-add-i Inv-loop μ-loop
-add-i c = search needs
-
-loop-less : tie.Need-loop-less Inv-loop μ-loop
-loop-less c = search needs
-
 loop-again : tie.Need-loop-again Inv-loop μ-loop
 loop-again c =
     let u = c .before .before .before .before .before .in-use .ensures in
@@ -61,13 +37,13 @@ count-of-spec =
     (tie.spec
     Inv-loop
     μ-loop
-    in-use-requires
-    loop-holds
-    mul-row
-    element-copy-out-row
-    takes-requires
-    add-n
-    add-i
-    loop-less
+    (λ c κs. search needs)
+    (λ c. walk-start _ _)
+    (λ c. search needs)
+    (λ c. search needs)
+    (λ c κs. search needs)
+    (λ c. omega (arith, walk-few (c .before .before .before .before .loop .inv)))
+    (λ c. search needs)
+    (λ c. search needs)
     loop-again
     returns)

@@ -18,33 +18,6 @@ Inv-loop w out₀ self m n₀ i₀ out n i = Wrote (taking w) tenOf (offersOf se
 abbrev μ-loop : tie.MeasureT-loop
 μ-loop w out₀ self m n₀ i₀ out n i = m - i
 
-in-use-requires : tie.Need-in-use-requires Inv-loop μ-loop
-in-use-requires c κs = search needs
-
-loop-holds : tie.Need-loop-holds Inv-loop μ-loop
-loop-holds c = write-start _ _ _ _
-
-mul-row : tie.Need-mul-row Inv-loop μ-loop
-mul-row c = search needs
-
-element-copy-out-row : tie.Need-element-copy-out-row Inv-loop μ-loop
-element-copy-out-row c = search needs
-
-takes-requires : tie.Need-takes-requires Inv-loop μ-loop
-takes-requires c κs = search needs
-
-mul-id : tie.Need-mul-id Inv-loop μ-loop
-mul-id c = search needs
-
-element-copy-out-id : tie.Need-element-copy-out-id Inv-loop μ-loop
-element-copy-out-id c = search needs
-
-of-requires : tie.Need-of-requires Inv-loop μ-loop
-of-requires c κs = search needs
-
-in-order-requires : tie.Need-in-order-requires Inv-loop μ-loop
-in-order-requires c κs = search needs
-
 mul-put : tie.Need-mul-put Inv-loop μ-loop
 mul-put c = omega (arith, walk-few (c .before .before .before .before .before .before .before .before .loop .inv .walked))
 
@@ -58,12 +31,6 @@ put-requires c κs =
 
 add-n : tie.Need-add-n Inv-loop μ-loop
 add-n c = omega (arith, walk-few (c .before .before .before .before .before .before .before .before .before .before .before .loop .inv .walked))
-
-add-i : tie.Need-add-i Inv-loop μ-loop
-add-i c = search needs
-
-loop-less : tie.Need-loop-less Inv-loop μ-loop
-loop-less c = search needs
 
 loop-again : tie.Need-loop-again Inv-loop μ-loop
 loop-again c =
@@ -92,20 +59,20 @@ write-spec =
     (tie.spec
     Inv-loop
     μ-loop
-    in-use-requires
-    loop-holds
-    mul-row
-    element-copy-out-row
-    takes-requires
-    mul-id
-    element-copy-out-id
-    of-requires
-    in-order-requires
+    (λ c κs. search needs)
+    (λ c. write-start _ _ _ _)
+    (λ c. search needs)
+    (λ c. search needs)
+    (λ c κs. search needs)
+    (λ c. search needs)
+    (λ c. search needs)
+    (λ c κs. search needs)
+    (λ c κs. search needs)
     mul-put
     put-requires
     add-n
-    add-i
-    loop-less
+    (λ c. search needs)
+    (λ c. search needs)
     loop-again
     same-length
     returns)

@@ -21,26 +21,8 @@ returns : tie.Need-returns Inv-loop μ-loop
 unfolding agreesOf matches
 returns c = sym (ap (matches _) (pick-on _ _ (lt-ltb _ _ (c .if1 .taken))))
 
-cast-i : tie.Need-cast-i Inv-loop μ-loop
-cast-i c = search needs
-
 loop-holds : tie.Need-loop-holds Inv-loop μ-loop
 loop-holds c = (search needs, refl)
-
-sub-i : tie.Need-sub-i Inv-loop μ-loop
-sub-i c = search needs
-
-mul-r : tie.Need-mul-r Inv-loop μ-loop
-mul-r c = search needs
-
-element-copy-out-r : tie.Need-element-copy-out-r Inv-loop μ-loop
-element-copy-out-r c = search needs
-
-terms-requires : tie.Need-terms-requires Inv-loop μ-loop
-terms-requires c κs = search needs
-
-same-terms-requires : tie.Need-same-terms-requires Inv-loop μ-loop
-same-terms-requires c κs = search needs
 
 returns-2 : tie.Need-returns-2 Inv-loop μ-loop
 unfolding agreesOf matches
@@ -50,9 +32,6 @@ returns-2 c =
     ∙ c .before .before .before .before .before .loop .inv .1
     ∙ latest-step _ _ (c .before .before .before .before .loop-test .taken)
     ∙ pick-on _ _ (eq-eqb _ _ (c .before .before .if2 .taken))))
-
-loop-less : tie.Need-loop-less Inv-loop μ-loop
-loop-less c = search needs
 
 loop-again : tie.Need-loop-again Inv-loop μ-loop
 loop-again c = (search needs, c .before .before .before .loop .inv .1 ∙ latest-step _ _ (c .before .before .loop-test .taken) ∙ pick-off _ _ (ne-eqb _ _ (c .if2 .left)))
@@ -70,14 +49,14 @@ agrees-spec =
     Inv-loop
     μ-loop
     returns
-    cast-i
+    (λ c. search needs)
     loop-holds
-    sub-i
-    mul-r
-    element-copy-out-r
-    terms-requires
-    same-terms-requires
+    (λ c. search needs)
+    (λ c. search needs)
+    (λ c. search needs)
+    (λ c κs. search needs)
+    (λ c κs. search needs)
     returns-2
-    loop-less
+    (λ c. search needs)
     loop-again
     returns-3)

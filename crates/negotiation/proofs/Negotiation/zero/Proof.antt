@@ -15,24 +15,6 @@ Inv-loop self ok₀ i₀ ok i = Checked 12 (λ j. roundZero (getD (self .rounds)
 abbrev μ-loop : tie.MeasureT-loop
 μ-loop self ok₀ i₀ ok i = 12 - i
 
-loop-holds : tie.Need-loop-holds Inv-loop μ-loop
-loop-holds c = check-start _ _
-
-mul-r : tie.Need-mul-r Inv-loop μ-loop
-mul-r c = search needs
-
-element-copy-out-r : tie.Need-element-copy-out-r Inv-loop μ-loop
-element-copy-out-r c = search needs
-
-zero-requires : tie.Need-zero-requires Inv-loop μ-loop
-zero-requires c κs = search needs
-
-add-i : tie.Need-add-i Inv-loop μ-loop
-add-i c = search needs
-
-loop-less : tie.Need-loop-less Inv-loop μ-loop
-loop-less c = search needs
-
 loop-again : tie.Need-loop-again Inv-loop μ-loop
 loop-again c = check-turn (c .before .before .before .loop .inv) (c .before .before .loop-test .taken) (c .zero .ensures)
 
@@ -46,11 +28,11 @@ zero-spec =
     (tie.spec
     Inv-loop
     μ-loop
-    loop-holds
-    mul-r
-    element-copy-out-r
-    zero-requires
-    add-i
-    loop-less
+    (λ c. check-start _ _)
+    (λ c. search needs)
+    (λ c. search needs)
+    (λ c κs. search needs)
+    (λ c. search needs)
+    (λ c. search needs)
     loop-again
     returns)

@@ -10,14 +10,8 @@ use Rattle.shelves.proofs.Accounts.see.Tie as tie
 below : (c : tie.After-spot-by) → c .spot-by .result .at < 64
 below c = spot-below (c .before .before .before .before .pre) (omega arith) (c .before .before .before .before .args .key) (c .spot-by .ensures)
 
-mul-account : tie.Need-mul-account
-mul-account c = omega (arith, below c)
-
-element-copy-out-account : tie.Need-element-copy-out-account
-element-copy-out-account c = omega (arith, below c)
-
 returns : tie.Need-returns
 returns c = c .at .ensures ∙ ap seenAccount (sym (spot-found (c .before .before .before .before .before .before .pre) (omega arith) (c .before .before .before .before .before .before .args .key) (c .before .before .spot-by .ensures)))
 
 pub see-spec : {M : Type 1} → statement M
-see-spec = tie.close (tie.spec (λ c κs. search needs) mul-account element-copy-out-account (λ c κs. search needs) returns)
+see-spec = tie.close (tie.spec (λ c κs. search needs) (λ c. omega (arith, below c)) (λ c. omega (arith, below c)) (λ c κs. search needs) returns)

@@ -33,30 +33,6 @@ came c = λ q. ap (λ z. not z && (c .before .before .before .before .before .be
 wrote : (c : tie.After-over2) → asAccounts (c .before .before .before .before .before .before .before .before .before .before .before .before .before .args .t1 .ids) (set (set (c .before .before .before .before .before .before .before .before .before .before .before .before .before .args .t1 .rows) (c .before .before .before .before .before .before .before .before .before .spot-by .result .at) (c .before .before .before .before .before .before .before .over .result)) (c .before .before .before .spot-by2 .result .at) (c .over2 .result)) (c .before .before .before .before .before .before .before .before .before .before .before .before .before .args .t1 .count) ≡ storedAccounts (putBy (putBy (accountsOf (c .before .before .before .before .before .before .before .before .before .before .before .before .before .args .t1)) (c .before .before .before .before .before .before .before .before .before .before .before .before .before .args .second) (c .before .before .before .before .before .before .before .before .before .before .before .before .before .args .y)) (c .before .before .before .before .before .before .before .before .before .before .before .before .before .args .first) (c .before .before .before .before .before .before .before .before .before .before .before .before .before .args .x .row))
 wrote c = accounts-wrote (c .before .before .before .before .before .before .before .before .before .before .before .before .before .pre) (c .before .before .before .before .before .before .before .before .before .before .before .before .before .args .first) (c .before .before .before .before .before .before .before .before .before .before .before .before .before .args .second) (c .before .before .before .spot-by2 .ensures) (c .before .before .before .before .before .before .before .before .before .spot-by .ensures) (c .before .before .before .before .before .before .before .before .before .before .before .before .before .args .x .row) (c .before .before .before .before .before .before .before .before .before .before .before .before .before .args .y) (c .before .before .before .before .before .before .before .over .ensures) (c .over2 .ensures)
 
-mul-other : tie.Need-mul-other
-mul-other c = omega (arith, below-b c)
-
-element-copy-out-other : tie.Need-element-copy-out-other
-element-copy-out-other c = omega (arith, below-b c)
-
-mul-b : tie.Need-mul-b
-mul-b c = omega (arith, below-b (c .before .before))
-
-element-set-from-b : tie.Need-element-set-from-b
-element-set-from-b c = omega (arith, below-b (c .before .before))
-
-mul-old : tie.Need-mul-old
-mul-old c = omega (arith, below-a c)
-
-element-copy-out-old : tie.Need-element-copy-out-old
-element-copy-out-old c = omega (arith, below-a c)
-
-mul-a : tie.Need-mul-a
-mul-a c = omega (arith, below-a (c .before .before .before))
-
-element-set-from-a : tie.Need-element-set-from-a
-element-set-from-a c = omega (arith, below-a (c .before .before .before))
-
 let-in-requires : tie.Need-let-in-requires
 let-in-requires c κs = subst AccountShelf (sym (wrote (c .before .before .before .before))) (accounts-keeping .good (fine-by (fine-by (accounts-keeping .fine _ (c .before .before .before .before .before .before .before .before .before .before .before .before .before .before .before .before .before .pre)) (c .before .before .before .before .before .before .before .before .before .before .before .before .before .before .before .before .before .args .second) (c .before .before .before .before .before .before .before .before .before .before .before .before .before .before .before .before .before .args .y)) (c .before .before .before .before .before .before .before .before .before .before .before .before .before .before .before .before .before .args .first) (c .before .before .before .before .before .before .before .before .before .before .before .before .before .before .before .before .before .args .x .row)))
 
@@ -71,17 +47,17 @@ store-spec =
     tie.close
     (tie.spec
     (λ c κs. search needs)
-    mul-other
-    element-copy-out-other
+    (λ c. omega (arith, below-b c))
+    (λ c. omega (arith, below-b c))
     (λ c κs. search needs)
-    mul-b
-    element-set-from-b
+    (λ c. omega (arith, below-b (c .before .before)))
+    (λ c. omega (arith, below-b (c .before .before)))
     (λ c κs. search needs)
-    mul-old
-    element-copy-out-old
+    (λ c. omega (arith, below-a c))
+    (λ c. omega (arith, below-a c))
     (λ c κs. search needs)
-    mul-a
-    element-set-from-a
+    (λ c. omega (arith, below-a (c .before .before .before)))
+    (λ c. omega (arith, below-a (c .before .before .before)))
     (λ c κs. search needs)
     let-in-requires
     returns

@@ -10,14 +10,8 @@ use Rattle.shelves.proofs.Invoices.see.Tie as tie
 below : (c : tie.After-spot-by) → c .spot-by .result .at < 64
 below c = spot-below (c .before .before .before .before .pre) (omega arith) (c .before .before .before .before .args .key) (c .spot-by .ensures)
 
-mul-paper : tie.Need-mul-paper
-mul-paper c = omega (arith, below c)
-
-element-copy-out-paper : tie.Need-element-copy-out-paper
-element-copy-out-paper c = omega (arith, below c)
-
 returns : tie.Need-returns
 returns c = c .at .ensures ∙ ap seenInvoice (sym (spot-found (c .before .before .before .before .before .before .pre) (omega arith) (c .before .before .before .before .before .before .args .key) (c .before .before .spot-by .ensures)))
 
 pub see-spec : {M : Type 1} → statement M
-see-spec = tie.close (tie.spec (λ c κs. search needs) mul-paper element-copy-out-paper (λ c κs. search needs) returns)
+see-spec = tie.close (tie.spec (λ c κs. search needs) (λ c. omega (arith, below c)) (λ c. omega (arith, below c)) (λ c κs. search needs) returns)

@@ -28,18 +28,6 @@ was c = was-by _ _ (spot-found (c .before .before .before .before .before .befor
 came : (c : tie.After-over) → {b : Bool} → not (c .before .before .before .spot-by .result .here) && (c .before .before .before .before .before .before .before .args .x .here) ≡ b → not (has (findBy (invoicesOf (c .before .before .before .before .before .before .before .args .t1)) (c .before .before .before .before .before .before .before .args .key))) && (c .before .before .before .before .before .before .before .args .x .here) ≡ b
 came c = λ q. ap (λ z. not z && (c .before .before .before .before .before .before .before .args .x .here)) (sym (was c)) ∙ q
 
-mul-old : tie.Need-mul-old
-mul-old c = omega (arith, below c)
-
-element-copy-out-old : tie.Need-element-copy-out-old
-element-copy-out-old c = omega (arith, below c)
-
-mul-kept : tie.Need-mul-kept
-mul-kept c = omega (arith, below (c .before .before .before))
-
-element-set-from-kept : tie.Need-element-set-from-kept
-element-set-from-kept c = omega (arith, below (c .before .before .before))
-
 let-in-requires : tie.Need-let-in-requires
 let-in-requires c κs = subst InvoiceShelf (sym (wrote (c .before .before .before .before))) (invoices-keeping .good (fine-by (fine-by (invoices-keeping .fine _ (c .before .before .before .before .before .before .before .before .before .before .before .pre)) (c .before .before .before .before .before .before .before .before .before .before .before .args .key) (c .before .before .before .before .before .before .before .before .before .before .before .args .x .row)) (c .before .before .before .before .before .before .before .before .before .before .before .args .key) (c .before .before .before .before .before .before .before .before .before .before .before .args .x .row)))
 
@@ -54,11 +42,11 @@ store-spec =
     tie.close
     (tie.spec
     (λ c κs. search needs)
-    mul-old
-    element-copy-out-old
+    (λ c. omega (arith, below c))
+    (λ c. omega (arith, below c))
     (λ c κs. search needs)
-    mul-kept
-    element-set-from-kept
+    (λ c. omega (arith, below (c .before .before .before)))
+    (λ c. omega (arith, below (c .before .before .before)))
     (λ c κs. search needs)
     let-in-requires
     returns

@@ -21,42 +21,6 @@ Inv-loop self n t ok₀ i₀ ok i =
 abbrev μ-loop : tie.MeasureT-loop
 μ-loop self n t ok₀ i₀ ok i = 64 - i
 
-ids-sound-requires : tie.Need-ids-sound-requires Inv-loop μ-loop
-ids-sound-requires c κs = search needs
-
-loop-holds : tie.Need-loop-holds Inv-loop μ-loop
-loop-holds c = (check-start _ _, λ k h. absurd (omega arith))
-
-mul-o : tie.Need-mul-o Inv-loop μ-loop
-mul-o c = search needs
-
-element-copy-out-o : tie.Need-element-copy-out-o Inv-loop μ-loop
-element-copy-out-o c = search needs
-
-mul-g : tie.Need-mul-g Inv-loop μ-loop
-mul-g c = search needs
-
-element-copy-out-g : tie.Need-element-copy-out-g Inv-loop μ-loop
-element-copy-out-g c = search needs
-
-mul-p : tie.Need-mul-p Inv-loop μ-loop
-mul-p c = search needs
-
-element-copy-out-p : tie.Need-element-copy-out-p Inv-loop μ-loop
-element-copy-out-p c = search needs
-
-sound-requires : tie.Need-sound-requires Inv-loop μ-loop
-sound-requires c κs = search needs
-
-zero-requires : tie.Need-zero-requires Inv-loop μ-loop
-zero-requires c κs = search needs
-
-add-i : tie.Need-add-i Inv-loop μ-loop
-add-i c = search needs
-
-loop-less : tie.Need-loop-less Inv-loop μ-loop
-loop-less c = search needs
-
 rows-long : (c : tie.Start Inv-loop μ-loop) → length (c .args .t1 .rows) ≡ 64
 rows-long c = simp length-map at (c .good .0 .1 .1 .1 .0 .1 .0 .1)
 
@@ -97,17 +61,17 @@ sound-spec =
     (tie.spec
     Inv-loop
     μ-loop
-    ids-sound-requires
-    loop-holds
-    mul-o
-    element-copy-out-o
-    mul-g
-    element-copy-out-g
-    mul-p
-    element-copy-out-p
-    sound-requires
-    zero-requires
-    add-i
-    loop-less
+    (λ c κs. search needs)
+    (λ c. (check-start _ _, λ k h. absurd (omega arith)))
+    (λ c. search needs)
+    (λ c. search needs)
+    (λ c. search needs)
+    (λ c. search needs)
+    (λ c. search needs)
+    (λ c. search needs)
+    (λ c κs. search needs)
+    (λ c κs. search needs)
+    (λ c. search needs)
+    (λ c. search needs)
     loop-again
     returns)

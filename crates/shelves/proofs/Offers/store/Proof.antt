@@ -30,24 +30,6 @@ was c = was-by _ _ (deal-read (c .before .before .before .before .before .before
 came : (c : tie.After-over) → {b : Bool} → not (c .before .before .before .before .before .spot-by .result .here) && (c .before .before .before .before .before .before .before .before .before .args .x .here) ≡ b → not (has (findBy (dealsOf (c .before .before .before .before .before .before .before .before .before .args .t1)) (c .before .before .before .before .before .before .before .before .before .args .key))) && (c .before .before .before .before .before .before .before .before .before .args .x .here) ≡ b
 came c = λ q. ap (λ z. not z && (c .before .before .before .before .before .before .before .before .before .args .x .here)) (sym (was c)) ∙ q
 
-mul-o : tie.Need-mul-o
-mul-o c = omega (arith, below c)
-
-element-copy-out-o : tie.Need-element-copy-out-o
-element-copy-out-o c = omega (arith, below c)
-
-mul-g : tie.Need-mul-g
-mul-g c = omega (arith, below (c .before))
-
-element-copy-out-g : tie.Need-element-copy-out-g
-element-copy-out-g c = omega (arith, below (c .before))
-
-mul-q : tie.Need-mul-q
-mul-q c = omega (arith, below (c .before .before))
-
-element-copy-out-q : tie.Need-element-copy-out-q
-element-copy-out-q c = omega (arith, below (c .before .before))
-
 mul-e : tie.Need-mul-e
 mul-e c = omega (arith, below (c .before .before .before .before .before .before .before .before))
 
@@ -80,12 +62,12 @@ store-spec =
     tie.close
     (tie.spec
     (λ c κs. search needs)
-    mul-o
-    element-copy-out-o
-    mul-g
-    element-copy-out-g
-    mul-q
-    element-copy-out-q
+    (λ c. omega (arith, below c))
+    (λ c. omega (arith, below c))
+    (λ c. omega (arith, below (c .before)))
+    (λ c. omega (arith, below (c .before)))
+    (λ c. omega (arith, below (c .before .before)))
+    (λ c. omega (arith, below (c .before .before)))
     (λ c κs. search needs)
     mul-e
     element-set-from-e
