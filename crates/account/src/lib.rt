@@ -21,6 +21,18 @@ pub struct Purse {
 }
 
 impl Purse {
+    // The purse of a new account.
+    pub fn none() -> Purse
+        ensures { λ r. ⌜ r ≡ noPurse ⌝ }
+    {
+        Purse {
+            balance: 0,
+            allowance: 0,
+            offered: 0,
+            accepted: 0,
+        }
+    }
+
     // Whether every number is one that a sound book holds.
     pub fn sound(self) -> bool
         ensures { λ r. ⌜ r ≡ purseSound self ⌝ }
@@ -41,18 +53,6 @@ impl Purse {
         let offered = money::is_zero(self.offered);
         let accepted = money::is_zero(self.accepted);
         balance & allowance & offered & accepted
-    }
-
-    // The purse of a new account.
-    pub fn none() -> Purse
-        ensures { λ r. ⌜ r ≡ noPurse ⌝ }
-    {
-        Purse {
-            balance: 0,
-            allowance: 0,
-            offered: 0,
-            accepted: 0,
-        }
     }
 }
 

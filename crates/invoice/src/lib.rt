@@ -21,16 +21,6 @@ pub struct Invoice {
 }
 
 impl Invoice {
-    pub fn none() -> Invoice
-        ensures { λ r. ⌜ r ≡ noInvoice ⌝ }
-    {
-        Invoice {
-            originator: 0,
-            amount: 0,
-            status: PENDING,
-        }
-    }
-
     pub fn new(originator: u64, amount: i64) -> Invoice
         ensures { λ r. ⌜ r ≡ invoiceOf originator amount ⌝ }
     {
@@ -47,6 +37,16 @@ impl Invoice {
         let a = money::in_amount_range(self.amount);
         let s = self.status;
         a & (s <= CANCELLED)
+    }
+
+    pub fn none() -> Invoice
+        ensures { λ r. ⌜ r ≡ noInvoice ⌝ }
+    {
+        Invoice {
+            originator: 0,
+            amount: 0,
+            status: PENDING,
+        }
     }
 
     pub fn zero(self) -> bool

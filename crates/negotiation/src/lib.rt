@@ -4,11 +4,6 @@ ghost use Rattle.refusal.specs.Refusal.{first};
 ghost use Rattle.negotiation.specs.Rounds.{termsOf, roundOf, deadlineOf, statusOf, negotiable, addedOf, acceptedOf, closedAs, agreesOf, roundLimit, roundSlots, roundSound, roundZero, noNegotiation, negotiationSound, negotiationZero};
 ghost use Rattle.negotiation.specs.Whole.{Whole};
 
-// An offer has places for this many rounds, and gets at most so many.
-pub const ROUND_SLOTS: u32 = 12;
-
-pub const ROUND_LIMIT: u32 = 12;
-
 // 32 bytes, so that a book of sixteen rounds an offer stays small.
 pub struct Round {
     pub amount: i64,
@@ -22,6 +17,11 @@ pub struct Round {
 pub const LENDER: u32 = 0;
 
 pub const ORIGINATOR: u32 = 1;
+
+// An offer has places for this many rounds, and gets at most so many.
+pub const ROUND_SLOTS: u32 = 12;
+
+pub const ROUND_LIMIT: u32 = 12;
 
 pub struct Negotiation {
     pub rounds: [Round; 12],

@@ -20,6 +20,17 @@ pub struct Settings {
 }
 
 impl Settings {
+    // The window in range, and a threshold that the seats can reach.
+    pub fn sound(self) -> bool
+        ensures { λ r. ⌜ r ≡ settingsSound self ⌝ }
+    {
+        let window = self.window;
+        let seats = self.seats as u64;
+        let threshold = self.threshold;
+        let reachable = seats::threshold_ok(seats, threshold);
+        (SHORTEST_WINDOW <= window) & (window <= LONGEST_WINDOW) & reachable
+    }
+
     // Seat 0 alone with threshold 1, no repayment account, not paused.
     pub fn fresh() -> Settings
         ensures { λ r. ⌜ r ≡ freshSettings ⌝ }
@@ -32,17 +43,6 @@ impl Settings {
             appointed: false,
             paused: false,
         }
-    }
-
-    // The window in range, and a threshold that the seats can reach.
-    pub fn sound(self) -> bool
-        ensures { λ r. ⌜ r ≡ settingsSound self ⌝ }
-    {
-        let window = self.window;
-        let seats = self.seats as u64;
-        let threshold = self.threshold;
-        let reachable = seats::threshold_ok(seats, threshold);
-        (SHORTEST_WINDOW <= window) & (window <= LONGEST_WINDOW) & reachable
     }
 
     // Whether the seats presented reach the threshold.

@@ -21,21 +21,6 @@ pub struct Schedule {
     pub first: u64,
 }
 
-pub enum InstallmentAnswer {
-    Of(i64),
-    Invalid,
-}
-
-pub enum PeriodAnswer {
-    Seconds(u64),
-    Unlisted,
-}
-
-pub enum DueAnswer {
-    Number(u64),
-    Invalid,
-}
-
 pub fn terms_valid(t: Terms) -> bool
     ensures { λ r. ⌜ r ≡ termsOk t ⌝ }
 {
@@ -89,6 +74,11 @@ pub fn schedule_zero(s: Schedule) -> bool
     (count == 0) & (code == 0) & installment & (first == 0)
 }
 
+pub enum InstallmentAnswer {
+    Of(i64),
+    Invalid,
+}
+
 pub fn installment(t: Terms, count: u32) -> InstallmentAnswer
     ensures { λ r. ⌜ installmentSays r ≡ installmentOf t count ⌝ }
 {
@@ -118,6 +108,11 @@ fn seconds(code: u32) -> u64
         return 2592000;
     }
     0
+}
+
+pub enum PeriodAnswer {
+    Seconds(u64),
+    Unlisted,
 }
 
 pub fn period(code: u32) -> PeriodAnswer
@@ -171,6 +166,11 @@ pub const FINANCED: u32 = 3;
 pub const REPAID: u32 = 4;
 
 pub const DEFAULTED: u32 = 5;
+
+pub enum DueAnswer {
+    Number(u64),
+    Invalid,
+}
 
 pub fn due(s: Schedule, status: u32, repaid: i64, now: u64) -> DueAnswer
     ensures { λ r. ⌜ dueSays r ≡ dueOf s status repaid now ⌝ }

@@ -12,6 +12,17 @@ pub struct Totals {
 }
 
 impl Totals {
+    // Whether each total and the count are in range.
+    pub fn sound(self) -> bool
+        ensures { λ r. ⌜ r ≡ totalsSound self ⌝ }
+    {
+        let financed = money::in_total_range(self.financed);
+        let repaid = money::in_total_range(self.repaid);
+        let fees = money::in_total_range(self.fees);
+        let count = self.offers;
+        financed & repaid & fees & (count <= money::COUNT_LIMIT)
+    }
+
     // The totals of a fresh book.
     pub fn none() -> Totals
         ensures { λ r. ⌜ r ≡ noTotals ⌝ }
@@ -22,17 +33,6 @@ impl Totals {
             fees: 0,
             offers: 0,
         }
-    }
-
-    // Whether each total and the count are in range.
-    pub fn sound(self) -> bool
-        ensures { λ r. ⌜ r ≡ totalsSound self ⌝ }
-    {
-        let financed = money::in_total_range(self.financed);
-        let repaid = money::in_total_range(self.repaid);
-        let fees = money::in_total_range(self.fees);
-        let count = self.offers;
-        financed & repaid & fees & (count <= money::COUNT_LIMIT)
     }
 
     // One offer more.

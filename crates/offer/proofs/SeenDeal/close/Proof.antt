@@ -28,8 +28,17 @@ as-closed : (c : tie.After-closed) → let a = c .before .before .before .before
 as-closed c = let a = c .before .before .before .before .before .before .before .before .before .before .before .before .before .args in
     c .closed .ensures ∙ ap (λ z. closedAs z (a .self .row .negotiation)) (c .before .outcome-at .ensures ∙ ap outcomeAt (c .before .before .before .before .before .before .before .before .status .ensures))
 
+refused-requires : tie.Need-refused-requires
+refused-requires c κs = search needs
+
 returns : tie.Need-returns
 returns c = c .refused .ensures ∙ refuses posted invalidTransition _ _ _ (c .before .if1 .taken)
+
+status-requires : tie.Need-status-requires
+status-requires c κs = search needs
+
+refused-requires-2 : tie.Need-refused-requires-2
+refused-requires-2 c κs = search needs
 
 returns-2 : tie.Need-returns-2
 returns-2 c =
@@ -37,12 +46,18 @@ returns-2 c =
     goes-on posted invalidTransition _ _ _ (c .before .before .before .if1 .left)
     (refuses posted notFound _ _ _ (eq-eqb _ _ (sym (c .before .before .status .ensures) ∙ c .before .if2 .taken))))
 
+refused-requires-3 : tie.Need-refused-requires-3
+refused-requires-3 c κs = search needs
+
 returns-3 : tie.Need-returns-3
 returns-3 c =
     c .refused3 .ensures ∙ (
     goes-on posted invalidTransition _ _ _ (c .before .before .before .before .if1 .left)
     (goes-on posted notFound _ _ _ (not-none (c .before .before))
     (refuses posted invalidTransition _ _ _ (eq-eqb _ _ (sym (c .before .before .before .status .ensures) ∙ c .before .if3 .taken)))))
+
+refused-requires-4 : tie.Need-refused-requires-4
+refused-requires-4 c κs = search needs
 
 returns-4 : tie.Need-returns-4
 returns-4 c =
@@ -52,6 +67,9 @@ returns-4 c =
     (goes-on posted invalidTransition _ _ _ (not-closed (c .before .before .before))
     (refuses posted notFound _ _ _ (outside (c .before .before .before .before .before) _ ∙ c .before .if4 .taken)))))
 
+refused-requires-5 : tie.Need-refused-requires-5
+refused-requires-5 c κs = search needs
+
 returns-5 : tie.Need-returns-5
 returns-5 c =
     c .refused5 .ensures ∙ (
@@ -60,6 +78,12 @@ returns-5 c =
     (goes-on posted invalidTransition _ _ _ (not-closed (c .before .before .before .before .before))
     (goes-on posted notFound _ _ _ (outside (c .before .before .before .before .before .before .before) _ ∙ c .before .before .before .if4 .left)
     (refuses posted unauthorized _ _ _ (outside (c .before .before .before .before .before .before .before) _ ∙ c .before .if5 .taken))))))
+
+outcome-at-requires : tie.Need-outcome-at-requires
+outcome-at-requires c κs = search needs
+
+closed-requires : tie.Need-closed-requires
+closed-requires c κs = search needs
 
 returns-6 : tie.Need-returns-6
 returns-6 c =
@@ -74,17 +98,17 @@ pub close-spec : {M : Type 1} → statement M
 close-spec =
     tie.close
     (tie.spec
-    (λ c κs. search needs)
+    refused-requires
     returns
-    (λ c κs. search needs)
-    (λ c κs. search needs)
+    status-requires
+    refused-requires-2
     returns-2
-    (λ c κs. search needs)
+    refused-requires-3
     returns-3
-    (λ c κs. search needs)
+    refused-requires-4
     returns-4
-    (λ c κs. search needs)
+    refused-requires-5
     returns-5
-    (λ c κs. search needs)
-    (λ c κs. search needs)
+    outcome-at-requires
+    closed-requires
     returns-6)
