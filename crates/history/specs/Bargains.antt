@@ -37,7 +37,7 @@ module _ {b : ℕ → Bargain} {t : Table Deal} (P : Bargained b t) (o : ℕ) wh
 
   pub accepted : Bargained (saidOn o accepts b) t
   unfolding said
-  accepted = record { shown = λ j. P .shown j ∙ sym (either (λ z. z ≡ _) (eqb o j) _ _ (λ e. refl) (λ e. refl)); rounds = P .rounds }
+  accepted = record { shown = λ j. P .shown j ∙ sym (either (λ z. z ≡ b j) (eqb o j) _ _ (λ e. refl) (λ e. refl)); rounds = P .rounds }
 
   pub settled : (now : ℕ) → Bargained b (put t o (settledDeal now there))
   unfolding settledDeal
@@ -53,7 +53,7 @@ module _ {b : ℕ → Bargain} {t : Table Deal} (P : Bargained b t) (o : ℕ) wh
       let q : bargainOf (here d) ≡ k = ap (λ z. record { lender = a; invoice = i; terms = x; counter = z }) (none-asked roundSlots) in
       record {
         shown = λ j. at-insert bargainOf t o d n j ∙ ap (λ z. pick (eqb o j) z (bargainOf (find t j))) q ∙ ap (λ z. pick (eqb o j) k z) (P .shown j);
-        rounds = λ j. record { long = at-insert size t o d n j ∙ either (λ z. z ≡ _) (eqb o j) _ _ (λ e. refl) (λ e. P .rounds j .long) };
+        rounds = λ j. record { long = at-insert size t o d n j ∙ either (λ z. z ≡ roundSlots) (eqb o j) _ _ (λ e. refl) (λ e. P .rounds j .long) };
       }
 
   -- the row put anew, seen as the deed
