@@ -20,6 +20,24 @@ pub struct Settings {
 }
 
 impl Settings {
+    // Whether the seats presented reach the threshold.
+    pub fn admin_passes(self, presented: u64) -> bool
+        ensures { λ r. ⌜ r ≡ adminPasses self presented ⌝ }
+    {
+        let seats = self.seats;
+        let threshold = self.threshold;
+        seats::reaches(presented, seats, threshold)
+    }
+
+    // Whether the caller is the appointed repayment account.
+    pub fn is_repayer(self, caller: u64) -> bool
+        ensures { λ r. ⌜ r ≡ isRepayer self caller ⌝ }
+    {
+        let appointed = self.appointed;
+        let repayer = self.repayer;
+        appointed & (repayer == caller)
+    }
+
     // The window in range, and a threshold that the seats can reach.
     pub fn sound(self) -> bool
         ensures { λ r. ⌜ r ≡ settingsSound self ⌝ }
@@ -43,24 +61,6 @@ impl Settings {
             appointed: false,
             paused: false,
         }
-    }
-
-    // Whether the seats presented reach the threshold.
-    pub fn admin_passes(self, presented: u64) -> bool
-        ensures { λ r. ⌜ r ≡ adminPasses self presented ⌝ }
-    {
-        let seats = self.seats;
-        let threshold = self.threshold;
-        seats::reaches(presented, seats, threshold)
-    }
-
-    // Whether the caller is the appointed repayment account.
-    pub fn is_repayer(self, caller: u64) -> bool
-        ensures { λ r. ⌜ r ≡ isRepayer self caller ⌝ }
-    {
-        let appointed = self.appointed;
-        let repayer = self.repayer;
-        appointed & (repayer == caller)
     }
 
     // The admins pause the desk or let it go on.

@@ -12,29 +12,6 @@ pub struct Totals {
 }
 
 impl Totals {
-    // Whether each total and the count are in range.
-    pub fn sound(self) -> bool
-        ensures { λ r. ⌜ r ≡ totalsSound self ⌝ }
-    {
-        let financed = money::in_total_range(self.financed);
-        let repaid = money::in_total_range(self.repaid);
-        let fees = money::in_total_range(self.fees);
-        let count = self.offers;
-        financed & repaid & fees & (count <= money::COUNT_LIMIT)
-    }
-
-    // The totals of a fresh book.
-    pub fn none() -> Totals
-        ensures { λ r. ⌜ r ≡ noTotals ⌝ }
-    {
-        Totals {
-            financed: 0,
-            repaid: 0,
-            fees: 0,
-            offers: 0,
-        }
-    }
-
     // One offer more.
     pub fn count(mut self) -> TotalsPosted
         ensures { λ r. ⌜ r ≡ answered counted self (countOf self) ⌝ }
@@ -85,6 +62,29 @@ impl Totals {
         TotalsPosted {
             answer: 0,
             row: self,
+        }
+    }
+
+    // Whether each total and the count are in range.
+    pub fn sound(self) -> bool
+        ensures { λ r. ⌜ r ≡ totalsSound self ⌝ }
+    {
+        let financed = money::in_total_range(self.financed);
+        let repaid = money::in_total_range(self.repaid);
+        let fees = money::in_total_range(self.fees);
+        let count = self.offers;
+        financed & repaid & fees & (count <= money::COUNT_LIMIT)
+    }
+
+    // The totals of a fresh book.
+    pub fn none() -> Totals
+        ensures { λ r. ⌜ r ≡ noTotals ⌝ }
+    {
+        Totals {
+            financed: 0,
+            repaid: 0,
+            fees: 0,
+            offers: 0,
         }
     }
 }
