@@ -55,16 +55,16 @@ impl Book {
         ensures shelved { λ r. ⌜ (r ≡ true → Shelved self) ⌝ }
     {
         let accounts = self.accounts;
-        let a = accounts.sound();
+        let accounts_sound = accounts.sound();
         let invoices = self.invoices;
-        let b = invoices.sound();
+        let invoices_sound = invoices.sound();
         let offers = self.offers;
-        let c = offers.sound();
+        let offers_sound = offers.sound();
         let totals = self.totals;
-        let d = totals.sound();
+        let totals_sound = totals.sound();
         let settings = self.settings;
-        let e = settings.sound();
-        a & b & c & d & e
+        let settings_sound = settings.sound();
+        accounts_sound & invoices_sound & offers_sound & totals_sound & settings_sound
     }
 
     // The step on a sound book: it tests nothing of the book again. The rows that the command names are seen, turned and stored.
@@ -76,22 +76,22 @@ impl Book {
         let id = names.offer;
         let offers = self.offers;
         let deal = offers.see(id);
-        let d = deal.row;
-        let o = d.offer;
+        let row = deal.row;
+        let offer = row.offer;
         let p = names.paper;
-        let key = p.key(o.invoice);
+        let key = p.key(offer.invoice);
         let invoices = self.invoices;
         let paper = invoices.see(key);
-        let i = paper.row;
-        let q = names.second;
-        let other = q.key(o.lender, i.originator);
+        let invoice = paper.row;
+        let second = names.second;
+        let other = second.key(offer.lender, invoice.originator);
         let caller = names.first;
         let accounts = self.accounts;
-        let a = accounts.see(caller);
+        let seen = accounts.see(caller);
         let b = accounts.see(other);
         let one = caller.same(other);
         let parties = Parties {
-            first: a,
+            first: seen,
             second: b,
             one,
         };
@@ -109,13 +109,13 @@ impl Book {
             invoices: invoices.count,
             offers: offers.count,
         };
-        let t = near.turn(c, rows);
-        let after = t.near;
+        let turn = near.turn(c, rows);
+        let after = turn.near;
         let both = after.parties;
-        let x = both.first;
+        let first = both.first;
         let y = both.second;
         let z = y.row;
-        let more = accounts.store(caller, other, x, z);
+        let more = accounts.store(caller, other, first, z);
         self.accounts = more;
         let papers = invoices.store(key, after.paper);
         self.invoices = papers;
@@ -126,7 +126,7 @@ impl Book {
         let set = after.settings;
         self.settings = set;
         Step {
-            answer: t.answer,
+            answer: turn.answer,
             book: self,
         }
     }

@@ -35,8 +35,8 @@ impl Invoice {
         ensures { λ r. ⌜ r ≡ invoiceSound self ⌝ }
     {
         let a = money::in_amount_range(self.amount);
-        let s = self.status;
-        a & (s <= CANCELLED)
+        let status = self.status;
+        a & (status <= CANCELLED)
     }
 
     pub fn none() -> Invoice
@@ -52,10 +52,10 @@ impl Invoice {
     pub fn zero(self) -> bool
         ensures { λ r. ⌜ r ≡ invoiceZero self ⌝ }
     {
-        let o = self.originator;
-        let a = money::is_zero(self.amount);
-        let s = self.status;
-        (o == 0) & a & (s == 0)
+        let originator = self.originator;
+        let zero = money::is_zero(self.amount);
+        let status = self.status;
+        (originator == 0) & zero & (status == 0)
     }
 
     pub fn financed(mut self) -> Invoice
@@ -90,15 +90,15 @@ impl SeenInvoice {
                 row,
             };
         }
-        let o = row.originator;
-        if o != caller {
+        let originator = row.originator;
+        if originator != caller {
             return InvoicePosted {
                 answer: refusal::UNAUTHORIZED,
                 row,
             };
         }
-        let s = row.status;
-        if s != PENDING {
+        let status = row.status;
+        if status != PENDING {
             return InvoicePosted {
                 answer: refusal::INVALID_TRANSITION,
                 row,

@@ -28,14 +28,14 @@ pub fn put_mark(out: &mut [u8], pen: Pen, ink: bool, n: u64, at: u64) -> Pen
 pub fn put_account(out: &mut [u8], pen: Pen, ink: bool, id: u64, row: Account) -> Pen
     ensures { λ r. ⌜ Wrote ink (accountLine id row) (now (out .entry)) pen (now (out .exit)) r ⌝ }
 {
-    let p = sheet::put(out, pen, ink, b"account");
+    let past = sheet::put(out, pen, ink, b"account");
     let purse = row.purse;
     let balance = money::magnitude(purse.balance);
     let allowance = money::magnitude(purse.allowance);
     let offered = money::magnitude(purse.offered);
     let accepted = money::magnitude(purse.accepted);
     let xs = [id, balance, allowance, offered, accepted];
-    sheet::put_numbers(out, p, ink, &xs)
+    sheet::put_numbers(out, past, ink, &xs)
 }
 
 // The first n rows, or all of them.
@@ -64,10 +64,10 @@ pub fn put_accounts(
 pub fn put_totals(out: &mut [u8], pen: Pen, ink: bool, totals: Totals) -> Pen
     ensures { λ r. ⌜ Wrote ink (totalsLine totals) (now (out .entry)) pen (now (out .exit)) r ⌝ }
 {
-    let p = sheet::put(out, pen, ink, b"totals");
+    let past = sheet::put(out, pen, ink, b"totals");
     let financed = money::magnitude(totals.financed);
     let repaid = money::magnitude(totals.repaid);
     let fees = money::magnitude(totals.fees);
     let xs = [financed, repaid, fees];
-    sheet::put_numbers(out, p, ink, &xs)
+    sheet::put_numbers(out, past, ink, &xs)
 }

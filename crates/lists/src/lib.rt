@@ -55,16 +55,16 @@ impl OfferNumbers {
     pub fn of(id: u64, o: Offer) -> OfferNumbers
         ensures { λ r. ⌜ r ≡ numbersOf id o ⌝ }
     {
-        let t = o.terms;
-        let amount = money::bits(t.amount);
+        let terms = o.terms;
+        let amount = money::bits(terms.amount);
         let repaid = money::bits(o.repaid);
         OfferNumbers {
             id,
             invoice: o.invoice,
             lender: o.lender,
             amount,
-            rate: t.rate as u64,
-            duration: t.duration,
+            rate: terms.rate as u64,
+            duration: terms.duration,
             expires: o.expires,
             status: o.status as u64,
             funded: o.funded,
@@ -144,10 +144,10 @@ pub fn active(o: Offer, lender: u64) -> u64
     ensures { λ r. ⌜ r ≡ activeIn lender o ⌝ }
 {
     let l = o.lender;
-    let s = o.status;
-    if (l == lender) & ((s == terms::ACCEPTED) | (s == terms::FINANCED)) {
-        let t = o.terms;
-        return money::magnitude(t.amount);
+    let status = o.status;
+    if (l == lender) & ((status == terms::ACCEPTED) | (status == terms::FINANCED)) {
+        let terms = o.terms;
+        return money::magnitude(terms.amount);
     }
     0
 }
@@ -157,9 +157,9 @@ impl OfferRows {
     fn in_use(self) -> usize
         ensures { λ r. ⌜ InUse self r ⌝ }
     {
-        let n = self.count;
-        if n < table::ROOM {
-            return n;
+        let count = self.count;
+        if count < table::ROOM {
+            return count;
         }
         table::ROOM
     }
@@ -168,10 +168,10 @@ impl OfferRows {
         ensures counted { λ r. ⌜ r ≡ length (listing w (offersOf self)) ⌝ }
         ensures few { λ r. ⌜ r ≤ 64 ⌝ }
     {
-        let m = self.in_use();
+        let used = self.in_use();
         let mut n: usize = 0;
         let mut i: usize = 0;
-        while i < m {
+        while i < used {
             let row = self.rows[i];
             if w.takes(i as u64, row) {
                 n += 1;
@@ -185,10 +185,10 @@ impl OfferRows {
         requires { ⌜ 10 * length (listing w (offersOf self)) ≤ length (now out) ⌝ }
         ensures { λ _. ⌜ now (out .exit) ≡ filled w (offersOf self) (now (out .entry)) ⌝ }
     {
-        let m = self.in_use();
+        let used = self.in_use();
         let mut n: usize = 0;
         let mut i: usize = 0;
-        while i < m {
+        while i < used {
             let row = self.rows[i];
             if w.takes(i as u64, row) {
                 let id = self.ids[i];
@@ -220,10 +220,10 @@ impl OfferRows {
         requires { ⌜ InRange self ⌝ }
         ensures { λ r. ⌜ r ≡ activeOf lender (offersOf self) ⌝ }
     {
-        let m = self.in_use();
+        let used = self.in_use();
         let mut sum: u64 = 0;
         let mut i: usize = 0;
-        while i < m {
+        while i < used {
             let row = self.rows[i];
             sum += active(row, lender);
             i += 1;

@@ -118,64 +118,64 @@ impl Near {
         ensures { λ r. ⌜ AtFirst self r (λ a m. onAccount m a (Accounts.depositOf (accountIn m a .row) amount)) ⌝ }
     {
         let parties = self.parties;
-        let s = parties.first;
-        let row = s.row;
-        let p = row.deposit(amount);
-        self.first_posted(p)
+        let first = parties.first;
+        let row = first.row;
+        let posted = row.deposit(amount);
+        self.first_posted(posted)
     }
 
     fn paid_out(self, amount: i64) -> Turn
         ensures { λ r. ⌜ AtFirst self r (λ a m. onAccount m a (Accounts.payoutOf (accountIn m a .row) amount)) ⌝ }
     {
         let parties = self.parties;
-        let s = parties.first;
-        let row = s.row;
-        let p = row.payout(amount);
-        self.first_posted(p)
+        let first = parties.first;
+        let row = first.row;
+        let posted = row.payout(amount);
+        self.first_posted(posted)
     }
 
     fn approved(self, amount: i64) -> Turn
         ensures { λ r. ⌜ AtFirst self r (λ a m. onAccount m a (Accounts.approveOf (accountIn m a .row) amount)) ⌝ }
     {
         let parties = self.parties;
-        let s = parties.first;
-        let row = s.row;
-        let p = row.approve(amount);
-        self.first_posted(p)
+        let first = parties.first;
+        let row = first.row;
+        let posted = row.approve(amount);
+        self.first_posted(posted)
     }
 
     fn blacklisted(self, code: u32, seats: u64) -> Turn
         ensures { λ r. ⌜ AtFirst self r (λ a m. onAccount m a (Accounts.blacklistOf (accountIn m a) (Set.adminPasses (m .settings) seats) code)) ⌝ }
     {
         let parties = self.parties;
-        let s = parties.first;
+        let first = parties.first;
         let settings = self.settings;
         let allowed = settings.admin_passes(seats);
-        let p = s.blacklist(allowed, code);
-        self.first_posted(p)
+        let posted = first.blacklist(allowed, code);
+        self.first_posted(posted)
     }
 
     fn lender_repaid(self, caller: u64, flag: u32) -> Turn
         ensures { λ r. ⌜ AtSecond self r (λ b m. onAccount m b (Accounts.lenderRepaidOf (accountIn m b) (Set.isRepayer (m .settings) caller) flag)) ⌝ }
     {
         let parties = self.parties;
-        let s = parties.second;
+        let second = parties.second;
         let settings = self.settings;
         let allowed = settings.is_repayer(caller);
-        let p = s.lender_repaid(allowed, flag);
-        self.second_posted(p)
+        let posted = second.lender_repaid(allowed, flag);
+        self.second_posted(posted)
     }
 
     fn cancelled(mut self, caller: u64) -> Turn
         ensures { λ r. ⌜ AtPaper self r (λ i m. onInvoice m i (Invoices.cancelOf (invoiceIn m i) caller)) ⌝ }
     {
-        let s = self.paper;
-        let p = s.cancel(caller);
-        let row = p.row;
-        let next = s.put(row);
+        let paper = self.paper;
+        let posted = paper.cancel(caller);
+        let row = posted.row;
+        let next = paper.put(row);
         self.paper = next;
         Turn {
-            answer: p.answer,
+            answer: posted.answer,
             near: self,
         }
     }
@@ -183,56 +183,56 @@ impl Near {
     fn withdrawn(self, caller: u64) -> Turn
         ensures { λ r. ⌜ AtDeal self r (λ o m. onOffer m o (withdrawOf (offerIn m o) caller)) ⌝ }
     {
-        let s = self.deal;
-        let p = s.withdraw(caller);
-        self.deal_posted(p)
+        let deal = self.deal;
+        let posted = deal.withdraw(caller);
+        self.deal_posted(posted)
     }
 
     fn rejected(self, caller: u64) -> Turn
         ensures { λ r. ⌜ AtDeal self r (λ o m. onOffer m o (rejectOf (offerIn m o) caller (paperOf m o))) ⌝ }
     {
-        let s = self.deal;
+        let deal = self.deal;
         let paper = self.paper;
-        let p = s.reject(caller, paper);
-        self.deal_posted(p)
+        let posted = deal.reject(caller, paper);
+        self.deal_posted(posted)
     }
 
     fn closed(self, now: u64, caller: u64) -> Turn
         ensures { λ r. ⌜ AtDeal self r (λ o m. onOffer m o (closeOf (offerIn m o) now caller (paperOf m o))) ⌝ }
     {
-        let s = self.deal;
+        let deal = self.deal;
         let paper = self.paper;
-        let p = s.close(now, caller, paper);
-        self.deal_posted(p)
+        let posted = deal.close(now, caller, paper);
+        self.deal_posted(posted)
     }
 
     fn scheduled(self, now: u64, caller: u64, count: u32, code: u32, start: u64) -> Turn
         ensures { λ r. ⌜ AtDeal self r (λ o m. onOffer m o (scheduleOf (offerIn m o) now caller count code start (paperOf m o))) ⌝ }
     {
-        let s = self.deal;
+        let deal = self.deal;
         let paper = self.paper;
-        let p = s.schedule(now, caller, count, code, start, paper);
-        self.deal_posted(p)
+        let posted = deal.schedule(now, caller, count, code, start, paper);
+        self.deal_posted(posted)
     }
 
     fn status_updated(self, caller: u64, code: u32) -> Turn
         ensures { λ r. ⌜ AtDeal self r (λ o m. onOffer m o (statusUpdateOf (offerIn m o) (Set.isRepayer (m .settings) caller) code)) ⌝ }
     {
-        let s = self.deal;
+        let deal = self.deal;
         let settings = self.settings;
         let allowed = settings.is_repayer(caller);
-        let p = s.update_status(allowed, code);
-        self.deal_posted(p)
+        let posted = deal.update_status(allowed, code);
+        self.deal_posted(posted)
     }
 
     fn repaid_updated(self, caller: u64, amount: i64) -> Turn
         ensures { λ r. ⌜ AtDeal self r (λ o m. onOffer m o (repaidUpdateOf (offerIn m o) (Set.isRepayer (m .settings) caller) amount)) ⌝ }
     {
-        let s = self.deal;
+        let deal = self.deal;
         let settings = self.settings;
         let allowed = settings.is_repayer(caller);
-        let p = s.update_repaid(allowed, amount);
-        self.deal_posted(p)
+        let posted = deal.update_repaid(allowed, amount);
+        self.deal_posted(posted)
     }
 
     fn totals_repaid(mut self, caller: u64, amount: i64, fee: i64) -> Turn
@@ -241,11 +241,11 @@ impl Near {
         let settings = self.settings;
         let allowed = settings.is_repayer(caller);
         let totals = self.totals;
-        let p = totals.repay(allowed, amount, fee);
-        let next = p.row;
+        let posted = totals.repay(allowed, amount, fee);
+        let next = posted.row;
         self.totals = next;
         Turn {
-            answer: p.answer,
+            answer: posted.answer,
             near: self,
         }
     }
@@ -254,34 +254,34 @@ impl Near {
         ensures { λ r. ⌜ Anywhere self r (λ m. onSettings m (Set.pauseOf (m .settings) seats paused)) ⌝ }
     {
         let settings = self.settings;
-        let p = settings.pause(seats, paused);
-        self.settings_posted(p)
+        let posted = settings.pause(seats, paused);
+        self.settings_posted(posted)
     }
 
     fn window_set(self, seats: u64, window: u64) -> Turn
         ensures { λ r. ⌜ Anywhere self r (λ m. onSettings m (Set.windowOf (m .settings) seats window)) ⌝ }
     {
         let settings = self.settings;
-        let p = settings.set_window(seats, window);
-        self.settings_posted(p)
+        let posted = settings.set_window(seats, window);
+        self.settings_posted(posted)
     }
 
     fn repayer_set(self, id: u64, seats: u64) -> Turn
         ensures { λ r. ⌜ ((b i o : Keyed.Named) (m : Model) → Turns self r (keysBy (Id id) b i o) m (onSettings m (Set.repayerOf (m .settings) seats id (accountIn m id .here)))) ⌝ }
     {
         let parties = self.parties;
-        let s = parties.first;
+        let first = parties.first;
         let settings = self.settings;
-        let p = settings.set_repayer(seats, id, s.here);
-        self.settings_posted(p)
+        let posted = settings.set_repayer(seats, id, first.here);
+        self.settings_posted(posted)
     }
 
     fn seats_set(self, seats: u64, threshold: u32, fresh: u64) -> Turn
         ensures { λ r. ⌜ Anywhere self r (λ m. onSettings m (Set.seatsOf (m .settings) seats threshold fresh)) ⌝ }
     {
         let settings = self.settings;
-        let p = settings.set_seats(seats, threshold, fresh);
-        self.settings_posted(p)
+        let posted = settings.set_seats(seats, threshold, fresh);
+        self.settings_posted(posted)
     }
 }
 
@@ -291,8 +291,8 @@ impl Near {
         ensures { λ r. ⌜ ((a : ℕ) (b i o : Keyed.Named) (m : Model) → filled ≡ full 64 (m .accounts) → Turns self r (keysBy (Id a) b i o) m (opening m a)) ⌝ }
     {
         let mut parties = self.parties;
-        let s = parties.first;
-        if s.here {
+        let first = parties.first;
+        if first.here {
             return Turn {
                 answer: refusal::ALREADY_EXISTS,
                 near: self,
@@ -316,11 +316,11 @@ impl Near {
     fn registered(mut self, caller: u64, amount: i64, filled: bool) -> Turn
         ensures { λ r. ⌜ ((i : ℕ) (a b o : Keyed.Named) (m : Model) → filled ≡ full 64 (m .invoices) → Turns self r (keysBy a b (Id i) o) m (registering m caller i amount)) ⌝ }
     {
-        let s = self.paper;
-        let n = invoice::register_refusal(amount, s.here, filled);
-        if !(n == 0) {
+        let paper = self.paper;
+        let refusal = invoice::register_refusal(amount, paper.here, filled);
+        if !(refusal == 0) {
             return Turn {
-                answer: n,
+                answer: refusal,
                 near: self,
             };
         }
@@ -337,21 +337,21 @@ impl Near {
         ensures { λ r. ⌜ ((o : ℕ) (b : Keyed.Named) (m : Model) → filled ≡ full 64 (m .offers) → Turns self r (keysBy (Id caller) b (Id paper) (Id o)) m (creating m caller o paper t expires)) ⌝ }
     {
         let parties = self.parties;
-        let s = parties.first;
-        let lender = s.row;
+        let first = parties.first;
+        let lender = first.row;
         let i = self.paper;
         let d = self.deal;
-        let n = offer::create_refusal(caller, lender, t, i, d.here, filled);
-        if !(n == 0) {
+        let refusal = offer::create_refusal(caller, lender, t, i, d.here, filled);
+        if !(refusal == 0) {
             return Turn {
-                answer: n,
+                answer: refusal,
                 near: self,
             };
         }
-        let p = lender.offer(t);
-        if !(p.answer == 0) {
+        let posted = lender.offer(t);
+        if !(posted.answer == 0) {
             return Turn {
-                answer: p.answer,
+                answer: posted.answer,
                 near: self,
             };
         }
@@ -363,9 +363,9 @@ impl Near {
                 near: self,
             };
         }
-        let row = p.row;
-        let x = parties.put_first(row);
-        self.parties = x;
+        let row = posted.row;
+        let put = parties.put_first(row);
+        self.parties = put;
         let deal = Deal::new(caller, paper, t, expires);
         let y = SeenDeal {
             here: true,
@@ -387,35 +387,35 @@ impl Near {
     fn settle(mut self, now: u64, lends: bool) -> Turn
         ensures { λ r. ⌜ BySides lends self r (λ o m. settling now o m) ⌝ }
     {
-        let s = self.deal;
-        let d = s.row;
-        let o = d.offer;
-        let t = o.terms;
+        let deal = self.deal;
+        let row = deal.row;
+        let offer = row.offer;
+        let terms = offer.terms;
         let parties = self.parties;
-        let p = parties.settle_by(t, lends);
-        if !(p.answer == 0) {
+        let posted = parties.settle_by(terms, lends);
+        if !(posted.answer == 0) {
             return Turn {
-                answer: p.answer,
+                answer: posted.answer,
                 near: self,
             };
         }
         let totals = self.totals;
-        let q = totals.finance(t);
+        let q = totals.finance(terms);
         if !(q.answer == 0) {
             return Turn {
                 answer: q.answer,
                 near: self,
             };
         }
-        let x = p.parties;
+        let x = posted.parties;
         self.parties = x;
         let paper = self.paper;
-        let i = paper.row;
-        let j = i.financed();
-        let y = paper.put(j);
-        self.paper = y;
-        let e = d.settled(now);
-        let z = s.put(e);
+        let invoice = paper.row;
+        let j = invoice.financed();
+        let put = paper.put(j);
+        self.paper = put;
+        let settled = row.settled(now);
+        let z = deal.put(settled);
         self.deal = z;
         let u = q.row;
         self.totals = u;
@@ -428,12 +428,12 @@ impl Near {
     fn accepted(self, now: u64, caller: u64) -> Turn
         ensures { λ r. ⌜ ((o : ℕ) (m : Model) → Turns self r (dealKeys (Id caller) (Id (lenderOf m o)) m o) m (accepting m now caller o)) ⌝ }
     {
-        let s = self.deal;
+        let deal = self.deal;
         let paper = self.paper;
-        let n = s.accept_refusal(now, caller, paper);
-        if !(n == 0) {
+        let refusal = deal.accept_refusal(now, caller, paper);
+        if !(refusal == 0) {
             return Turn {
-                answer: n,
+                answer: refusal,
                 near: self,
             };
         }
@@ -444,13 +444,13 @@ impl Near {
     fn conclude(self, now: u64, lends: bool) -> Turn
         ensures { λ r. ⌜ BySides lends self r (λ o m. concluding now o m) ⌝ }
     {
-        let s = self.deal;
-        let d = s.row;
+        let deal = self.deal;
+        let row = deal.row;
         let paper = self.paper;
         let parties = self.parties;
         let lender = parties.side(lends);
         let originator = parties.side(!lends);
-        let n = d.agreement_refusal(now, paper, lender, originator);
+        let n = row.agreement_refusal(now, paper, lender, originator);
         if !(n == 0) {
             return Turn {
                 answer: n,
@@ -480,13 +480,13 @@ impl Near {
         ensures { λ r. ⌜ SeesAmendment self r now row t ⌝ }
     {
         let parties = self.parties;
-        let x = parties.put_first(row);
-        let s = self.deal;
-        let d = s.row;
+        let put = parties.put_first(row);
+        let deal = self.deal;
+        let d = deal.row;
         let settings = self.settings;
-        let e = d.amended(now, settings.window, t);
-        let y = s.put(e);
-        self.parties = x;
+        let amended = d.amended(now, settings.window, t);
+        let y = deal.put(amended);
+        self.parties = put;
         self.deal = y;
         self
     }
@@ -495,12 +495,12 @@ impl Near {
     fn with_counter(mut self, now: u64, t: Terms) -> Near
         ensures { λ r. ⌜ SeesCounter self r now t ⌝ }
     {
-        let s = self.deal;
-        let d = s.row;
+        let deal = self.deal;
+        let row = deal.row;
         let settings = self.settings;
-        let e = d.countered(now, settings.window, t);
-        let y = s.put(e);
-        self.deal = y;
+        let countered = row.countered(now, settings.window, t);
+        let put = deal.put(countered);
+        self.deal = put;
         self
     }
 
@@ -508,30 +508,30 @@ impl Near {
         ensures { λ r. ⌜ ((o : ℕ) (m : Model) → Turns self r (dealKeys (Id caller) (Id (originatorOf m o)) m o) m (amending m now caller o t round)) ⌝ }
     {
         let parties = self.parties;
-        let a = parties.first;
-        let lender = a.row;
-        let s = self.deal;
-        let n = s.amend_refusal(now, caller, lender, t, round);
-        if !(n == 0) {
+        let first = parties.first;
+        let lender = first.row;
+        let deal = self.deal;
+        let refusal = deal.amend_refusal(now, caller, lender, t, round);
+        if !(refusal == 0) {
             return Turn {
-                answer: n,
+                answer: refusal,
                 near: self,
             };
         }
-        let d = s.row;
-        let o = d.offer;
-        let old = o.terms;
-        let p = lender.reoffer(old, t);
-        if !(p.answer == 0) {
+        let d = deal.row;
+        let offer = d.offer;
+        let old = offer.terms;
+        let posted = lender.reoffer(old, t);
+        if !(posted.answer == 0) {
             return Turn {
-                answer: p.answer,
+                answer: posted.answer,
                 near: self,
             };
         }
-        let row = p.row;
+        let row = posted.row;
         let mid = self.with_amendment(now, row, t);
-        let g = d.negotiation;
-        if !g.agrees(t) {
+        let negotiation = d.negotiation;
+        if !negotiation.agrees(t) {
             return Turn {
                 answer: 0,
                 near: mid,
@@ -544,21 +544,21 @@ impl Near {
         ensures { λ r. ⌜ ((o : ℕ) (m : Model) → Turns self r (dealKeys (Id caller) (Id (lenderOf m o)) m o) m (countering m now caller o t round)) ⌝ }
     {
         let parties = self.parties;
-        let a = parties.first;
-        let originator = a.row;
-        let s = self.deal;
+        let first = parties.first;
+        let originator = first.row;
+        let deal = self.deal;
         let paper = self.paper;
-        let n = s.counter_refusal(now, caller, originator, t, round, paper);
-        if !(n == 0) {
+        let refusal = deal.counter_refusal(now, caller, originator, t, round, paper);
+        if !(refusal == 0) {
             return Turn {
-                answer: n,
+                answer: refusal,
                 near: self,
             };
         }
         let mid = self.with_counter(now, t);
-        let d = s.row;
-        let o = d.offer;
-        let present = o.terms;
+        let row = deal.row;
+        let offer = row.offer;
+        let present = offer.terms;
         if !terms::same_terms(present, t) {
             return Turn {
                 answer: 0,
@@ -573,11 +573,11 @@ impl Near {
 fn gate(c: Command, paused: bool, here: bool) -> u64
     ensures { λ r. ⌜ r ≡ first (gateBy paused here (namesOf c)) ⌝ }
 {
-    let n = c.names();
-    if paused & n.pausable {
+    let names = c.names();
+    if paused & names.pausable {
         return refusal::PAUSED;
     }
-    if n.called & !here {
+    if names.called & !here {
         return refusal::NOT_FOUND;
     }
     0

@@ -68,19 +68,19 @@ impl Round {
         ensures { λ r. ⌜ r ≡ roundSound self ⌝ }
     {
         let t = self.terms();
-        let p = self.party;
-        terms::terms_valid(t) & (p <= ORIGINATOR)
+        let party = self.party;
+        terms::terms_valid(t) & (party <= ORIGINATOR)
     }
 
     pub fn zero(self) -> bool
         ensures { λ r. ⌜ r ≡ roundZero self ⌝ }
     {
-        let a = money::is_zero(self.amount);
-        let d = self.duration;
-        let t = self.time;
-        let p = self.rate;
-        let q = self.party;
-        a & (d == 0) & (t == 0) & (p == 0) & (q == 0)
+        let zero = money::is_zero(self.amount);
+        let duration = self.duration;
+        let time = self.time;
+        let rate = self.rate;
+        let party = self.party;
+        zero & (duration == 0) & (time == 0) & (rate == 0) & (party == 0)
     }
 }
 
@@ -120,19 +120,19 @@ impl Negotiation {
     pub fn status(self, pending: bool, now: u64) -> u32
         ensures { λ r. ⌜ r ≡ statusOf self pending now ⌝ }
     {
-        let o = self.outcome;
-        if o != 0 {
-            return o;
+        let outcome = self.outcome;
+        if outcome != 0 {
+            return outcome;
         }
-        let n = self.len;
-        if n == 0 {
+        let count = self.len;
+        if count == 0 {
             return NONE;
         }
         if !pending {
             return CLOSED;
         }
-        let d = self.deadline;
-        if d < now {
+        let deadline = self.deadline;
+        if deadline < now {
             return EXPIRED;
         }
         OPEN
@@ -145,15 +145,15 @@ impl Negotiation {
         if !pending {
             return refusal::INVALID_TRANSITION;
         }
-        let s = self.status(pending, now);
-        if OPEN < s {
+        let status = self.status(pending, now);
+        if OPEN < status {
             return refusal::INVALID_TRANSITION;
         }
-        let n = self.len;
-        if n != round {
+        let count = self.len;
+        if count != round {
             return refusal::INVALID_INPUT;
         }
-        if ROUND_LIMIT <= n {
+        if ROUND_LIMIT <= count {
             return refusal::INVALID_TRANSITION;
         }
         0
@@ -162,16 +162,16 @@ impl Negotiation {
     pub fn added(mut self, r: Round, window: u64) -> Negotiation
         ensures { λ s. ⌜ s ≡ addedOf roundSlots self r window ⌝ }
     {
-        let n = self.len;
-        if ROUND_SLOTS <= n {
+        let count = self.len;
+        if ROUND_SLOTS <= count {
             return self;
         }
-        let i = n as usize;
-        let t = r.time;
+        let i = count as usize;
+        let time = r.time;
         let old = self.deadline;
-        let d = deadline_after(n, t, window, old);
+        let d = deadline_after(count, time, window, old);
         self.rounds[i] = r;
-        self.len = n + 1;
+        self.len = count + 1;
         self.deadline = d;
         self
     }
@@ -180,12 +180,12 @@ impl Negotiation {
     pub fn accepted(mut self) -> Negotiation
         ensures { λ r. ⌜ r ≡ acceptedOf self ⌝ }
     {
-        let n = self.len;
-        if n == 0 {
+        let count = self.len;
+        if count == 0 {
             return self;
         }
-        let o = self.outcome;
-        if o != 0 {
+        let outcome = self.outcome;
+        if outcome != 0 {
             return self;
         }
         self.outcome = ACCEPTED;
@@ -203,16 +203,16 @@ impl Negotiation {
     pub fn agrees(self, t: Terms) -> bool
         ensures { λ r. ⌜ r ≡ agreesOf roundSlots self t ⌝ }
     {
-        let n = self.len;
-        if ROUND_SLOTS < n {
+        let count = self.len;
+        if ROUND_SLOTS < count {
             return false;
         }
-        let mut i = n as usize;
+        let mut i = count as usize;
         while 0 < i {
             i -= 1;
             let r = self.rounds[i];
-            let p = r.party;
-            if p == ORIGINATOR {
+            let party = r.party;
+            if party == ORIGINATOR {
                 let u = r.terms();
                 return terms::same_terms(u, t);
             }
@@ -228,13 +228,13 @@ impl Negotiation {
         let mut i = 0;
         while i < 12 {
             let r = self.rounds[i];
-            let s = r.sound();
-            let z = r.zero();
-            ok = ok & (((i < n) & s) | ((n <= i) & z));
+            let sound = r.sound();
+            let zero = r.zero();
+            ok = ok & (((i < n) & sound) | ((n <= i) & zero));
             i += 1;
         }
-        let o = self.outcome;
-        (n <= 12) & ok & ((o == 0) | ((2 <= o) & (o <= 4)))
+        let outcome = self.outcome;
+        (n <= 12) & ok & ((outcome == 0) | ((2 <= outcome) & (outcome <= 4)))
     }
 
     pub fn zero(self) -> bool
@@ -245,13 +245,13 @@ impl Negotiation {
         let mut i = 0;
         while i < 12 {
             let r = self.rounds[i];
-            let z = r.zero();
-            ok = ok & z;
+            let zero = r.zero();
+            ok = ok & zero;
             i += 1;
         }
-        let d = self.deadline;
-        let n = self.len;
-        let o = self.outcome;
-        ok & (d == 0) & (n == 0) & (o == 0)
+        let deadline = self.deadline;
+        let count = self.len;
+        let outcome = self.outcome;
+        ok & (deadline == 0) & (count == 0) & (outcome == 0)
     }
 }

@@ -52,24 +52,32 @@ impl Offer {
     pub fn expired(self, now: u64) -> bool
         ensures { λ r. ⌜ r ≡ expired self now ⌝ }
     {
-        let e = self.expires;
-        !(e == 0) & (e <= now)
+        let expires = self.expires;
+        !(expires == 0) & (expires <= now)
     }
 
     pub fn zero(self) -> bool
         ensures { λ r. ⌜ r ≡ offerZero self ⌝ }
     {
-        let t = self.terms;
-        let a = money::is_zero(t.amount);
-        let p = t.rate;
-        let q = t.duration;
-        let i = self.invoice;
-        let l = self.lender;
-        let e = self.expires;
-        let f = self.funded;
+        let terms = self.terms;
+        let zero = money::is_zero(terms.amount);
+        let rate = terms.rate;
+        let duration = terms.duration;
+        let invoice = self.invoice;
+        let lender = self.lender;
+        let expires = self.expires;
+        let funded = self.funded;
         let b = money::is_zero(self.repaid);
-        let s = self.status;
-        a & (p == 0) & (q == 0) & (i == 0) & (l == 0) & (e == 0) & (f == 0) & b & (s == 0)
+        let status = self.status;
+        zero
+            & (rate == 0)
+            & (duration == 0)
+            & (invoice == 0)
+            & (lender == 0)
+            & (expires == 0)
+            & (funded == 0)
+            & b
+            & (status == 0)
     }
 }
 
@@ -84,10 +92,10 @@ impl Deal {
     pub fn none() -> Deal
         ensures { λ r. ⌜ r ≡ noDeal ⌝ }
     {
-        let o = Offer::none();
+        let none = Offer::none();
         let n = Negotiation::none();
         Deal {
-            offer: o,
+            offer: none,
             negotiation: n,
             schedule: Schedule {
                 count: 0,
@@ -101,7 +109,7 @@ impl Deal {
     pub fn new(lender: u64, invoice: u64, t: Terms, expires: u64) -> Deal
         ensures { λ r. ⌜ r ≡ newDeal lender invoice t expires ⌝ }
     {
-        let n = Negotiation::none();
+        let none = Negotiation::none();
         Deal {
             offer: Offer {
                 terms: t,
@@ -112,7 +120,7 @@ impl Deal {
                 repaid: 0,
                 status: terms::PENDING,
             },
-            negotiation: n,
+            negotiation: none,
             schedule: Schedule {
                 count: 0,
                 code: 0,
@@ -125,42 +133,42 @@ impl Deal {
     pub fn sound(self) -> bool
         ensures { λ r. ⌜ r ≡ dealSound self ⌝ }
     {
-        let o = self.offer;
-        let t = o.terms;
-        let a = terms::terms_valid(t);
-        let b = money::in_total_range(o.repaid);
-        let s = o.status;
-        let n = self.negotiation;
-        let c = n.sound();
-        let p = self.schedule;
-        let d = terms::schedule_zero(p);
-        let e = terms::schedule_ok(p);
-        a & b & (s <= terms::DEFAULTED) & c & (d | e)
+        let offer = self.offer;
+        let terms = offer.terms;
+        let a = terms::terms_valid(terms);
+        let b = money::in_total_range(offer.repaid);
+        let status = offer.status;
+        let negotiation = self.negotiation;
+        let sound = negotiation.sound();
+        let schedule = self.schedule;
+        let d = terms::schedule_zero(schedule);
+        let e = terms::schedule_ok(schedule);
+        a & b & (status <= terms::DEFAULTED) & sound & (d | e)
     }
 
     pub fn zero(self) -> bool
         ensures tested { λ r. ⌜ r ≡ dealZero self ⌝ }
         ensures whole { λ r. ⌜ Whole roundSlots (self .negotiation) ⌝ }
     {
-        let o = self.offer;
-        let a = o.zero();
-        let n = self.negotiation;
-        let b = n.zero();
-        let p = self.schedule;
-        let c = terms::schedule_zero(p);
-        a & b & c
+        let offer = self.offer;
+        let zero = offer.zero();
+        let negotiation = self.negotiation;
+        let b = negotiation.zero();
+        let schedule = self.schedule;
+        let c = terms::schedule_zero(schedule);
+        zero & b & c
     }
 
     // Settlement's part: the offer is Accepted and funded now, and so is its negotiation if it still runs.
     pub fn settled(mut self, now: u64) -> Deal
         ensures { λ r. ⌜ r ≡ settledDeal now self ⌝ }
     {
-        let n = self.negotiation;
-        let next = n.accepted();
-        let mut o = self.offer;
-        o.status = terms::ACCEPTED;
-        o.funded = now;
-        self.offer = o;
+        let negotiation = self.negotiation;
+        let next = negotiation.accepted();
+        let mut offer = self.offer;
+        offer.status = terms::ACCEPTED;
+        offer.funded = now;
+        self.offer = offer;
         self.negotiation = next;
         self
     }
@@ -169,12 +177,12 @@ impl Deal {
     pub fn amended(mut self, now: u64, window: u64, t: Terms) -> Deal
         ensures { λ r. ⌜ r ≡ amendedDeal now window t self ⌝ }
     {
-        let n = self.negotiation;
-        let r = Round::new(now, t, negotiation::LENDER);
-        let next = n.added(r, window);
-        let mut o = self.offer;
-        o.terms = t;
-        self.offer = o;
+        let negotiation = self.negotiation;
+        let round = Round::new(now, t, negotiation::LENDER);
+        let next = negotiation.added(round, window);
+        let mut offer = self.offer;
+        offer.terms = t;
+        self.offer = offer;
         self.negotiation = next;
         self
     }
@@ -183,9 +191,9 @@ impl Deal {
     pub fn countered(mut self, now: u64, window: u64, t: Terms) -> Deal
         ensures { λ r. ⌜ r ≡ counteredDeal now window t self ⌝ }
     {
-        let n = self.negotiation;
-        let r = Round::new(now, t, negotiation::ORIGINATOR);
-        let next = n.added(r, window);
+        let negotiation = self.negotiation;
+        let round = Round::new(now, t, negotiation::ORIGINATOR);
+        let next = negotiation.added(round, window);
         self.negotiation = next;
         self
     }
@@ -203,20 +211,20 @@ impl Deal {
         if !paper.here {
             return refusal::NOT_FOUND;
         }
-        let i = paper.row;
-        let s = i.status;
-        if !(s == invoice::PENDING) {
+        let invoice = paper.row;
+        let status = invoice.status;
+        if !(status == invoice::PENDING) {
             return refusal::INVALID_TRANSITION;
         }
-        let o = self.offer;
-        if o.expired(now) {
+        let offer = self.offer;
+        if offer.expired(now) {
             return refusal::OFFER_EXPIRED;
         }
         if !lender.here {
             return refusal::NOT_FOUND;
         }
-        let l = lender.row;
-        if l.blacklisted {
+        let row = lender.row;
+        if row.blacklisted {
             return refusal::BLACKLISTED;
         }
         if !originator.here {
@@ -290,24 +298,24 @@ impl SeenDeal {
         if !self.here {
             return refusal::NOT_FOUND;
         }
-        let d = self.row;
-        let o = d.offer;
-        let s = o.status;
-        if !(s == terms::PENDING) {
+        let row = self.row;
+        let offer = row.offer;
+        let status = offer.status;
+        if !(status == terms::PENDING) {
             return refusal::INVALID_TRANSITION;
         }
-        if o.expired(now) {
+        if offer.expired(now) {
             return refusal::OFFER_EXPIRED;
         }
         if !paper.here {
             return refusal::NOT_FOUND;
         }
-        let i = paper.row;
-        let g = i.originator;
-        if !(g == caller) {
+        let invoice = paper.row;
+        let originator = invoice.originator;
+        if !(originator == caller) {
             return refusal::UNAUTHORIZED;
         }
-        let p = i.status;
+        let p = invoice.status;
         if !(p == invoice::PENDING) {
             return refusal::INVALID_TRANSITION;
         }
@@ -327,15 +335,15 @@ impl SeenDeal {
         if !self.here {
             return refusal::NOT_FOUND;
         }
-        let d = self.row;
-        let o = d.offer;
-        let l = o.lender;
+        let row = self.row;
+        let offer = row.offer;
+        let l = offer.lender;
         if !(l == caller) {
             return refusal::UNAUTHORIZED;
         }
-        let s = o.status;
-        let n = d.negotiation;
-        n.refusal(s == terms::PENDING, now, round)
+        let status = offer.status;
+        let negotiation = row.negotiation;
+        negotiation.refusal(status == terms::PENDING, now, round)
     }
 
     // The number of what stands against the originator's round, 0 where nothing does.
@@ -362,48 +370,48 @@ impl SeenDeal {
         if !paper.here {
             return refusal::NOT_FOUND;
         }
-        let i = paper.row;
-        let g = i.originator;
+        let invoice = paper.row;
+        let g = invoice.originator;
         if !(g == caller) {
             return refusal::UNAUTHORIZED;
         }
-        let d = self.row;
-        let o = d.offer;
-        let s = o.status;
-        let n = d.negotiation;
-        n.refusal(s == terms::PENDING, now, round)
+        let row = self.row;
+        let offer = row.offer;
+        let status = offer.status;
+        let negotiation = row.negotiation;
+        negotiation.refusal(status == terms::PENDING, now, round)
     }
 
     pub fn close(self, now: u64, caller: u64, paper: SeenInvoice) -> DealPosted
         ensures { λ r. ⌜ r ≡ answered posted (self .row) (closeOf self now caller paper) ⌝ }
     {
         let mut row = self.row;
-        let o = row.offer;
-        let n = row.negotiation;
-        let stored = n.outcome;
+        let offer = row.offer;
+        let negotiation = row.negotiation;
+        let stored = negotiation.outcome;
         if !(stored == 0) {
             return refused(row, refusal::INVALID_TRANSITION);
         }
-        let p = o.status;
-        let s = n.status(p == terms::PENDING, now);
+        let status = offer.status;
+        let s = negotiation.status(status == terms::PENDING, now);
         if s == negotiation::NONE {
             return refused(row, refusal::NOT_FOUND);
         }
         if s == negotiation::CLOSED {
             return refused(row, refusal::INVALID_TRANSITION);
         }
-        let l = o.lender;
-        let outsider = (s == negotiation::OPEN) & !(l == caller);
+        let lender = offer.lender;
+        let outsider = (s == negotiation::OPEN) & !(lender == caller);
         if outsider & !paper.here {
             return refused(row, refusal::NOT_FOUND);
         }
-        let i = paper.row;
-        let g = i.originator;
-        if outsider & !(g == caller) {
+        let invoice = paper.row;
+        let originator = invoice.originator;
+        if outsider & !(originator == caller) {
             return refused(row, refusal::UNAUTHORIZED);
         }
         let end = outcome_at(s);
-        let next = n.closed(end);
+        let next = negotiation.closed(end);
         row.negotiation = next;
         DealPosted { answer: 0, row }
     }
@@ -431,19 +439,19 @@ impl SeenDeal {
         if !self.here {
             return refusal::NOT_FOUND;
         }
-        let d = self.row;
-        let o = d.offer;
-        let s = o.status;
-        if (s == terms::REJECTED) | (s == terms::REPAID) | (s == terms::DEFAULTED) {
+        let row = self.row;
+        let offer = row.offer;
+        let status = offer.status;
+        if (status == terms::REJECTED) | (status == terms::REPAID) | (status == terms::DEFAULTED) {
             return refusal::INVALID_TRANSITION;
         }
         if !paper.here {
             return refusal::NOT_FOUND;
         }
-        let i = paper.row;
-        let g = i.originator;
-        let l = o.lender;
-        if !((l == caller) | (g == caller)) {
+        let invoice = paper.row;
+        let originator = invoice.originator;
+        let lender = offer.lender;
+        if !((lender == caller) | (originator == caller)) {
             return refusal::UNAUTHORIZED;
         }
         0
@@ -461,20 +469,20 @@ impl SeenDeal {
         ensures { λ r. ⌜ r ≡ answered posted (self .row) (scheduleOf self now caller count code first paper) ⌝ }
     {
         let mut row = self.row;
-        let o = row.offer;
-        let n = self.schedule_refusal(now, caller, count, code, first, paper);
-        if !(n == 0) {
-            return refused(row, n);
+        let offer = row.offer;
+        let refusal = self.schedule_refusal(now, caller, count, code, first, paper);
+        if !(refusal == 0) {
+            return refused(row, refusal);
         }
-        let t = o.terms;
-        let x = installment_of(t, count);
-        if money::is_zero(x) {
+        let terms = offer.terms;
+        let installment = installment_of(terms, count);
+        if money::is_zero(installment) {
             return refused(row, refusal::INVALID_INPUT);
         }
         let made = Schedule {
             count,
             code,
-            installment: x,
+            installment,
             first,
         };
         row.schedule = made;
@@ -494,9 +502,9 @@ impl SeenDeal {
         if !self.here {
             return refused(row, refusal::NOT_FOUND);
         }
-        let mut o = row.offer;
-        o.status = code;
-        row.offer = o;
+        let mut offer = row.offer;
+        offer.status = code;
+        row.offer = offer;
         DealPosted { answer: 0, row }
     }
 
@@ -513,9 +521,9 @@ impl SeenDeal {
         if !money::in_total_range(amount) {
             return refused(row, refusal::OUT_OF_RANGE);
         }
-        let mut o = row.offer;
-        o.repaid = amount;
-        row.offer = o;
+        let mut offer = row.offer;
+        offer.repaid = amount;
+        row.offer = offer;
         DealPosted { answer: 0, row }
     }
 }
@@ -580,16 +588,16 @@ pub fn create_refusal(
     if !paper.here {
         return refusal::NOT_FOUND;
     }
-    let i = paper.row;
-    let s = i.status;
-    if !(s == invoice::PENDING) {
+    let invoice = paper.row;
+    let status = invoice.status;
+    if !(status == invoice::PENDING) {
         return refusal::INVALID_TRANSITION;
     }
-    let g = i.originator;
-    if g == caller {
+    let originator = invoice.originator;
+    if originator == caller {
         return refusal::INVALID_INPUT;
     }
-    if !i.covers(t) {
+    if !invoice.covers(t) {
         return refusal::INVALID_INPUT;
     }
     if exists {

@@ -22,8 +22,8 @@ impl Parties {
     pub fn put_first(mut self, row: Account) -> Parties
         ensures { λ r. ⌜ r ≡ putFirst self row ⌝ }
     {
-        let s = self.first;
-        let stored = s.put(row);
+        let first = self.first;
+        let stored = first.put(row);
         self.first = stored;
         if !self.one {
             return self;
@@ -35,8 +35,8 @@ impl Parties {
     pub fn put_second(mut self, row: Account) -> Parties
         ensures { λ r. ⌜ r ≡ putSecond self row ⌝ }
     {
-        let s = self.second;
-        let kept = s.put(row);
+        let second = self.second;
+        let kept = second.put(row);
         self.second = kept;
         if !self.one {
             return self;
@@ -87,23 +87,23 @@ impl Parties {
     fn settle(self, t: Terms) -> PartiesPosted
         ensures { λ r. ⌜ ((a b : ℕ) (u : Table Row.Account) → self ≡ partiesOf a b u → r ≡ answered (partied a b) u (settleAccounts u a b t)) ⌝ }
     {
-        let s = self.first;
-        if !s.here {
+        let first = self.first;
+        if !first.here {
             return kept(refusal::NOT_FOUND, self);
         }
-        let l = s.row;
-        let p = l.debit(t);
-        let a = p.answer;
-        if !(a == 0) {
-            return kept(a, self);
+        let row = first.row;
+        let p = row.debit(t);
+        let answer = p.answer;
+        if !(answer == 0) {
+            return kept(answer, self);
         }
         let paid = p.row;
         let one = self.put_first(paid);
-        let g = one.second;
-        if !g.here {
+        let second = one.second;
+        if !second.here {
             return kept(refusal::NOT_FOUND, self);
         }
-        let o = g.row;
+        let o = second.row;
         let q = o.credit(t);
         let b = q.answer;
         if !(b == 0) {
@@ -113,12 +113,12 @@ impl Parties {
         let two = one.put_second(gained);
         let h = two.first;
         let m = h.row;
-        let v = m.accept(t);
-        let c = v.answer;
+        let accepted = m.accept(t);
+        let c = accepted.answer;
         if !(c == 0) {
             return kept(c, self);
         }
-        let grown = v.row;
+        let grown = accepted.row;
         let three = two.put_first(grown);
         PartiesPosted {
             answer: 0,
@@ -134,9 +134,9 @@ impl Parties {
             return self.settle(t);
         }
         let other = self.turned();
-        let p = other.settle(t);
-        let back = p.parties;
-        kept(p.answer, back.turned())
+        let posted = other.settle(t);
+        let back = posted.parties;
+        kept(posted.answer, back.turned())
     }
 }
 

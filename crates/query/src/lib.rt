@@ -146,8 +146,8 @@ pub fn list(book: Book, w: Wanted, out: &mut [u64]) -> Listed
         return Listed::Unsound;
     }
     let offers = book.offers;
-    let t = offers_only(offers);
-    t.list(w, out)
+    let rows = offers_only(offers);
+    rows.list(w, out)
 }
 
 pub fn get_offers_by_invoice(book: Book, invoice: u64, out: &mut [u64]) -> Listed
@@ -195,13 +195,13 @@ pub fn get_offer(book: Book, id: u64) -> OfferAnswer
         return OfferAnswer::Unsound;
     }
     let offers = book.offers;
-    let s = offers.see(Named::Id(id));
-    if !s.here {
+    let seen = offers.see(Named::Id(id));
+    if !seen.here {
         return OfferAnswer::Absent;
     }
-    let d = s.row;
-    let o = d.offer;
-    let numbers = OfferNumbers::of(id, o);
+    let row = seen.row;
+    let offer = row.offer;
+    let numbers = OfferNumbers::of(id, offer);
     OfferAnswer::Offer(numbers)
 }
 
@@ -212,13 +212,13 @@ pub fn get_schedule(book: Book, id: u64) -> ScheduleAnswer
         return ScheduleAnswer::Unsound;
     }
     let offers = book.offers;
-    let s = offers.see(Named::Id(id));
-    let d = s.row;
-    let p = d.schedule;
-    if terms::schedule_zero(p) {
+    let seen = offers.see(Named::Id(id));
+    let row = seen.row;
+    let schedule = row.schedule;
+    if terms::schedule_zero(schedule) {
         return ScheduleAnswer::Absent;
     }
-    let numbers = ScheduleNumbers::of(p);
+    let numbers = ScheduleNumbers::of(schedule);
     ScheduleAnswer::Schedule(numbers)
 }
 
@@ -233,12 +233,12 @@ pub fn get_negotiation(book: Book, id: u64) -> NegotiationAnswer
         };
     }
     let offers = book.offers;
-    let s = offers.see(Named::Id(id));
-    let d = s.row;
-    let g = d.negotiation;
+    let seen = offers.see(Named::Id(id));
+    let row = seen.row;
+    let negotiation = row.negotiation;
     NegotiationAnswer {
         answer: 0,
-        negotiation: g,
+        negotiation,
     }
 }
 
@@ -249,10 +249,10 @@ pub fn get_negotiation_deadline(book: Book, id: u64) -> NumberAnswer
         return NumberAnswer::Unsound;
     }
     let offers = book.offers;
-    let s = offers.see(Named::Id(id));
-    let d = s.row;
-    let g = d.negotiation;
-    NumberAnswer::Number(g.deadline)
+    let seen = offers.see(Named::Id(id));
+    let row = seen.row;
+    let negotiation = row.negotiation;
+    NumberAnswer::Number(negotiation.deadline)
 }
 
 pub fn get_negotiation_status(book: Book, now: u64, id: u64) -> NumberAnswer
@@ -262,12 +262,12 @@ pub fn get_negotiation_status(book: Book, now: u64, id: u64) -> NumberAnswer
         return NumberAnswer::Unsound;
     }
     let offers = book.offers;
-    let s = offers.see(Named::Id(id));
-    let d = s.row;
-    let o = d.offer;
-    let status = o.status;
-    let g = d.negotiation;
-    let n = g.status(status == terms::PENDING, now);
+    let seen = offers.see(Named::Id(id));
+    let row = seen.row;
+    let offer = row.offer;
+    let status = offer.status;
+    let negotiation = row.negotiation;
+    let n = negotiation.status(status == terms::PENDING, now);
     NumberAnswer::Number(n as u64)
 }
 
@@ -275,13 +275,13 @@ pub fn get_negotiation_status(book: Book, now: u64, id: u64) -> NumberAnswer
 fn due(d: Deal, now: u64) -> u64
     ensures { λ r. ⌜ r ≡ dueIn d now ⌝ }
 {
-    let p = d.schedule;
-    if terms::schedule_zero(p) {
+    let schedule = d.schedule;
+    if terms::schedule_zero(schedule) {
         return 0;
     }
-    let o = d.offer;
-    let status = o.status;
-    match terms::due(p, status, o.repaid, now) {
+    let offer = d.offer;
+    let status = offer.status;
+    match terms::due(schedule, status, offer.repaid, now) {
         DueAnswer::Number(n) => n,
         DueAnswer::Invalid => 0,
     }
@@ -294,9 +294,9 @@ pub fn get_installment_due(book: Book, now: u64, id: u64) -> NumberAnswer
         return NumberAnswer::Unsound;
     }
     let offers = book.offers;
-    let s = offers.see(Named::Id(id));
-    let d = s.row;
-    let n = due(d, now);
+    let seen = offers.see(Named::Id(id));
+    let row = seen.row;
+    let n = due(row, now);
     NumberAnswer::Number(n)
 }
 
@@ -309,9 +309,9 @@ pub fn get_lender_stats(book: Book, lender: u64) -> LenderAnswer
         return LenderAnswer::Unsound;
     }
     let accounts = book.accounts;
-    let s = accounts.see(Named::Id(lender));
-    let a = s.row;
-    let numbers = LenderNumbers::of(a);
+    let seen = accounts.see(Named::Id(lender));
+    let row = seen.row;
+    let numbers = LenderNumbers::of(row);
     LenderAnswer::Lender(numbers)
 }
 
@@ -322,9 +322,9 @@ pub fn get_lender_active_total(book: Book, lender: u64) -> NumberAnswer
         return NumberAnswer::Unsound;
     }
     let offers = book.offers;
-    let t = offers_only(offers);
-    let n = t.active_total(lender);
-    NumberAnswer::Number(n)
+    let rows = offers_only(offers);
+    let total = rows.active_total(lender);
+    NumberAnswer::Number(total)
 }
 
 // ── The book ──
@@ -346,8 +346,8 @@ pub fn get_offers_count(book: Book) -> NumberAnswer
         return NumberAnswer::Unsound;
     }
     let offers = book.offers;
-    let n = offers.count;
-    NumberAnswer::Number(n as u64)
+    let count = offers.count;
+    NumberAnswer::Number(count as u64)
 }
 
 pub fn get_stats(book: Book) -> TotalsAnswer
@@ -356,33 +356,33 @@ pub fn get_stats(book: Book) -> TotalsAnswer
     if !book.sound() {
         return TotalsAnswer::Unsound;
     }
-    let t = book.totals;
-    let numbers = TotalsNumbers::of(t);
+    let totals = book.totals;
+    let numbers = TotalsNumbers::of(totals);
     TotalsAnswer::Totals(numbers)
 }
 
 pub fn get_negotiation_window(book: Book) -> NumberAnswer
     ensures { λ r. ⌜ numberSays r ≡ asked book windowRead ⌝ }
 {
-    let s = book.settings;
-    told(book.sound(), s.window)
+    let settings = book.settings;
+    told(book.sound(), settings.window)
 }
 
 // The seats that may sign, a bit for each.
 pub fn get_signers(book: Book) -> NumberAnswer
     ensures { λ r. ⌜ numberSays r ≡ asked book seatsRead ⌝ }
 {
-    let s = book.settings;
-    let n = s.seats;
-    told(book.sound(), n as u64)
+    let settings = book.settings;
+    let seats = settings.seats;
+    told(book.sound(), seats as u64)
 }
 
 pub fn get_threshold(book: Book) -> NumberAnswer
     ensures { λ r. ⌜ numberSays r ≡ asked book thresholdRead ⌝ }
 {
-    let s = book.settings;
-    let n = s.threshold;
-    told(book.sound(), n as u64)
+    let settings = book.settings;
+    let threshold = settings.threshold;
+    told(book.sound(), threshold as u64)
 }
 
 fn flag(b: bool) -> u64
@@ -395,7 +395,7 @@ fn flag(b: bool) -> u64
 pub fn contract_is_paused(book: Book) -> NumberAnswer
     ensures { λ r. ⌜ numberSays r ≡ asked book pauseRead ⌝ }
 {
-    let s = book.settings;
-    let p = s.paused;
-    told(book.sound(), flag(p))
+    let settings = book.settings;
+    let paused = settings.paused;
+    told(book.sound(), flag(paused))
 }

@@ -123,10 +123,10 @@ fn records(s: &[u8], out: &mut [u8], ink: bool, first: usize) -> Told
                 let pi = table::spot_by(&invoices.ids, invoices.count, key);
                 let ii = pi.at;
                 let v = invoices.rows[ii];
-                let w = SeenInvoice::at(pi.here, v);
+                let seen = SeenInvoice::at(pi.here, v);
                 let ka = names.first;
                 let nb = names.second;
-                let kb = nb.key(x.row.offer.lender, w.row.originator);
+                let kb = nb.key(x.row.offer.lender, seen.row.originator);
                 let pa = table::spot_by(&accounts.ids, accounts.count, ka);
                 let ia = pa.at;
                 let va = accounts.rows[ia];
@@ -142,7 +142,7 @@ fn records(s: &[u8], out: &mut [u8], ink: bool, first: usize) -> Told
                         second: sb,
                         one,
                     },
-                    paper: w,
+                    paper: seen,
                     deal: x,
                     totals,
                     settings,
@@ -152,40 +152,40 @@ fn records(s: &[u8], out: &mut [u8], ink: bool, first: usize) -> Told
                     invoices: invoices.count,
                     offers: offers.count,
                 };
-                let t = near.turn(c, rows);
-                pen = lines::put_answer(out, pen, ink, (k + 1) as u64, t.answer);
-                totals = t.near.totals;
-                settings = t.near.settings;
-                let rb = t.near.parties.second.row;
+                let turn = near.turn(c, rows);
+                pen = lines::put_answer(out, pen, ink, (k + 1) as u64, turn.answer);
+                totals = turn.near.totals;
+                settings = turn.near.settings;
+                let rb = turn.near.parties.second.row;
                 let mb = rb.over(pb.here, vb);
                 accounts.rows[ib] = mb;
                 let old = accounts.rows[ia];
-                let ra = t.near.parties.first.row;
+                let ra = turn.near.parties.first.row;
                 let ma = ra.over(pa.here, old);
                 accounts.rows[ia] = ma;
-                let ri = t.near.paper.row;
+                let ri = turn.near.paper.row;
                 let mi = ri.over(pi.here, v);
                 invoices.rows[ii] = mi;
                 if po.here {
-                    let offer = t.near.deal.row.offer;
-                    let talk = t.near.deal.row.negotiation;
-                    let plan = t.near.deal.row.schedule;
+                    let offer = turn.near.deal.row.offer;
+                    let talk = turn.near.deal.row.negotiation;
+                    let plan = turn.near.deal.row.schedule;
                     offers.rows[io] = offer;
                     offers.negotiations[io] = talk;
                     offers.schedules[io] = plan;
                 }
-                if !pa.here & t.near.parties.first.here {
+                if !pa.here & turn.near.parties.first.here {
                     let more = accounts.let_in(ka.id(), ra);
                     accounts = more;
                 }
-                if !pi.here & t.near.paper.here {
+                if !pi.here & turn.near.paper.here {
                     let more = invoices.let_in(key.id(), ri);
                     invoices = more;
                 }
-                if !po.here & t.near.deal.here {
-                    let n = offers.count;
+                if !po.here & turn.near.deal.here {
+                    let count = offers.count;
                     let slot = po.slot;
-                    let mut j = n;
+                    let mut j = count;
                     while slot < j {
                         let i = j - 1;
                         offers.ids[j] = offers.ids[i];
@@ -194,14 +194,14 @@ fn records(s: &[u8], out: &mut [u8], ink: bool, first: usize) -> Told
                         offers.schedules[j] = offers.schedules[i];
                         j = i;
                     }
-                    let new_offer = t.near.deal.row.offer;
-                    let new_talk = t.near.deal.row.negotiation;
-                    let new_plan = t.near.deal.row.schedule;
+                    let new_offer = turn.near.deal.row.offer;
+                    let new_talk = turn.near.deal.row.negotiation;
+                    let new_plan = turn.near.deal.row.schedule;
                     offers.ids[j] = id.id();
                     offers.rows[j] = new_offer;
                     offers.negotiations[j] = new_talk;
                     offers.schedules[j] = new_plan;
-                    offers.count = n + 1;
+                    offers.count = count + 1;
                 }
                 k += 1;
                 at = next;
@@ -243,8 +243,8 @@ fn walk(s: &[u8], out: &mut [u8], ink: bool) -> Told
             short: false,
         };
         let p = lines::put_mark(out, pen, ink, 0, 0);
-        let b = Book::fresh();
-        return finish(out, p, ink, b, 0, refusal::JOURNAL_MALFORMED, 0);
+        let fresh = Book::fresh();
+        return finish(out, p, ink, fresh, 0, refusal::JOURNAL_MALFORMED, 0);
     };
     records(s, out, ink, first)
 }
@@ -266,8 +266,8 @@ pub fn listing(s: &[u8], out: &mut [u8]) -> Listed
 {
     if out.len() >= ROOM && out.len() - ROOM >= s.len() {
         let all = walk(s, out, true);
-        let e = all.pen;
-        return Listed::Done(e.at);
+        let pen = all.pen;
+        return Listed::Done(pen.at);
     }
     let dry = walk(s, out, false);
     let p = dry.pen;

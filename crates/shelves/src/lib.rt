@@ -47,18 +47,18 @@ impl Accounts {
         ensures tested { λ r. ⌜ r ≡ accountsTest self ⌝ }
         ensures sized { λ r. ⌜ Sized (self .ids) (self .rows) ⌝ }
     {
-        let n = self.count;
-        let t = table::ids_sound(&self.ids, n);
+        let count = self.count;
+        let ids = table::ids_sound(&self.ids, count);
         let mut ok = true;
         let mut i = 0;
         while i < table::ROOM {
             let row = self.rows[i];
-            let s = row.sound();
-            let z = row.zero();
-            ok = ok & (((i < n) & s) | ((n <= i) & z));
+            let sound = row.sound();
+            let zero = row.zero();
+            ok = ok & (((i < count) & sound) | ((count <= i) & zero));
             i += 1;
         }
-        t & ok
+        ids & ok
     }
 
     // The row that a key names.
@@ -66,11 +66,11 @@ impl Accounts {
         requires { ⌜ AccountShelf self ⌝ }
         ensures { λ r. ⌜ r ≡ seenAccount (findBy (accountsOf self) key) ⌝ }
     {
-        let n = self.count;
-        let p = table::spot_by(&self.ids, n, key);
-        let i = p.at;
-        let account = self.rows[i];
-        SeenAccount::at(p.here, account)
+        let count = self.count;
+        let spot = table::spot_by(&self.ids, count, key);
+        let place = spot.at;
+        let account = self.rows[place];
+        SeenAccount::at(spot.here, account)
     }
 
     // The rows left by a turn, put back at their keys, second before first, or the first let in where it came.
@@ -78,13 +78,13 @@ impl Accounts {
         requires { ⌜ AccountShelf self ⌝ }
         ensures { λ r. ⌜ StoresAccounts self first second x y r ⌝ }
     {
-        let n = self.count;
-        let q = table::spot_by(&self.ids, n, second);
-        let j = q.at;
-        let other = self.rows[j];
-        let b = y.over(q.here, other);
-        self.rows[j] = b;
-        let p = table::spot_by(&self.ids, n, first);
+        let count = self.count;
+        let spot = table::spot_by(&self.ids, count, second);
+        let place = spot.at;
+        let other = self.rows[place];
+        let b = y.over(spot.here, other);
+        self.rows[place] = b;
+        let p = table::spot_by(&self.ids, count, first);
         let i = p.at;
         let old = self.rows[i];
         let account = x.row;
@@ -101,15 +101,15 @@ impl Accounts {
         requires { ⌜ AccountShelf self ⌝ }
         ensures { λ r. ⌜ (Room 64 (accountsOf self) id → r ≡ storedAccounts (insert (accountsOf self) id account)) ⌝ }
     {
-        let n = self.count;
-        if table::ROOM <= n {
+        let count = self.count;
+        if table::ROOM <= count {
             return self;
         }
-        let f = table::find(&self.ids, n, id);
+        let f = table::find(&self.ids, count, id);
         let Found::Absent(k) = f else {
             return self;
         };
-        let mut i = n;
+        let mut i = count;
         while k < i {
             let j = i - 1;
             self.ids[i] = self.ids[j];
@@ -118,7 +118,7 @@ impl Accounts {
         }
         self.ids[i] = id;
         self.rows[i] = account;
-        self.count = n + 1;
+        self.count = count + 1;
         self
     }
 }
@@ -147,18 +147,18 @@ impl Invoices {
         ensures tested { λ r. ⌜ r ≡ invoicesTest self ⌝ }
         ensures sized { λ r. ⌜ Sized (self .ids) (self .rows) ⌝ }
     {
-        let n = self.count;
-        let t = table::ids_sound(&self.ids, n);
+        let count = self.count;
+        let ids = table::ids_sound(&self.ids, count);
         let mut ok = true;
         let mut i = 0;
         while i < table::ROOM {
             let row = self.rows[i];
-            let s = row.sound();
-            let z = row.zero();
-            ok = ok & (((i < n) & s) | ((n <= i) & z));
+            let sound = row.sound();
+            let zero = row.zero();
+            ok = ok & (((i < count) & sound) | ((count <= i) & zero));
             i += 1;
         }
-        t & ok
+        ids & ok
     }
 
     // The row that a key names.
@@ -166,11 +166,11 @@ impl Invoices {
         requires { ⌜ InvoiceShelf self ⌝ }
         ensures { λ r. ⌜ r ≡ seenInvoice (findBy (invoicesOf self) key) ⌝ }
     {
-        let n = self.count;
-        let p = table::spot_by(&self.ids, n, key);
-        let i = p.at;
-        let paper = self.rows[i];
-        SeenInvoice::at(p.here, paper)
+        let count = self.count;
+        let spot = table::spot_by(&self.ids, count, key);
+        let place = spot.at;
+        let paper = self.rows[place];
+        SeenInvoice::at(spot.here, paper)
     }
 
     // The row left by a turn, put back at its key, or let in where it came.
@@ -178,14 +178,14 @@ impl Invoices {
         requires { ⌜ InvoiceShelf self ⌝ }
         ensures { λ r. ⌜ StoresInvoices self key x r ⌝ }
     {
-        let n = self.count;
-        let p = table::spot_by(&self.ids, n, key);
-        let i = p.at;
-        let old = self.rows[i];
+        let count = self.count;
+        let spot = table::spot_by(&self.ids, count, key);
+        let place = spot.at;
+        let old = self.rows[place];
         let paper = x.row;
-        let kept = paper.over(p.here, old);
-        self.rows[i] = kept;
-        if !p.here & x.here {
+        let kept = paper.over(spot.here, old);
+        self.rows[place] = kept;
+        if !spot.here & x.here {
             return self.let_in(key.id(), paper);
         }
         self
@@ -196,15 +196,15 @@ impl Invoices {
         requires { ⌜ InvoiceShelf self ⌝ }
         ensures { λ r. ⌜ (Room 64 (invoicesOf self) id → r ≡ storedInvoices (insert (invoicesOf self) id paper)) ⌝ }
     {
-        let n = self.count;
-        if table::ROOM <= n {
+        let count = self.count;
+        if table::ROOM <= count {
             return self;
         }
-        let f = table::find(&self.ids, n, id);
+        let f = table::find(&self.ids, count, id);
         let Found::Absent(k) = f else {
             return self;
         };
-        let mut i = n;
+        let mut i = count;
         while k < i {
             let j = i - 1;
             self.ids[i] = self.ids[j];
@@ -213,7 +213,7 @@ impl Invoices {
         }
         self.ids[i] = id;
         self.rows[i] = paper;
-        self.count = n + 1;
+        self.count = count + 1;
         self
     }
 }
@@ -231,14 +231,14 @@ impl Offers {
     pub fn none() -> Offers
         ensures { λ r. ⌜ r ≡ storedDeals [] ⌝ }
     {
-        let d = Deal::none();
-        let o = d.offer;
-        let g = d.negotiation;
-        let p = d.schedule;
+        let none = Deal::none();
+        let offer = none.offer;
+        let negotiation = none.negotiation;
+        let schedule = none.schedule;
         let ids = [0u64; 64];
-        let rows = [o; 64];
-        let negotiations = [g; 64];
-        let schedules = [p; 64];
+        let rows = [offer; 64];
+        let negotiations = [negotiation; 64];
+        let schedules = [schedule; 64];
         Offers {
             ids,
             rows,
@@ -252,8 +252,8 @@ impl Offers {
         ensures tested { λ r. ⌜ r ≡ dealsTest self ⌝ }
         ensures whole { λ r. ⌜ WholeDeals self ⌝ }
     {
-        let n = self.count;
-        let t = table::ids_sound(&self.ids, n);
+        let count = self.count;
+        let ids = table::ids_sound(&self.ids, count);
         let mut ok = true;
         let mut i = 0;
         while i < table::ROOM {
@@ -265,12 +265,12 @@ impl Offers {
                 negotiation: g,
                 schedule: p,
             };
-            let s = d.sound();
-            let z = d.zero();
-            ok = ok & (((i < n) & s) | ((n <= i) & z));
+            let sound = d.sound();
+            let zero = d.zero();
+            ok = ok & (((i < count) & sound) | ((count <= i) & zero));
             i += 1;
         }
-        t & ok
+        ids & ok
     }
 
     // The row that a key names.
@@ -278,18 +278,18 @@ impl Offers {
         requires { ⌜ DealShelf self ⌝ }
         ensures { λ r. ⌜ r ≡ seenDeal (findBy (dealsOf self) key) ⌝ }
     {
-        let n = self.count;
-        let p = table::spot_by(&self.ids, n, key);
-        let i = p.at;
-        let o = self.rows[i];
-        let g = self.negotiations[i];
-        let q = self.schedules[i];
+        let count = self.count;
+        let spot = table::spot_by(&self.ids, count, key);
+        let place = spot.at;
+        let o = self.rows[place];
+        let g = self.negotiations[place];
+        let q = self.schedules[place];
         let d = Deal {
             offer: o,
             negotiation: g,
             schedule: q,
         };
-        SeenDeal::at(p.here, d)
+        SeenDeal::at(spot.here, d)
     }
 
     // The row left by a turn, put back at its key, or let in where it came.
@@ -297,26 +297,26 @@ impl Offers {
         requires { ⌜ DealShelf self ⌝ }
         ensures { λ r. ⌜ StoresDeals self key x r ⌝ }
     {
-        let n = self.count;
-        let p = table::spot_by(&self.ids, n, key);
-        let i = p.at;
-        let o = self.rows[i];
-        let g = self.negotiations[i];
-        let q = self.schedules[i];
+        let count = self.count;
+        let spot = table::spot_by(&self.ids, count, key);
+        let place = spot.at;
+        let o = self.rows[place];
+        let g = self.negotiations[place];
+        let q = self.schedules[place];
         let old = Deal {
             offer: o,
             negotiation: g,
             schedule: q,
         };
         let deal = x.row;
-        let d = deal.over(p.here, old);
+        let d = deal.over(spot.here, old);
         let e = d.offer;
         let h = d.negotiation;
         let l = d.schedule;
-        self.rows[i] = e;
-        self.negotiations[i] = h;
-        self.schedules[i] = l;
-        if !p.here & x.here {
+        self.rows[place] = e;
+        self.negotiations[place] = h;
+        self.schedules[place] = l;
+        if !spot.here & x.here {
             return self.let_in(key.id(), deal);
         }
         self
@@ -327,15 +327,15 @@ impl Offers {
         requires { ⌜ DealShelf self ⌝ }
         ensures { λ r. ⌜ (Room 64 (dealsOf self) id → r ≡ storedDeals (insert (dealsOf self) id deal)) ⌝ }
     {
-        let n = self.count;
-        if table::ROOM <= n {
+        let count = self.count;
+        if table::ROOM <= count {
             return self;
         }
-        let f = table::find(&self.ids, n, id);
+        let f = table::find(&self.ids, count, id);
         let Found::Absent(k) = f else {
             return self;
         };
-        let mut i = n;
+        let mut i = count;
         while k < i {
             let j = i - 1;
             self.ids[i] = self.ids[j];
@@ -351,7 +351,7 @@ impl Offers {
         self.rows[i] = o;
         self.negotiations[i] = g;
         self.schedules[i] = p;
-        self.count = n + 1;
+        self.count = count + 1;
         self
     }
 }

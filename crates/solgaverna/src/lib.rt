@@ -87,8 +87,8 @@ fn sized(r: Answer) -> u64
 pub extern "C" fn solgaverna_journal(lines: &[u8], out: &mut [u8]) -> u64
     ensures { λ r. ⌜ (r ≡ written (journalOf (now (lines .entry))) (now (out .entry))) × (now (out .exit) ≡ leftFor (journalOf (now (lines .entry))) (now (out .entry))) ⌝ }
 {
-    let r = text::to_journal(lines, out);
-    sized(r)
+    let told = text::to_journal(lines, out);
+    sized(told)
 }
 
 // The text of a journal: how many bytes it is.
@@ -96,8 +96,8 @@ pub extern "C" fn solgaverna_journal(lines: &[u8], out: &mut [u8]) -> u64
 pub extern "C" fn solgaverna_text(journal: &[u8], out: &mut [u8]) -> u64
     ensures { λ r. ⌜ (r ≡ written (textOf (now (journal .entry))) (now (out .entry))) × (now (out .exit) ≡ leftFor (textOf (now (journal .entry))) (now (out .entry))) ⌝ }
 {
-    let r = text::to_text(journal, out);
-    sized(r)
+    let told = text::to_text(journal, out);
+    sized(told)
 }
 
 // The number of the first line of a text that is no command, 0 where there is none.
@@ -136,16 +136,16 @@ pub extern "C" fn solgaverna_offers(
 ) -> u64
     ensures { λ r. ⌜ (r, now (out .exit)) ≡ ofBook (now (journal .entry)) (now (out .entry)) (offersFor (wantedOf kind a b) (now (out .entry))) ⌝ }
 {
-    let o = replay::replay(journal);
-    let n = o.number;
-    if !(n == 0) {
+    let replayed = replay::replay(journal);
+    let number = replayed.number;
+    if !(number == 0) {
         return refused(refusal::JOURNAL_MALFORMED);
     }
     let k = wanted(kind, a, b);
     let Asked::For(w) = k else {
         return refused(refusal::INVALID_INPUT);
     };
-    let book = o.book;
+    let book = replayed.book;
     let r = query::list(book, w, out);
     counted(r)
 }
@@ -210,9 +210,9 @@ fn totals_of(book: Book) -> Four
 fn put_four(out: &mut [u64], x: Four) -> u64
     ensures { λ r. ⌜ (r, now (out .exit)) ≡ fourOver (fourSays x) (now (out .entry)) ⌝ }
 {
-    let n = x.number;
-    if !(n == 0) {
-        return refused(n);
+    let number = x.number;
+    if !(number == 0) {
+        return refused(number);
     }
     if out.len() < 4 {
         return refused(refusal::BUFFER_SHORT);
@@ -229,12 +229,12 @@ fn put_four(out: &mut [u64], x: Four) -> u64
 pub extern "C" fn solgaverna_lender(journal: &[u8], lender: u64, out: &mut [u64]) -> u64
     ensures { λ r. ⌜ (r, now (out .exit)) ≡ ofBook (now (journal .entry)) (now (out .entry)) (λ b. fourOver (asked b (lenderRead lender)) (now (out .entry))) ⌝ }
 {
-    let o = replay::replay(journal);
-    let n = o.number;
-    if !(n == 0) {
+    let replayed = replay::replay(journal);
+    let number = replayed.number;
+    if !(number == 0) {
         return refused(refusal::JOURNAL_MALFORMED);
     }
-    let book = o.book;
+    let book = replayed.book;
     put_four(out, lender_of(book, lender))
 }
 
@@ -243,11 +243,11 @@ pub extern "C" fn solgaverna_lender(journal: &[u8], lender: u64, out: &mut [u64]
 pub extern "C" fn solgaverna_totals(journal: &[u8], out: &mut [u64]) -> u64
     ensures { λ r. ⌜ (r, now (out .exit)) ≡ ofBook (now (journal .entry)) (now (out .entry)) (λ b. fourOver (asked b totalsRead) (now (out .entry))) ⌝ }
 {
-    let o = replay::replay(journal);
-    let n = o.number;
-    if !(n == 0) {
+    let replayed = replay::replay(journal);
+    let number = replayed.number;
+    if !(number == 0) {
         return refused(refusal::JOURNAL_MALFORMED);
     }
-    let book = o.book;
+    let book = replayed.book;
     put_four(out, totals_of(book))
 }

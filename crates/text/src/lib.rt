@@ -77,8 +77,8 @@ pub fn to_text(journal: &[u8], out: &mut [u8]) -> Answer
     if dry.bad {
         return Answer::Malformed(dry.at);
     }
-    let p = dry.pen;
-    if p.short {
+    let pen = dry.pen;
+    if pen.short {
         return Answer::Short;
     }
     let wet = tell(journal, out, true);
@@ -146,8 +146,8 @@ pub fn to_journal(text: &[u8], out: &mut [u8]) -> Answer
     if dry.bad {
         return Answer::Malformed(dry.at);
     }
-    let p = dry.pen;
-    if p.short {
+    let pen = dry.pen;
+    if pen.short {
         return Answer::Short;
     }
     let wet = tell_lines(text, out, true);

@@ -71,9 +71,9 @@ fn named(s: &[u8], at: usize, k: u8) -> bool
     requires { ⌜ at ≤ length (now s) ⌝ }
     ensures { λ r. ⌜ r ≡ isNamed k (drop at (now (s .entry))) ⌝ }
 {
-    let w = names::word(k);
-    let size = w.0;
-    let name = w.1;
+    let word = names::word(k);
+    let size = word.0;
+    let name = word.1;
     if size == 0 {
         return false;
     }
@@ -215,10 +215,10 @@ pub(crate) fn line_at(s: &[u8], at: usize) -> Line
     if tag == 0 {
         return no_line();
     }
-    let w = names::word(tag);
+    let word = names::word(tag);
     let row = journal::table::fields(tag);
     let tags = row.1;
-    let x = numbers_at(s, at + w.0, row.0, tags);
+    let x = numbers_at(s, at + word.0, row.0, tags);
     if !x.ok {
         return no_line();
     }

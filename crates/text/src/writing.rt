@@ -22,8 +22,8 @@ fn put_signed(out: &mut [u8], pen: Pen, ink: bool, x: u64) -> Pen
     if x < 9223372036854775808 {
         return sheet::put_decimal(out, pen, ink, x);
     }
-    let p = sheet::put(out, pen, ink, b"-");
-    sheet::put_decimal(out, p, ink, 18446744073709551615 - x + 1)
+    let put = sheet::put(out, pen, ink, b"-");
+    sheet::put_decimal(out, put, ink, 18446744073709551615 - x + 1)
 }
 
 fn put_numeral(out: &mut [u8], pen: Pen, ink: bool, f: u8, x: u64) -> Pen
@@ -38,8 +38,8 @@ fn put_numeral(out: &mut [u8], pen: Pen, ink: bool, f: u8, x: u64) -> Pen
 fn put_spaced(out: &mut [u8], pen: Pen, ink: bool, f: u8, x: u64) -> Pen
     ensures { λ r. ⌜ Wrote ink (space ++ numeralOf f x) (now (out .entry)) pen (now (out .exit)) r ⌝ }
 {
-    let p = sheet::put(out, pen, ink, b" ");
-    put_numeral(out, p, ink, f, x)
+    let put = sheet::put(out, pen, ink, b" ");
+    put_numeral(out, put, ink, f, x)
 }
 
 fn put_numerals(
@@ -65,12 +65,12 @@ fn put_numerals(
 pub(crate) fn put_line(out: &mut [u8], pen: Pen, ink: bool, tag: u8, numbers: [u64; 9]) -> Pen
     ensures { λ r. ⌜ Wrote ink (lineOf (tag, numbers)) (now (out .entry)) pen (now (out .exit)) r ⌝ }
 {
-    let w = names::word(tag);
-    let size = w.0;
-    let name = w.1;
-    let p = sheet::put(out, pen, ink, &name[..size]);
+    let word = names::word(tag);
+    let size = word.0;
+    let name = word.1;
+    let put = sheet::put(out, pen, ink, &name[..size]);
     let row = journal::table::fields(tag);
     let tags = row.1;
-    let q = put_numerals(out, p, ink, row.0, tags, numbers);
+    let q = put_numerals(out, put, ink, row.0, tags, numbers);
     sheet::put(out, q, ink, b"\n")
 }
