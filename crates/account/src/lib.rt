@@ -1,3 +1,4 @@
+// An account's row and what each command does to it. A refusal gives its number and the row as it was.
 use terms::Terms;
 ghost use mathlib.Core.Bool.{cond};
 ghost use Rattle.table.specs.Spots.{atSpot};

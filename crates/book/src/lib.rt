@@ -33,6 +33,7 @@ pub struct Step {
 }
 
 impl Book {
+    // A book with no rows, zero totals and the first settings.
     pub fn fresh() -> Book
         ensures { λ r. ⌜ r ≡ stored freshModel ⌝ }
     {
@@ -50,6 +51,7 @@ impl Book {
         }
     }
 
+    // Whether the book is sound, as document 01 says.
     pub fn sound(self) -> bool
         ensures tested { λ r. ⌜ r ≡ bookTest self ⌝ }
         ensures shelved { λ r. ⌜ (r ≡ true → Shelved self) ⌝ }
@@ -144,12 +146,14 @@ impl Book {
         self.obey(c)
     }
 
+    // The caller opens an account.
     pub fn open_account(self, now: u64, caller: u64) -> Step
         ensures { λ r. ⌜ r ≡ answers self (OpenAccount now caller) ⌝ }
     {
         self.apply(Command::OpenAccount { now, caller })
     }
 
+    // Money comes into the caller's account.
     pub fn deposit(self, now: u64, caller: u64, amount: i64) -> Step
         ensures { λ r. ⌜ r ≡ answers self (Deposit now caller amount) ⌝ }
     {
@@ -160,6 +164,7 @@ impl Book {
         })
     }
 
+    // Money leaves the caller's account.
     pub fn payout(self, now: u64, caller: u64, amount: i64) -> Step
         ensures { λ r. ⌜ r ≡ answers self (Payout now caller amount) ⌝ }
     {
@@ -170,6 +175,7 @@ impl Book {
         })
     }
 
+    // The caller lets the desk take up to this much.
     pub fn approve(self, now: u64, caller: u64, amount: i64) -> Step
         ensures { λ r. ⌜ r ≡ answers self (Approve now caller amount) ⌝ }
     {
@@ -180,6 +186,7 @@ impl Book {
         })
     }
 
+    // The caller puts up an invoice.
     pub fn register_invoice(self, now: u64, caller: u64, id: u64, amount: i64) -> Step
         ensures { λ r. ⌜ r ≡ answers self (RegisterInvoice now caller id amount) ⌝ }
     {
@@ -191,12 +198,14 @@ impl Book {
         })
     }
 
+    // The originator takes back an invoice that is Pending.
     pub fn cancel_invoice(self, now: u64, caller: u64, id: u64) -> Step
         ensures { λ r. ⌜ r ≡ answers self (CancelInvoice now caller id) ⌝ }
     {
         self.apply(Command::CancelInvoice { now, caller, id })
     }
 
+    // The caller offers to lend on an invoice.
     pub fn create_offer(
         self,
         now: u64,
@@ -218,24 +227,28 @@ impl Book {
         })
     }
 
+    // The lender takes back an offer that is Pending.
     pub fn withdraw_offer(self, now: u64, caller: u64, id: u64) -> Step
         ensures { λ r. ⌜ r ≡ answers self (WithdrawOffer now caller id) ⌝ }
     {
         self.apply(Command::WithdrawOffer { now, caller, id })
     }
 
+    // The originator accepts an offer, which is settled.
     pub fn accept_offer(self, now: u64, caller: u64, id: u64) -> Step
         ensures { λ r. ⌜ r ≡ answers self (AcceptOffer now caller id) ⌝ }
     {
         self.apply(Command::AcceptOffer { now, caller, id })
     }
 
+    // The originator rejects an offer.
     pub fn reject_offer(self, now: u64, caller: u64, id: u64) -> Step
         ensures { λ r. ⌜ r ≡ answers self (RejectOffer now caller id) ⌝ }
     {
         self.apply(Command::RejectOffer { now, caller, id })
     }
 
+    // The lender puts down new terms; where the originator has asked for them the offer is settled.
     pub fn amend_offer(self, now: u64, caller: u64, id: u64, terms: Terms, round: u32) -> Step
         ensures { λ r. ⌜ r ≡ answers self (AmendOffer now caller id terms round) ⌝ }
     {
@@ -248,6 +261,7 @@ impl Book {
         })
     }
 
+    // The originator asks for other terms; where they are the lender's the offer is settled.
     pub fn counter_offer(self, now: u64, caller: u64, id: u64, terms: Terms, round: u32) -> Step
         ensures { λ r. ⌜ r ≡ answers self (CounterOffer now caller id terms round) ⌝ }
     {
@@ -260,12 +274,14 @@ impl Book {
         })
     }
 
+    // The negotiation of an offer is closed, or found expired.
     pub fn close_negotiation(self, now: u64, caller: u64, id: u64) -> Step
         ensures { λ r. ⌜ r ≡ answers self (CloseNegotiation now caller id) ⌝ }
     {
         self.apply(Command::CloseNegotiation { now, caller, id })
     }
 
+    // The lender or the originator sets the installments.
     pub fn schedule_repayment(
         self,
         now: u64,
@@ -287,6 +303,7 @@ impl Book {
         })
     }
 
+    // The repayment account sets an offer's status.
     pub fn update_offer_status(self, now: u64, caller: u64, id: u64, code: u32) -> Step
         ensures { λ r. ⌜ r ≡ answers self (UpdateStatus now caller id code) ⌝ }
     {
@@ -298,6 +315,7 @@ impl Book {
         })
     }
 
+    // The repayment account sets what is repaid of an offer.
     pub fn update_offer_amount_repaid(self, now: u64, caller: u64, id: u64, amount: i64) -> Step
         ensures { λ r. ⌜ r ≡ answers self (UpdateRepaid now caller id amount) ⌝ }
     {
@@ -309,6 +327,7 @@ impl Book {
         })
     }
 
+    // The repayment account counts an offer as repaid.
     pub fn update_lender_stats_repaid(self, now: u64, caller: u64, id: u64, code: u32) -> Step
         ensures { λ r. ⌜ r ≡ answers self (UpdateLenderRepaid now caller id code) ⌝ }
     {
@@ -320,6 +339,7 @@ impl Book {
         })
     }
 
+    // The repayment account posts to the book's repaid and fee totals.
     pub fn update_stats_repaid(self, now: u64, caller: u64, amount: i64, fee: i64) -> Step
         ensures { λ r. ⌜ r ≡ answers self (UpdateTotalsRepaid now caller amount fee) ⌝ }
     {
@@ -331,30 +351,35 @@ impl Book {
         })
     }
 
+    // The admins pause the desk.
     pub fn pause(self, now: u64, seats: u64) -> Step
         ensures { λ r. ⌜ r ≡ answers self (Pause now seats) ⌝ }
     {
         self.apply(Command::Pause { now, seats })
     }
 
+    // The admins let the desk go on.
     pub fn unpause(self, now: u64, seats: u64) -> Step
         ensures { λ r. ⌜ r ≡ answers self (Unpause now seats) ⌝ }
     {
         self.apply(Command::Unpause { now, seats })
     }
 
+    // The admins set how long a negotiation stays open.
     pub fn set_negotiation_window(self, now: u64, seats: u64, window: u64) -> Step
         ensures { λ r. ⌜ r ≡ answers self (SetWindow now seats window) ⌝ }
     {
         self.apply(Command::SetWindow { now, seats, window })
     }
 
+    // The admins appoint the repayment account.
     pub fn set_repayment_account(self, now: u64, id: u64, seats: u64) -> Step
         ensures { λ r. ⌜ r ≡ answers self (SetRepaymentAccount now id seats) ⌝ }
     {
         self.apply(Command::SetRepaymentAccount { now, id, seats })
     }
 
+    // The admins set or clear an account's blacklist mark.
     pub fn set_blacklisted(self, now: u64, id: u64, code: u32, seats: u64) -> Step
         ensures { λ r. ⌜ r ≡ answers self (SetBlacklisted now id code seats) ⌝ }
     {
@@ -366,6 +391,7 @@ impl Book {
         })
     }
 
+    // The admins set their seats and threshold.
     pub fn set_seats(self, now: u64, seats: u64, threshold: u32, next: u64) -> Step
         ensures { λ r. ⌜ r ≡ answers self (SetSeats now seats threshold next) ⌝ }
     {

@@ -31,6 +31,7 @@ fn status(a: u64) -> u32 {
     6
 }
 
+// The list query of a code and its arguments.
 pub fn wanted(query: u64, a: u64, b: u64) -> Wanted {
     if query == 1 {
         return Wanted::Invoice(a);
@@ -208,6 +209,7 @@ fn of_book(out: &mut [u8; 65536], book: Book, query: u64, id: u64) -> usize {
     number(out, query::contract_is_paused(book))
 }
 
+// The answer to a question, written as words.
 pub fn ask(out: &mut [u8; 65536], book: Book, query: u64, a: u64, b: u64) -> usize {
     if query < 12 {
         return of_offer(out, book, query, a, b);

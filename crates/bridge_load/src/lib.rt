@@ -218,6 +218,7 @@ fn offers(s: &[u8; 65536], at: usize) -> Offers {
     }
 }
 
+// The book that words give, row by row.
 pub fn book(s: &[u8; 65536]) -> Book {
     let settings = settings(s);
     let totals = totals(s);

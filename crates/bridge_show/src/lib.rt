@@ -154,6 +154,7 @@ fn offers_of(out: &mut [u8; 65536], at: usize, t: Offers) -> usize {
     offers(out, at, ids, rows, negotiations, schedules, t.count)
 }
 
+// All of a book, written as words.
 pub fn book(out: &mut [u8; 65536], at: usize, b: Book) -> usize {
     let mut p = settings(out, at, b.settings);
     p = totals(out, p, b.totals);

@@ -44,14 +44,17 @@ pub fn on(at: usize, k: usize) -> usize {
     at + 8 * k
 }
 
+// A word cut to 32 bits.
 pub fn half(x: u64) -> u32 {
     (x % 4294967296) as u32
 }
 
+// Whether a word is 1.
 pub fn flag(b: bool) -> u64 {
     b as u64
 }
 
+// The smaller of two.
 pub fn least(a: usize, b: usize) -> usize
     ensures { λ r. ⌜ r ≤ b ⌝ }
 {

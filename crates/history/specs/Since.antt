@@ -35,7 +35,7 @@ abbrev pub readSince : Model → List Command → Said
 readSince s h = readAfter (saidBefore s) h
 
 -- ── The figures of m, after the accepted commands h from s ────────
--- offered: a lender's offers count for their present amounts, less the amounts that they started with
+-- offered: what a lender's offers are now, less what the starting ones were at the start
 pub record MeetsSince (s : Model) (h : List Command) (m : Model) : Type 0 where
   pub offereds : (a : ℕ) → accountIn m a .row .purse .offered ≡ accountIn s a .row .purse .offered -ℤ offered (saidBefore s) a +ℤ offered (readSince s h) a
   pub accepteds : (a : ℕ) → accountIn m a .row .purse .accepted ≡ accountIn s a .row .purse .accepted +ℤ accepted (readSince s h) a

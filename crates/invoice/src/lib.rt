@@ -1,3 +1,4 @@
+// An invoice's row: who put it up, for how much, and where it stands.
 use terms::Terms;
 ghost use mathlib.Core.Bool.{cond};
 ghost use Rattle.table.specs.Spots.{atSpot};
@@ -21,6 +22,7 @@ pub struct Invoice {
 }
 
 impl Invoice {
+    // A registered invoice, Pending.
     pub fn new(originator: u64, amount: i64) -> Invoice
         ensures { λ r. ⌜ r ≡ invoiceOf originator amount ⌝ }
     {
@@ -31,6 +33,7 @@ impl Invoice {
         }
     }
 
+    // The amount in range and a listed status.
     pub fn sound(self) -> bool
         ensures { λ r. ⌜ r ≡ invoiceSound self ⌝ }
     {
@@ -39,6 +42,7 @@ impl Invoice {
         a & (status <= CANCELLED)
     }
 
+    // The row that is not in use.
     pub fn none() -> Invoice
         ensures { λ r. ⌜ r ≡ noInvoice ⌝ }
     {
@@ -49,6 +53,7 @@ impl Invoice {
         }
     }
 
+    // Whether every number is 0.
     pub fn zero(self) -> bool
         ensures { λ r. ⌜ r ≡ invoiceZero self ⌝ }
     {
@@ -58,6 +63,7 @@ impl Invoice {
         (originator == 0) & zero & (status == 0)
     }
 
+    // The invoice once an offer on it is settled.
     pub fn financed(mut self) -> Invoice
         ensures { λ r. ⌜ r ≡ financed self ⌝ }
     {
@@ -80,6 +86,7 @@ pub struct SeenInvoice {
 }
 
 impl SeenInvoice {
+    // The originator takes it back while it is Pending.
     pub fn cancel(self, caller: u64) -> InvoicePosted
         ensures { λ r. ⌜ r ≡ answered posted (self .row) (cancelOf self caller) ⌝ }
     {

@@ -11,6 +11,7 @@ ghost use Rattle.journal.specs.Format.{fieldsOut};
 // A command's tag and the numbers of its fields in order.
 pub struct Parts(pub u8, pub [u64; 9]);
 
+// A command's tag and the numbers of its fields in order.
 pub fn split(c: Command) -> Parts
     ensures { λ r. ⌜ r ≡ sent (partsOf c) ⌝ }
 {

@@ -25,6 +25,7 @@ pub fn put_mark(out: &mut [u8], pen: Pen, ink: bool, n: u64, at: u64) -> Pen
     sheet::put_numbers(out, p, ink, &xs)
 }
 
+// The listing's line of an account.
 pub fn put_account(out: &mut [u8], pen: Pen, ink: bool, id: u64, row: Account) -> Pen
     ensures { λ r. ⌜ Wrote ink (accountLine id row) (now (out .entry)) pen (now (out .exit)) r ⌝ }
 {
@@ -61,6 +62,7 @@ pub fn put_accounts(
     p
 }
 
+// The listing's line of the totals.
 pub fn put_totals(out: &mut [u8], pen: Pen, ink: bool, totals: Totals) -> Pen
     ensures { λ r. ⌜ Wrote ink (totalsLine totals) (now (out .entry)) pen (now (out .exit)) r ⌝ }
 {

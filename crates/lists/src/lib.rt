@@ -1,3 +1,4 @@
+// Offers listed: which ones a list query asks for, their numbers in the buffer, and a lender's active total.
 use offer::Offer;
 ghost use mathlib.Core.Path.{_≡_};
 ghost use mathlib.Core.List.{[]};
@@ -52,6 +53,7 @@ pub enum Listed {
 }
 
 impl OfferNumbers {
+    // The ten numbers of an offer.
     pub fn of(id: u64, o: Offer) -> OfferNumbers
         ensures { λ r. ⌜ r ≡ numbersOf id o ⌝ }
     {
@@ -72,6 +74,7 @@ impl OfferNumbers {
         }
     }
 
+    // The ten numbers in the original's field order.
     pub fn in_order(self) -> [u64; 10]
         ensures { λ r. ⌜ r ≡ inOrder self ⌝ }
     {
@@ -216,6 +219,7 @@ impl OfferRows {
         Listed::Offers(n)
     }
 
+    // What a lender has in Accepted and Financed offers.
     pub fn active_total(self, lender: u64) -> u64
         requires { ⌜ InRange self ⌝ }
         ensures { λ r. ⌜ r ≡ activeOf lender (offersOf self) ⌝ }

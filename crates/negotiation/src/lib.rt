@@ -1,3 +1,4 @@
+// The rounds of an offer: who put down which terms and when, and where the negotiation stands.
 use terms::Terms;
 ghost use mathlib.Core.Path.{_≡_};
 ghost use Rattle.refusal.specs.Refusal.{first};
@@ -42,6 +43,7 @@ pub const ACCEPTED: u32 = 3;
 pub const EXPIRED: u32 = 4;
 
 impl Round {
+    // A round that a party puts down now.
     pub fn new(now: u64, t: Terms, party: u32) -> Round
         ensures { λ r. ⌜ r ≡ roundOf now t party ⌝ }
     {
@@ -54,6 +56,7 @@ impl Round {
         }
     }
 
+    // The round's terms.
     pub fn terms(self) -> Terms
         ensures { λ r. ⌜ r ≡ termsOf self ⌝ }
     {
@@ -64,6 +67,7 @@ impl Round {
         }
     }
 
+    // In range, with rows past the rounds zero.
     pub fn sound(self) -> bool
         ensures { λ r. ⌜ r ≡ roundSound self ⌝ }
     {
@@ -72,6 +76,7 @@ impl Round {
         terms::terms_valid(t) & (party <= ORIGINATOR)
     }
 
+    // Whether every number is 0.
     pub fn zero(self) -> bool
         ensures { λ r. ⌜ r ≡ roundZero self ⌝ }
     {
@@ -98,6 +103,7 @@ pub fn deadline_after(len: u32, now: u64, window: u64, old: u64) -> u64
 }
 
 impl Negotiation {
+    // No rounds, no deadline, no outcome.
     pub fn none() -> Negotiation
         ensures { λ r. ⌜ r ≡ noNegotiation ⌝ }
     {
@@ -117,6 +123,7 @@ impl Negotiation {
         }
     }
 
+    // Where the negotiation stands at a time.
     pub fn status(self, pending: bool, now: u64) -> u32
         ensures { λ r. ⌜ r ≡ statusOf self pending now ⌝ }
     {
@@ -159,6 +166,7 @@ impl Negotiation {
         0
     }
 
+    // One round more; the first sets the deadline.
     pub fn added(mut self, r: Round, window: u64) -> Negotiation
         ensures { λ s. ⌜ s ≡ addedOf roundSlots self r window ⌝ }
     {
@@ -192,6 +200,7 @@ impl Negotiation {
         self
     }
 
+    // The same with an outcome stored.
     pub fn closed(mut self, outcome: u32) -> Negotiation
         ensures { λ r. ⌜ r ≡ closedAs outcome self ⌝ }
     {
@@ -220,6 +229,7 @@ impl Negotiation {
         false
     }
 
+    // In range, with rows past the rounds zero.
     pub fn sound(self) -> bool
         ensures { λ r. ⌜ r ≡ negotiationSound roundSlots self ⌝ }
     {
@@ -237,6 +247,7 @@ impl Negotiation {
         (n <= 12) & ok & ((outcome == 0) | ((2 <= outcome) & (outcome <= 4)))
     }
 
+    // Whether every number is 0.
     pub fn zero(self) -> bool
         ensures tested { λ r. ⌜ r ≡ negotiationZero roundSlots self ⌝ }
         ensures whole { λ r. ⌜ Whole roundSlots self ⌝ }

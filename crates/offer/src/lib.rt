@@ -1,3 +1,4 @@
+// An offer's row with its negotiation and its schedule, and what each command asks of it and does to it.
 use account::Account;
 use account::SeenAccount;
 use invoice::SeenInvoice;
@@ -31,6 +32,7 @@ pub struct Offer {
 }
 
 impl Offer {
+    // The row that is not in use.
     pub fn none() -> Offer
         ensures { λ r. ⌜ r ≡ noOffer ⌝ }
     {
@@ -49,6 +51,7 @@ impl Offer {
         }
     }
 
+    // Whether the offer's time is over.
     pub fn expired(self, now: u64) -> bool
         ensures { λ r. ⌜ r ≡ expired self now ⌝ }
     {
@@ -56,6 +59,7 @@ impl Offer {
         !(expires == 0) & (expires <= now)
     }
 
+    // Whether every number is 0.
     pub fn zero(self) -> bool
         ensures { λ r. ⌜ r ≡ offerZero self ⌝ }
     {
@@ -89,6 +93,7 @@ pub struct Deal {
 }
 
 impl Deal {
+    // The row that is not in use.
     pub fn none() -> Deal
         ensures { λ r. ⌜ r ≡ noDeal ⌝ }
     {
@@ -106,6 +111,7 @@ impl Deal {
         }
     }
 
+    // A created offer, Pending, with no rounds and no schedule.
     pub fn new(lender: u64, invoice: u64, t: Terms, expires: u64) -> Deal
         ensures { λ r. ⌜ r ≡ newDeal lender invoice t expires ⌝ }
     {
@@ -130,6 +136,7 @@ impl Deal {
         }
     }
 
+    // Ranges, a listed status, and a sound negotiation and schedule.
     pub fn sound(self) -> bool
         ensures { λ r. ⌜ r ≡ dealSound self ⌝ }
     {
@@ -146,6 +153,7 @@ impl Deal {
         a & b & (status <= terms::DEFAULTED) & sound & (d | e)
     }
 
+    // Whether every number is 0.
     pub fn zero(self) -> bool
         ensures tested { λ r. ⌜ r ≡ dealZero self ⌝ }
         ensures whole { λ r. ⌜ Whole roundSlots (self .negotiation) ⌝ }
@@ -245,6 +253,7 @@ pub struct SeenDeal {
 }
 
 impl SeenDeal {
+    // The lender takes the offer back.
     pub fn withdraw(self, caller: u64) -> DealPosted
         ensures { λ r. ⌜ r ≡ answered posted (self .row) (withdrawOf self caller) ⌝ }
     {
@@ -266,6 +275,7 @@ impl SeenDeal {
         DealPosted { answer: 0, row }
     }
 
+    // The originator rejects the offer.
     pub fn reject(self, caller: u64, paper: SeenInvoice) -> DealPosted
         ensures { λ r. ⌜ r ≡ answered posted (self .row) (rejectOf self caller paper) ⌝ }
     {
@@ -382,6 +392,7 @@ impl SeenDeal {
         negotiation.refusal(status == terms::PENDING, now, round)
     }
 
+    // The negotiation ends, as Closed or as Expired.
     pub fn close(self, now: u64, caller: u64, paper: SeenInvoice) -> DealPosted
         ensures { λ r. ⌜ r ≡ answered posted (self .row) (closeOf self now caller paper) ⌝ }
     {
@@ -457,6 +468,7 @@ impl SeenDeal {
         0
     }
 
+    // The installments are set; a second schedule replaces the first.
     pub fn schedule(
         self,
         now: u64,
@@ -489,6 +501,7 @@ impl SeenDeal {
         DealPosted { answer: 0, row }
     }
 
+    // Repayment sets the status.
     pub fn update_status(self, allowed: bool, code: u32) -> DealPosted
         ensures { λ r. ⌜ r ≡ answered posted (self .row) (statusUpdateOf self allowed code) ⌝ }
     {
@@ -508,6 +521,7 @@ impl SeenDeal {
         DealPosted { answer: 0, row }
     }
 
+    // Repayment sets the amount repaid.
     pub fn update_repaid(self, allowed: bool, amount: i64) -> DealPosted
         ensures { λ r. ⌜ r ≡ answered posted (self .row) (repaidUpdateOf self allowed amount) ⌝ }
     {

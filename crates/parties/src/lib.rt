@@ -19,6 +19,7 @@ pub struct Parties {
 }
 
 impl Parties {
+    // A new row at the first place, and at the second where both are one.
     pub fn put_first(mut self, row: Account) -> Parties
         ensures { λ r. ⌜ r ≡ putFirst self row ⌝ }
     {
@@ -32,6 +33,7 @@ impl Parties {
         self
     }
 
+    // A new row at the second place, and at the first where both are one.
     pub fn put_second(mut self, row: Account) -> Parties
         ensures { λ r. ⌜ r ≡ putSecond self row ⌝ }
     {

@@ -139,6 +139,7 @@ fn offers_only(t: Offers) -> OfferRows
     }
 }
 
+// The offers asked for, into the buffer.
 pub fn list(book: Book, w: Wanted, out: &mut [u64]) -> Listed
     ensures { λ r. ⌜ (listedSays r, now (out .exit)) ≡ listRead book w (now (out .entry)) ⌝ }
 {
@@ -150,36 +151,42 @@ pub fn list(book: Book, w: Wanted, out: &mut [u64]) -> Listed
     rows.list(w, out)
 }
 
+// The offers on an invoice.
 pub fn get_offers_by_invoice(book: Book, invoice: u64, out: &mut [u64]) -> Listed
     ensures { λ r. ⌜ (listedSays r, now (out .exit)) ≡ listRead book (Invoice invoice) (now (out .entry)) ⌝ }
 {
     list(book, Wanted::Invoice(invoice), out)
 }
 
+// A lender's offers.
 pub fn get_offers_by_lender(book: Book, lender: u64, out: &mut [u64]) -> Listed
     ensures { λ r. ⌜ (listedSays r, now (out .exit)) ≡ listRead book (Lender lender) (now (out .entry)) ⌝ }
 {
     list(book, Wanted::Lender(lender), out)
 }
 
+// The offers of a status.
 pub fn get_offers_by_status(book: Book, status: u32, out: &mut [u64]) -> Listed
     ensures { λ r. ⌜ (listedSays r, now (out .exit)) ≡ listRead book (Status status) (now (out .entry)) ⌝ }
 {
     list(book, Wanted::Status(status), out)
 }
 
+// The Pending offers on an invoice.
 pub fn get_pending_offers_by_invoice(book: Book, invoice: u64, out: &mut [u64]) -> Listed
     ensures { λ r. ⌜ (listedSays r, now (out .exit)) ≡ listRead book (PendingOf invoice) (now (out .entry)) ⌝ }
 {
     list(book, Wanted::PendingOf(invoice), out)
 }
 
+// Every offer.
 pub fn get_all_offers(book: Book, out: &mut [u64]) -> Listed
     ensures { λ r. ⌜ (listedSays r, now (out .exit)) ≡ listRead book All (now (out .entry)) ⌝ }
 {
     list(book, Wanted::All, out)
 }
 
+// At most `limit` offers from a place on.
 pub fn get_offers_paginated(book: Book, offset: u64, limit: u64, out: &mut [u64]) -> Listed
     ensures { λ r. ⌜ (listedSays r, now (out .exit)) ≡ listRead book (Page offset limit) (now (out .entry)) ⌝ }
 {
@@ -188,6 +195,7 @@ pub fn get_offers_paginated(book: Book, offset: u64, limit: u64, out: &mut [u64]
 
 // ── One offer ──
 
+// One offer, or that it is absent.
 pub fn get_offer(book: Book, id: u64) -> OfferAnswer
     ensures { λ r. ⌜ offerSays r ≡ asked book (offerRead id) ⌝ }
 {
@@ -205,6 +213,7 @@ pub fn get_offer(book: Book, id: u64) -> OfferAnswer
     OfferAnswer::Offer(numbers)
 }
 
+// An offer's schedule, or that it has none.
 pub fn get_schedule(book: Book, id: u64) -> ScheduleAnswer
     ensures { λ r. ⌜ scheduleSays r ≡ asked book (scheduleRead id) ⌝ }
 {
@@ -222,6 +231,7 @@ pub fn get_schedule(book: Book, id: u64) -> ScheduleAnswer
     ScheduleAnswer::Schedule(numbers)
 }
 
+// An offer's negotiation.
 pub fn get_negotiation(book: Book, id: u64) -> NegotiationAnswer
     ensures { λ r. ⌜ r ≡ answered negotiationTold noNegotiation (onSound book (negotiationRead id)) ⌝ }
 {
@@ -242,6 +252,7 @@ pub fn get_negotiation(book: Book, id: u64) -> NegotiationAnswer
     }
 }
 
+// When an offer's negotiation ends.
 pub fn get_negotiation_deadline(book: Book, id: u64) -> NumberAnswer
     ensures { λ r. ⌜ numberSays r ≡ asked book (deadlineRead id) ⌝ }
 {
@@ -255,6 +266,7 @@ pub fn get_negotiation_deadline(book: Book, id: u64) -> NumberAnswer
     NumberAnswer::Number(negotiation.deadline)
 }
 
+// Where an offer's negotiation stands at a time.
 pub fn get_negotiation_status(book: Book, now: u64, id: u64) -> NumberAnswer
     ensures { λ r. ⌜ numberSays r ≡ asked book (statusRead now id) ⌝ }
 {
@@ -287,6 +299,7 @@ fn due(d: Deal, now: u64) -> u64
     }
 }
 
+// The number of the installment that is due, 0 where none is.
 pub fn get_installment_due(book: Book, now: u64, id: u64) -> NumberAnswer
     ensures { λ r. ⌜ numberSays r ≡ asked book (dueRead now id) ⌝ }
 {
@@ -302,6 +315,7 @@ pub fn get_installment_due(book: Book, now: u64, id: u64) -> NumberAnswer
 
 // ── Lenders ──
 
+// A lender's figures, zeros where it has no account.
 pub fn get_lender_stats(book: Book, lender: u64) -> LenderAnswer
     ensures { λ r. ⌜ lenderSays r ≡ asked book (lenderRead lender) ⌝ }
 {
@@ -315,6 +329,7 @@ pub fn get_lender_stats(book: Book, lender: u64) -> LenderAnswer
     LenderAnswer::Lender(numbers)
 }
 
+// What a lender has in Accepted and Financed offers.
 pub fn get_lender_active_total(book: Book, lender: u64) -> NumberAnswer
     ensures { λ r. ⌜ numberSays r ≡ asked book (activeRead lender) ⌝ }
 {
@@ -339,6 +354,7 @@ fn told(sound: bool, n: u64) -> NumberAnswer
     NumberAnswer::Number(n)
 }
 
+// How many offers there are.
 pub fn get_offers_count(book: Book) -> NumberAnswer
     ensures { λ r. ⌜ numberSays r ≡ asked book countRead ⌝ }
 {
@@ -350,6 +366,7 @@ pub fn get_offers_count(book: Book) -> NumberAnswer
     NumberAnswer::Number(count as u64)
 }
 
+// The book's totals.
 pub fn get_stats(book: Book) -> TotalsAnswer
     ensures { λ r. ⌜ totalsSays r ≡ asked book totalsRead ⌝ }
 {
@@ -361,6 +378,7 @@ pub fn get_stats(book: Book) -> TotalsAnswer
     TotalsAnswer::Totals(numbers)
 }
 
+// How long a negotiation stays open.
 pub fn get_negotiation_window(book: Book) -> NumberAnswer
     ensures { λ r. ⌜ numberSays r ≡ asked book windowRead ⌝ }
 {
@@ -377,6 +395,7 @@ pub fn get_signers(book: Book) -> NumberAnswer
     told(book.sound(), seats as u64)
 }
 
+// How many seats an admin command takes.
 pub fn get_threshold(book: Book) -> NumberAnswer
     ensures { λ r. ⌜ numberSays r ≡ asked book thresholdRead ⌝ }
 {

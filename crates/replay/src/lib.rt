@@ -249,6 +249,7 @@ fn walk(s: &[u8], out: &mut [u8], ink: bool) -> Told
     records(s, out, ink, first)
 }
 
+// A fresh book and then the journal's commands, up to its end or to a malformed record.
 pub fn replay(s: &[u8]) -> Outcome
     ensures { λ r. ⌜ r ≡ outcomeOf 0 (replayOf (now (s .entry))) ⌝ }
 {

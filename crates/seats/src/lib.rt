@@ -10,6 +10,7 @@ pub fn present(presented: u64, configured: u32) -> u32
     u32::count_ones(masked as u32)
 }
 
+// Whether the seats presented and configured reach the threshold.
 pub fn reaches(presented: u64, configured: u32, threshold: u32) -> bool
     ensures { λ r. ⌜ r ≡ reachesOf presented configured threshold ⌝ }
 {

@@ -30,6 +30,7 @@ pub struct Accounts {
 }
 
 impl Accounts {
+    // A table with no rows.
     pub fn none() -> Accounts
         ensures { λ r. ⌜ r ≡ storedAccounts [] ⌝ }
     {
@@ -43,6 +44,7 @@ impl Accounts {
         }
     }
 
+    // Whether ids ascend, rows are sound, and the places past the count are zero.
     pub fn sound(self) -> bool
         ensures tested { λ r. ⌜ r ≡ accountsTest self ⌝ }
         ensures sized { λ r. ⌜ Sized (self .ids) (self .rows) ⌝ }
@@ -130,6 +132,7 @@ pub struct Invoices {
 }
 
 impl Invoices {
+    // A table with no rows.
     pub fn none() -> Invoices
         ensures { λ r. ⌜ r ≡ storedInvoices [] ⌝ }
     {
@@ -143,6 +146,7 @@ impl Invoices {
         }
     }
 
+    // Whether ids ascend, rows are sound, and the places past the count are zero.
     pub fn sound(self) -> bool
         ensures tested { λ r. ⌜ r ≡ invoicesTest self ⌝ }
         ensures sized { λ r. ⌜ Sized (self .ids) (self .rows) ⌝ }
@@ -228,6 +232,7 @@ pub struct Offers {
 }
 
 impl Offers {
+    // A table with no rows.
     pub fn none() -> Offers
         ensures { λ r. ⌜ r ≡ storedDeals [] ⌝ }
     {
@@ -248,6 +253,7 @@ impl Offers {
         }
     }
 
+    // Whether ids ascend, rows are sound, and the places past the count are zero.
     pub fn sound(self) -> bool
         ensures tested { λ r. ⌜ r ≡ dealsTest self ⌝ }
         ensures whole { λ r. ⌜ WholeDeals self ⌝ }

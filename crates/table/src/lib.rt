@@ -1,3 +1,4 @@
+// Ids in ascending order: where one stands, where a new one would, and whether they are in order.
 ghost use mathlib.Core.Path.{_≡_};
 ghost use lib.ListN.{take};
 ghost use Rattle.table.specs.Find.{findIn};

@@ -21,6 +21,7 @@ pub struct Schedule {
     pub first: u64,
 }
 
+// Amount, rate and duration in range.
 pub fn terms_valid(t: Terms) -> bool
     ensures { λ r. ⌜ r ≡ termsOk t ⌝ }
 {
@@ -30,6 +31,7 @@ pub fn terms_valid(t: Terms) -> bool
     amount & (1 <= rate) & (rate <= 10000) & (86400 <= duration) & (duration <= 31536000)
 }
 
+// Whether all three are the same.
 pub fn same_terms(a: Terms, b: Terms) -> bool
     ensures { λ r. ⌜ r ≡ sameTerms a b ⌝ }
 {
@@ -41,12 +43,14 @@ pub fn same_terms(a: Terms, b: Terms) -> bool
     amount & (rate == other) & (duration == span)
 }
 
+// From 1 to 1,200 installments.
 pub fn count_valid(count: u32) -> bool
     ensures { λ r. ⌜ r ≡ countOk count ⌝ }
 {
     (1 <= count) & (count <= 1200)
 }
 
+// Weekly, monthly or quarterly.
 pub fn code_listed(code: u32) -> bool
     ensures { λ r. ⌜ r ≡ periodListed code ⌝ }
 {
@@ -79,6 +83,7 @@ pub enum InstallmentAnswer {
     Invalid,
 }
 
+// What one installment is: its part of the amount and of the yield.
 pub fn installment(t: Terms, count: u32) -> InstallmentAnswer
     ensures { λ r. ⌜ installmentSays r ≡ installmentOf t count ⌝ }
 {
@@ -115,6 +120,7 @@ pub enum PeriodAnswer {
     Unlisted,
 }
 
+// The seconds of a period's code.
 pub fn period(code: u32) -> PeriodAnswer
     ensures { λ r. ⌜ periodSays r ≡ periodOf code ⌝ }
 {
@@ -172,6 +178,7 @@ pub enum DueAnswer {
     Invalid,
 }
 
+// The number of the installment that is due at a time, 0 where none is.
 pub fn due(s: Schedule, status: u32, repaid: i64, now: u64) -> DueAnswer
     ensures { λ r. ⌜ dueSays r ≡ dueOf s status repaid now ⌝ }
 {

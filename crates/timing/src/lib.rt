@@ -2,12 +2,14 @@
 use query::LenderAnswer;
 use query::OfferAnswer;
 
+// Replays a journal again and again.
 #[no_mangle]
 pub extern "C" fn timing_replay(journal: &[u8]) -> u64 {
     let o = replay::replay(journal);
     o.count as u64
 }
 
+// Asks for a lender's figures again and again.
 #[no_mangle]
 pub extern "C" fn timing_lender(journal: &[u8], account: u64, times: u64) -> u64 {
     let o = replay::replay(journal);
@@ -27,6 +29,7 @@ pub extern "C" fn timing_lender(journal: &[u8], account: u64, times: u64) -> u64
     mixed
 }
 
+// Asks for an offer again and again.
 #[no_mangle]
 pub extern "C" fn timing_offer(journal: &[u8], id: u64, times: u64) -> u64 {
     let o = replay::replay(journal);
@@ -49,6 +52,7 @@ pub extern "C" fn timing_offer(journal: &[u8], id: u64, times: u64) -> u64 {
     mixed
 }
 
+// Tests a book again and again.
 #[no_mangle]
 pub extern "C" fn timing_sound(journal: &[u8], times: u64) -> u64 {
     let o = replay::replay(journal);
