@@ -49,7 +49,7 @@ pub fn half(x: u64) -> u32 {
     (x % 4294967296) as u32
 }
 
-// Whether a word is 1.
+// A mark as 0 or 1.
 pub fn flag(b: bool) -> u64 {
     b as u64
 }

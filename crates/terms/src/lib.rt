@@ -50,7 +50,7 @@ pub fn count_valid(count: u32) -> bool
     (1 <= count) & (count <= 1200)
 }
 
-// Weekly, monthly or quarterly.
+// Weekly, fortnightly or every thirty days.
 pub fn code_listed(code: u32) -> bool
     ensures { λ r. ⌜ r ≡ periodListed code ⌝ }
 {
