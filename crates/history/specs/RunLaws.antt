@@ -33,17 +33,19 @@ run-played r [] = refl
 run-played r (c ∷ cs) = run-played (go r c) cs ∙ ap (λ m. played m cs) (go-after r c)
 
 -- the accepted commands are those that the calls of the code accept
+gone : (h : List Command) (m : Model) (c : Command) (g : Bool) → pick g (taken (record { history = h; model = m }) c) (record { history = h; model = m }) ≡ record { history = pick g (c ∷ h) h; model = pick g (commanded m c .done) m }
+unfolding pick
+gone h m c true = refl
+gone h m c false = refl
+
 pub run-accepted : {m : Model} → ModelSound m → (h cs : List Command) → run (record { history = h; model = m }) cs .history ≡ acceptedBy h (stored m) cs
-unfolding run acceptedBy
+unfolding run go after acceptedBy
 run-accepted s h [] = refl
 run-accepted {m} s h (c ∷ cs) =
-    ap (λ r. run r cs .history) (gone (eqb (answerTo m c) 0))
-    ∙ run-accepted (stays-sound s c) (pick (eqb (answerTo m c) 0) (c ∷ h) h) cs
-    ∙ sym (ap (λ n. acceptedBy (pick (eqb n 0) (c ∷ h) h) (answers (stored m) c .book) cs) (one-answer s c) ∙ ap (λ b. acceptedBy (pick (eqb (answerTo m c) 0) (c ∷ h) h) b cs) (one-call s c))
-  where
-    gone : (g : Bool) → pick g (taken (record { history = h; model = m }) c) (record { history = h; model = m }) ≡ record { history = pick g (c ∷ h) h; model = pick g (commanded m c .done) m }
-    gone true = refl
-    gone false = refl
+    let h′ = pick (eqb (answerTo m c) 0) (c ∷ h) h in
+    ap (λ r. run r cs .history) (gone h m c (eqb (answerTo m c) 0))
+    ∙ run-accepted (stays-sound s c) h′ cs
+    ∙ sym (ap (λ n. acceptedBy (pick (eqb n 0) (c ∷ h) h) (answers (stored m) c .book) cs) (one-answer s c) ∙ ap (λ b. acceptedBy h′ b cs) (one-call s c))
 
 -- what every accepted command keeps holds after any commands
 module _ (P : List Command → Model → Type 0) (keep : (h : List Command) (m : Model) (c : Command) → P h m → Passes (commanded m c .checks) → P (c ∷ h) (commanded m c .done)) where
