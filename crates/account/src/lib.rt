@@ -89,6 +89,16 @@ impl Account {
         zero & (pending == 0) & (repaid == 0) & !blacklisted
     }
 
+    // Whether the row can stand at a place: sound where the place is in use, else zero.
+    pub fn fits(self, used: bool) -> bool
+        ensures { λ r. ⌜ r ≡ cond used (accountSound self) (accountZero self) ⌝ }
+    {
+        if used {
+            return self.sound();
+        }
+        self.zero()
+    }
+
     // The row of a new account.
     pub fn none() -> Account
         ensures { λ r. ⌜ r ≡ noAccount ⌝ }

@@ -63,6 +63,16 @@ impl Invoice {
         (originator == 0) & zero & (status == 0)
     }
 
+    // Whether the row can stand at a place: sound where the place is in use, else zero.
+    pub fn fits(self, used: bool) -> bool
+        ensures { λ r. ⌜ r ≡ cond used (invoiceSound self) (invoiceZero self) ⌝ }
+    {
+        if used {
+            return self.sound();
+        }
+        self.zero()
+    }
+
     // The invoice once an offer on it is settled.
     pub fn financed(mut self) -> Invoice
         ensures { λ r. ⌜ r ≡ financed self ⌝ }

@@ -1,6 +1,7 @@
 // The rounds of an offer: who put down which terms and when, and where the negotiation stands.
 use terms::Terms;
 ghost use mathlib.Core.Path.{_≡_};
+ghost use mathlib.Core.Bool.{cond};
 ghost use Rattle.refusal.specs.Refusal.{first};
 ghost use Rattle.negotiation.specs.Rounds.{termsOf, roundOf, deadlineOf, statusOf, negotiable, addedOf, acceptedOf, closedAs, agreesOf, roundLimit, roundSlots, roundSound, roundZero, noNegotiation, negotiationSound, negotiationZero};
 ghost use Rattle.negotiation.specs.Whole.{Whole};
@@ -86,6 +87,16 @@ impl Round {
         let rate = self.rate;
         let party = self.party;
         zero & (duration == 0) & (time == 0) & (rate == 0) & (party == 0)
+    }
+
+    // Whether the row can stand at a place: sound where the place is in use, else zero.
+    pub fn fits(self, used: bool) -> bool
+        ensures { λ r. ⌜ r ≡ cond used (roundSound self) (roundZero self) ⌝ }
+    {
+        if used {
+            return self.sound();
+        }
+        self.zero()
     }
 }
 
@@ -231,16 +242,16 @@ impl Negotiation {
 
     // In range, with rows past the rounds zero.
     pub fn sound(self) -> bool
-        ensures { λ r. ⌜ r ≡ negotiationSound roundSlots self ⌝ }
+        ensures tested { λ r. ⌜ r ≡ negotiationSound roundSlots self ⌝ }
+        ensures whole { λ r. ⌜ Whole roundSlots self ⌝ }
     {
         let n = self.len as usize;
         let mut ok = true;
         let mut i = 0;
         while i < 12 {
             let r = self.rounds[i];
-            let sound = r.sound();
-            let zero = r.zero();
-            ok = ok & (((i < n) & sound) | ((n <= i) & zero));
+            let fits = r.fits(i < n);
+            ok = ok & fits;
             i += 1;
         }
         let outcome = self.outcome;

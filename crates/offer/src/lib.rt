@@ -138,7 +138,8 @@ impl Deal {
 
     // Ranges, a listed status, and a sound negotiation and schedule.
     pub fn sound(self) -> bool
-        ensures { λ r. ⌜ r ≡ dealSound self ⌝ }
+        ensures tested { λ r. ⌜ r ≡ dealSound self ⌝ }
+        ensures whole { λ r. ⌜ Whole roundSlots (self .negotiation) ⌝ }
     {
         let offer = self.offer;
         let terms = offer.terms;
@@ -165,6 +166,17 @@ impl Deal {
         let schedule = self.schedule;
         let c = terms::schedule_zero(schedule);
         zero & b & c
+    }
+
+    // Whether the row can stand at a place: sound where the place is in use, else zero.
+    pub fn fits(self, used: bool) -> bool
+        ensures tested { λ r. ⌜ r ≡ cond used (dealSound self) (dealZero self) ⌝ }
+        ensures whole { λ r. ⌜ Whole roundSlots (self .negotiation) ⌝ }
+    {
+        if used {
+            return self.sound();
+        }
+        self.zero()
     }
 
     // Settlement's part: the offer is Accepted and funded now, and so is its negotiation if it still runs.

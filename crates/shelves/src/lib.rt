@@ -55,9 +55,8 @@ impl Accounts {
         let mut i = 0;
         while i < table::ROOM {
             let row = self.rows[i];
-            let sound = row.sound();
-            let zero = row.zero();
-            ok = ok & (((i < count) & sound) | ((count <= i) & zero));
+            let fits = row.fits(i < count);
+            ok = ok & fits;
             i += 1;
         }
         ids & ok
@@ -157,9 +156,8 @@ impl Invoices {
         let mut i = 0;
         while i < table::ROOM {
             let row = self.rows[i];
-            let sound = row.sound();
-            let zero = row.zero();
-            ok = ok & (((i < count) & sound) | ((count <= i) & zero));
+            let fits = row.fits(i < count);
+            ok = ok & fits;
             i += 1;
         }
         ids & ok
@@ -271,9 +269,8 @@ impl Offers {
                 negotiation: g,
                 schedule: p,
             };
-            let sound = d.sound();
-            let zero = d.zero();
-            ok = ok & (((i < count) & sound) | ((count <= i) & zero));
+            let fits = d.fits(i < count);
+            ok = ok & fits;
             i += 1;
         }
         ids & ok

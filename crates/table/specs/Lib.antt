@@ -1,5 +1,7 @@
 pub mod Find
-pub mod FindLaws
+pub mod Halvings
+pub mod Rising
+pub mod Halves
 pub mod Seek
 pub mod Shift
 pub mod Deciding
@@ -8,7 +10,6 @@ pub mod Rows
 pub mod TableLaws
 pub mod Figures
 pub mod Sums
-pub mod Rising
 pub mod RisingLaws
 pub mod Padded
 pub mod Shelf

@@ -27,10 +27,10 @@ module _ {A : Type 0} {d : A} {n : ℕ} {ids : List ℕ} {rows : List A} {c : �
   fits = omega (arith, s .counted, s .few)
 
   stands : (i k : ℕ) → findIn (take c ids) i ≡ At k → Stands (keys (tableOf ids rows c)) i k
-  stands i k e = found-stands _ i k (ap (λ z. findIn z i) (sym searched) ∙ e)
+  stands i k e = found-stands _ i k (s .rising) (ap (λ z. findIn z i) (sym searched) ∙ e)
 
   place : (i k : ℕ) → findIn (take c ids) i ≡ Absent k → Place (keys (tableOf ids rows c)) i k
-  place i k e = absent-place _ i k (ap (λ z. findIn z i) (sym searched) ∙ e)
+  place i k e = absent-place _ i k (s .rising) (ap (λ z. findIn z i) (sym searched) ∙ e)
 
   pub at-inside : (i k : ℕ) → findIn (take c ids) i ≡ At k → k < c
   at-inside i k e = omega (arith, (stands i k e) .within, length-keys (tableOf ids rows c), s .counted)

@@ -8,7 +8,7 @@ use lib.ListN.{length, getD, set, take}
 use lib.Seq.{set-getD}
 use Rattle.table.specs.Tables.{Found, absent, here, find, has}
 use Rattle.table.specs.Find.{findIn}
-use Rattle.table.specs.Seek.{absent-place}
+use Rattle.table.specs.Seek.{absent-inside}
 use Rattle.table.specs.Shelf.{tableOf, Shelf, shelve}
 use Rattle.table.specs.ShelfLaws.{at-below, at-found, absent-found, kept, put-kept, absent-kept}
 use Rattle.table.specs.Named.{idOf, findBy, putBy}
@@ -82,7 +82,7 @@ take-le (suc n) (x ∷ xs) = omega (arith, take-le n xs)
 
 -- an id that is not there would be let in at the count at most
 pub slot-inside : (xs : List ℕ) (n i k : ℕ) → findIn (take n xs) i ≡ Absent k → k ≤ n
-slot-inside xs n i k e = omega (arith, absent-place (take n xs) i k e .within, take-le n xs)
+slot-inside xs n i k e = omega (arith, absent-inside (take n xs) i k e, take-le n xs)
 
 pub off-spot : {A : Type 0} {b : Bool} (r : A) → b ≡ false → atSpot b r ≡ absent
 unfolding atSpot

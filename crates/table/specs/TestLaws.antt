@@ -2,7 +2,7 @@
 use Prim.Native.Nat.{ℕ, zero, suc, _≤_, _<_}
 use native.Mathlib.Omega.{arith}
 use mathlib.Core.Path.{_≡_, refl, sym, ap, _∙_}
-use mathlib.Core.Bool.{Bool, true, false, _&&_, _||_}
+use mathlib.Core.Bool.{Bool, true, false, cond, _&&_, _||_}
 use mathlib.Core.List.{List, [], _∷_}
 use lib.ListN.{length, getD}
 use lib.Dec.{ltb, leb, eqb}
@@ -16,13 +16,13 @@ use Rattle.table.specs.Shelf.{tableOf, Shelf}
 use Rattle.table.specs.ShelfBack.{ids-back, rows-back, length-table}
 use Rattle.table.specs.Sound.{All}
 
-or-false : (b : Bool) → b || false ≡ true → b ≡ true
-or-false true e = refl
-or-false false e = e
+or-same : (b : Bool) → b || false ≡ b
+or-same true = refl
+or-same false = refl
 
 module _ (n i : ℕ) (a b : Bool) where
   pub used : byUse n i a b ≡ true → i < n → a ≡ true
-  used e h = or-false a (simp (lt-ltb i n h, lt-leb n i h) at e)
+  used e h = sym (or-same a) ∙ simp (lt-ltb i n h, lt-leb n i h) at e
 
   pub free : byUse n i a b ≡ true → n ≤ i → b ≡ true
   free e h = simp (le-ltb i n h, le-leb n i h) at e
@@ -33,6 +33,14 @@ module _ (n i : ℕ) (a b : Bool) where
       go : (t : Bool) → ltb i n ≡ t → byUse n i a b ≡ true
       go true q = rw (q, f (ltb-true i n q))
       go false q = rw (q, le-leb n i (ltb-false i n q), g (ltb-false i n q))
+
+  -- a program tests one of the two
+  pub by-use : byUse n i a b ≡ cond (ltb i n) a b
+  by-use = go (ltb i n) refl
+    where
+      go : (t : Bool) → ltb i n ≡ t → byUse n i a b ≡ cond (ltb i n) a b
+      go true q = rw (q, lt-leb n i (ltb-true i n q)) (or-same a)
+      go false q = rw (q, le-leb n i (ltb-false i n q))
 
 later : (m : ℕ) → eqb (suc m) 0 ≡ false
 later m = ne-eqb (suc m) 0 (λ e. omega arith)

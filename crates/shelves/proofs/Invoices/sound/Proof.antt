@@ -1,8 +1,10 @@
 use Prim.Native.Nat.{_-_}
+use mathlib.Core.Path.{sym, _∙_}
 use lib.ListN.{length-map}
 use borrow.Author.Needs.{needs}
 use Rattle.table.specs.All.{Checked, check-start, check-turn, check-done, both-same}
 use Rattle.table.specs.Test.{rowTest}
+use Rattle.table.specs.TestLaws.{by-use}
 use Rattle.invoice.specs.Invoice.{noInvoice, invoiceSound, invoiceZero}
 use Rattle.shelves.specs.Invoices.{invoicesTest}
 use Rattle.shelves.proofs.Invoices.sound.Statement.{statement}
@@ -15,7 +17,10 @@ abbrev μ-loop : tie.MeasureT-loop
 μ-loop self n t ok₀ i₀ ok i = 64 - i
 
 loop-again : tie.Need-loop-again Inv-loop μ-loop
-loop-again c = check-turn (c .before .before .before .before .loop .inv) (c .before .before .before .loop-test .taken) (rw (c .before .sound .ensures, c .zero .ensures))
+loop-again c =
+    let i = c .before .before .before .loop .i in
+    let count = c .before .before .before .before .before .before .before .args .t1 .count in
+    check-turn (c .before .before .before .loop .inv) (c .before .before .loop-test .taken) (c .fits2 .ensures ∙ sym (by-use count i _ _))
 
 returns : tie.Need-returns Inv-loop μ-loop
 unfolding invoicesTest
@@ -34,7 +39,6 @@ sound-spec =
     (λ c. check-start _ _)
     (λ c. search needs)
     (λ c. search needs)
-    (λ c κs. search needs)
     (λ c κs. search needs)
     (λ c. search needs)
     (λ c. search needs)

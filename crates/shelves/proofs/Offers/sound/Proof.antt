@@ -1,12 +1,15 @@
 use Prim.Native.Nat.{ℕ, _-_, _<_}
 use native.Mathlib.Omega.{arith}
-use mathlib.Core.Path.{_≡_, sym, ap, subst}
+use mathlib.Core.Path.{_≡_, sym, ap, subst, _∙_}
+use mathlib.Core.Bool.{cond}
 use lib.ListN.{length, getD, length-map}
+use lib.Dec.{ltb}
 use borrow.Author.Needs.{needs}
 use Rattle.table.specs.Columns.{any-default, level, join-at}
 use Rattle.table.specs.Join.{Level}
 use Rattle.table.specs.All.{Checked, check-start, check-turn, check-done, both-same, below-on}
-use Rattle.table.specs.Test.{rowTest, byUse}
+use Rattle.table.specs.Test.{rowTest}
+use Rattle.table.specs.TestLaws.{by-use}
 use Rattle.negotiation.specs.Rounds.{roundSlots, noNegotiation}
 use Rattle.negotiation.specs.Whole.{Whole}
 use Rattle.offer.specs.Offer.{noDeal, dealSound, dealZero}
@@ -35,11 +38,14 @@ even c = level _ _ _ (rows-long c) (negotiations-long c) (schedules-long c)
 
 loop-again : tie.Need-loop-again Inv-loop μ-loop
 loop-again c =
-    let i = c .before .before .before .before .before .before .loop .i in
-    let l = c .before .before .before .before .before .loop-test .taken in
-    let e = join-at dealOf _ _ _ (even (c .before .before .before .before .before .before .before .before .before .before)) i (omega (arith, rows-long (c .before .before .before .before .before .before .before .before .before .before))) noDeal _ _ _ in (
-      check-turn (c .before .before .before .before .before .before .loop .inv .0) l (rw (c .before .sound .ensures, c .zero .ensures .0) (sym (ap (λ r. byUse (c .before .before .before .before .before .before .before .before .before .before .args .t1 .count) i (dealSound r) (dealZero r)) e))),
-      below-on (c .before .before .before .before .before .before .loop .inv .1) (subst (λ n. Whole roundSlots n) (any-default (c .before .before .before .before .before .before .before .before .before .before .args .t1 .negotiations) i _ noNegotiation (omega (arith, negotiations-long (c .before .before .before .before .before .before .before .before .before .before)))) (c .zero .ensures .1)),
+    let start = c .before .before .before .before .before .before .before .before .before in
+    let self = start .args .t1 in
+    let i = c .before .before .before .before .before .loop .i in
+    let row-is = join-at dealOf _ _ _ (even start) i (omega (arith, rows-long start)) noDeal _ _ _ in
+    let negotiation-is = any-default (self .negotiations) i _ noNegotiation (omega (arith, negotiations-long start)) in
+    let below = c .before .before .before .before .loop-test .taken in (
+      check-turn (c .before .before .before .before .before .loop .inv .0) below (c .fits2 .ensures .0 ∙ sym (ap (λ r. cond (ltb i (self .count)) (dealSound r) (dealZero r)) row-is) ∙ sym (by-use (self .count) i _ _)),
+      below-on (c .before .before .before .before .before .loop .inv .1) (subst (λ n. Whole roundSlots n) negotiation-is (c .fits2 .ensures .1)),
     )
 
 returns : tie.Need-returns Inv-loop μ-loop
@@ -64,12 +70,11 @@ sound-spec =
     (λ c κs. search needs)
     (λ c. (check-start _ _, λ k h. absurd (omega arith)))
     (λ c. search needs)
+    (λ c. c .loop-test .taken)
     (λ c. search needs)
+    (λ c. c .before .loop-test .taken)
     (λ c. search needs)
-    (λ c. search needs)
-    (λ c. search needs)
-    (λ c. search needs)
-    (λ c κs. search needs)
+    (λ c. c .before .before .loop-test .taken)
     (λ c κs. search needs)
     (λ c. search needs)
     (λ c. search needs)
