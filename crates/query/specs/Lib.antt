@@ -3,3 +3,4 @@ pub mod Reads
 pub mod Says
 pub mod Answers
 pub mod Held
+pub mod Questions

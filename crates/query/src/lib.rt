@@ -73,6 +73,13 @@ pub enum LenderAnswer {
     Unsound,
 }
 
+// How many questions were answered, or why none was.
+pub enum Answered {
+    Answers(usize),
+    Short,
+    Unsound,
+}
+
 // The answer's number, and the negotiation, which has no rounds and deadline 0 where there is none.
 pub struct NegotiationAnswer {
     pub answer: u64,
