@@ -4,3 +4,4 @@ pub mod Says
 pub mod Answers
 pub mod Held
 pub mod Questions
+pub mod QuestionLaws
