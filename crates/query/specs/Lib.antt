@@ -5,3 +5,4 @@ pub mod Answers
 pub mod Held
 pub mod Questions
 pub mod QuestionLaws
+pub mod Asking

@@ -17,15 +17,18 @@ use terms::Schedule;
 use totals::Totals;
 ghost use mathlib.Core.Path.{_≡_};
 ghost use mathlib.Core.List.{[], _∷_};
+ghost use Prim.Native.Nat.{_*_, _≤_};
+ghost use lib.ListN.{length};
 ghost use Rattle.refusal.specs.Rule.{answered};
 ghost use Rattle.negotiation.specs.Rounds.{noNegotiation};
+ghost use Rattle.book.specs.Stored.{modelOf, Shelved};
 ghost use Rattle.lists.specs.Listing.{listedSays, inOrder};
 ghost use Rattle.offer.specs.Rules.{standing};
 ghost use Rattle.lists.specs.declared.Wanted.the-variants.{Invoice, Lender, Status, PendingOf, All, Page};
 ghost use Rattle.query.specs.Numbers.{offersOnly, scheduleNumbers, lenderNumbers, totalsNumbers, dueIn, flag};
 ghost use Rattle.query.specs.Reads.{reply, listRead, asked, onSound, offerRead, scheduleRead, negotiationRead, deadlineRead, statusRead, dueRead, lenderRead, activeRead, countRead, totalsRead, windowRead, seatsRead, thresholdRead, pauseRead, lenderOrder, totalsOrder, scheduleValues};
 ghost use Rattle.query.specs.Says.{numberTold, numberSays, offerSays, scheduleSays, lenderSays, totalsSays, negotiationTold};
-ghost use Rattle.query.specs.Questions.{twelve, purseOrder, offerRule, Replies};
+ghost use Rattle.query.specs.Questions.{twelve, purseOrder, offerRule, Replies, threes, replied, answersRead, answeredSays};
 
 // The book's totals.
 pub struct TotalsNumbers {
@@ -578,4 +581,56 @@ fn answer(
         13 => totals_words(totals),
         _ => words_none(refusal::INVALID_INPUT),
     }
+}
+
+// Twelve words for each question, from the start of the buffer on. The tables are locals: rows are read where they stand.
+fn write(book: Book, questions: &[u64], out: &mut [u64])
+    requires shelved { ⌜ Shelved book ⌝ }
+    requires room { ⌜ 12 * length (threes (now questions)) ≤ length (now out) ⌝ }
+    ensures { λ _. ⌜ now (out .exit) ≡ replied (threes (now (questions .entry))) (modelOf book) (now (out .entry)) ⌝ }
+{
+    let offers = book.offers;
+    let accounts = book.accounts;
+    let totals = book.totals;
+    let settings = book.settings;
+    let asked = questions.len() / 3;
+    let mut i: usize = 0;
+    while i < asked {
+        let code = questions[3 * i];
+        let id = questions[3 * i + 1];
+        let time = questions[3 * i + 2];
+        let offer_spot = table::spot_by(&offers.ids, offers.count, Named::Id(id));
+        let offer_place = offer_spot.at;
+        let offer = offers.rows[offer_place];
+        let negotiation = offers.negotiations[offer_place];
+        let schedule = offers.schedules[offer_place];
+        let row = Deal {
+            offer,
+            negotiation,
+            schedule,
+        };
+        let deal = SeenDeal::at(offer_spot.here, row);
+        let account_spot = table::spot_by(&accounts.ids, accounts.count, Named::Id(id));
+        let account_place = account_spot.at;
+        let purse = accounts.rows[account_place];
+        let account = SeenAccount::at(account_spot.here, purse);
+        let words = answer(code, id, time, deal, account, totals, settings, offers.count);
+        lists::put(&mut *out, 12 * i, &words);
+        i += 1;
+    }
+}
+
+// Lookups by the thousand: the book is tested once, and each answer is the one that the single query gives.
+pub fn answers(book: Book, questions: &[u64], out: &mut [u64]) -> Answered
+    ensures { λ r. ⌜ (answeredSays r, now (out .exit)) ≡ answersRead book (now (questions .entry)) (now (out .entry)) ⌝ }
+{
+    if !book.sound() {
+        return Answered::Unsound;
+    }
+    let asked = questions.len() / 3;
+    if out.len() / 12 < asked {
+        return Answered::Short;
+    }
+    write(book, questions, out);
+    Answered::Answers(asked)
 }
