@@ -525,14 +525,14 @@ fn deadline_words(deal: SeenDeal) -> [u64; 12]
     words_one(negotiation.deadline)
 }
 
-fn status_words(deal: SeenDeal, now: u64) -> [u64; 12]
-    ensures { λ r. ⌜ r ≡ twelve (0, standing deal now ∷ []) ⌝ }
+fn status_words(deal: SeenDeal, time: u64) -> [u64; 12]
+    ensures { λ r. ⌜ r ≡ twelve (0, standing deal time ∷ []) ⌝ }
 {
     let row = deal.row;
     let offer = row.offer;
     let status = offer.status;
     let negotiation = row.negotiation;
-    let n = negotiation.status(status == terms::PENDING, now);
+    let n = negotiation.status(status == terms::PENDING, time);
     words_one(n as u64)
 }
 
@@ -563,7 +563,7 @@ fn answer(
 ) -> [u64; 12]
     ensures { λ r. ⌜ Replies code id time deal account totals settings count r ⌝ }
 {
-    let seats = settings.seats;
+    let configured = settings.seats;
     let threshold = settings.threshold;
     match code {
         1 => offer_words(id, deal),
@@ -575,7 +575,7 @@ fn answer(
         7 => due_words(deal, time),
         8 => words_one(count as u64),
         9 => words_one(settings.window),
-        10 => words_one(seats as u64),
+        10 => words_one(configured as u64),
         11 => words_one(threshold as u64),
         12 => words_one(flag(settings.paused)),
         13 => totals_words(totals),
@@ -614,7 +614,16 @@ fn write(book: Book, questions: &[u64], out: &mut [u64])
         let account_place = account_spot.at;
         let purse = accounts.rows[account_place];
         let account = SeenAccount::at(account_spot.here, purse);
-        let words = answer(code, id, time, deal, account, totals, settings, offers.count);
+        let words = answer(
+            code,
+            id,
+            time,
+            deal,
+            account,
+            totals,
+            settings,
+            offers.count,
+        );
         lists::put(&mut *out, 12 * i, &words);
         i += 1;
     }
