@@ -532,7 +532,8 @@ fn status_words(deal: SeenDeal, now: u64) -> [u64; 12]
     let offer = row.offer;
     let status = offer.status;
     let negotiation = row.negotiation;
-    let n = negotiation.status(status == terms::PENDING, now);
+    let pending = status == terms::PENDING;
+    let n = negotiation.status(pending, now);
     words_one(n as u64)
 }
 
@@ -563,8 +564,8 @@ fn answer(
 ) -> [u64; 12]
     ensures { λ r. ⌜ Replies code id time deal account totals settings count r ⌝ }
 {
-    let seats = settings.seats;
-    let threshold = settings.threshold;
+    let signers = settings.seats;
+    let needed = settings.threshold;
     match code {
         1 => offer_words(id, deal),
         2 => account_words(account),
@@ -575,8 +576,8 @@ fn answer(
         7 => due_words(deal, time),
         8 => words_one(count as u64),
         9 => words_one(settings.window),
-        10 => words_one(seats as u64),
-        11 => words_one(threshold as u64),
+        10 => words_one(signers as u64),
+        11 => words_one(needed as u64),
         12 => words_one(flag(settings.paused)),
         13 => totals_words(totals),
         _ => words_none(refusal::INVALID_INPUT),
@@ -614,7 +615,16 @@ fn write(book: Book, questions: &[u64], out: &mut [u64])
         let account_place = account_spot.at;
         let purse = accounts.rows[account_place];
         let account = SeenAccount::at(account_spot.here, purse);
-        let words = answer(code, id, time, deal, account, totals, settings, offers.count);
+        let words = answer(
+            code,
+            id,
+            time,
+            deal,
+            account,
+            totals,
+            settings,
+            offers.count,
+        );
         lists::put(&mut *out, 12 * i, &words);
         i += 1;
     }
