@@ -594,13 +594,14 @@ fn write(book: Book, questions: &[u64], out: &mut [u64])
     let accounts = book.accounts;
     let totals = book.totals;
     let settings = book.settings;
+    let count = offers.count;
     let asked = questions.len() / 3;
     let mut i: usize = 0;
     while i < asked {
         let code = questions[3 * i];
         let id = questions[3 * i + 1];
         let time = questions[3 * i + 2];
-        let offer_spot = table::spot_by(&offers.ids, offers.count, Named::Id(id));
+        let offer_spot = table::spot_by(&offers.ids, count, Named::Id(id));
         let offer_place = offer_spot.at;
         let offer = offers.rows[offer_place];
         let negotiation = offers.negotiations[offer_place];
@@ -613,18 +614,9 @@ fn write(book: Book, questions: &[u64], out: &mut [u64])
         let deal = SeenDeal::at(offer_spot.here, row);
         let account_spot = table::spot_by(&accounts.ids, accounts.count, Named::Id(id));
         let account_place = account_spot.at;
-        let purse = accounts.rows[account_place];
-        let account = SeenAccount::at(account_spot.here, purse);
-        let words = answer(
-            code,
-            id,
-            time,
-            deal,
-            account,
-            totals,
-            settings,
-            offers.count,
-        );
+        let account_row = accounts.rows[account_place];
+        let account = SeenAccount::at(account_spot.here, account_row);
+        let words = answer(code, id, time, deal, account, totals, settings, count);
         lists::put(&mut *out, 12 * i, &words);
         i += 1;
     }
