@@ -9,7 +9,6 @@ use Rattle.refusal.specs.ChoiceLaws.{pick-off}
 use Rattle.refusal.specs.Refusal.{number, invalidInput, bookUnsound}
 use Rattle.refusal.specs.Rule.{Rule, sure, answered}
 use Rattle.refusal.specs.RuleLaws.{refuses, goes-on, does}
-use Rattle.lists.specs.Listing.{Reply}
 use Rattle.rules.specs.Model.{Model}
 use Rattle.book.specs.declared.Book.{Book}
 use Rattle.book.specs.Stored.{modelOf, bookTest}

@@ -525,14 +525,15 @@ fn deadline_words(deal: SeenDeal) -> [u64; 12]
     words_one(negotiation.deadline)
 }
 
-fn status_words(deal: SeenDeal, time: u64) -> [u64; 12]
-    ensures { λ r. ⌜ r ≡ twelve (0, standing deal time ∷ []) ⌝ }
+fn status_words(deal: SeenDeal, now: u64) -> [u64; 12]
+    ensures { λ r. ⌜ r ≡ twelve (0, standing deal now ∷ []) ⌝ }
 {
     let row = deal.row;
     let offer = row.offer;
     let status = offer.status;
     let negotiation = row.negotiation;
-    let n = negotiation.status(status == terms::PENDING, time);
+    let pending = status == terms::PENDING;
+    let n = negotiation.status(pending, now);
     words_one(n as u64)
 }
 
@@ -563,8 +564,8 @@ fn answer(
 ) -> [u64; 12]
     ensures { λ r. ⌜ Replies code id time deal account totals settings count r ⌝ }
 {
-    let configured = settings.seats;
-    let threshold = settings.threshold;
+    let signers = settings.seats;
+    let needed = settings.threshold;
     match code {
         1 => offer_words(id, deal),
         2 => account_words(account),
@@ -575,8 +576,8 @@ fn answer(
         7 => due_words(deal, time),
         8 => words_one(count as u64),
         9 => words_one(settings.window),
-        10 => words_one(configured as u64),
-        11 => words_one(threshold as u64),
+        10 => words_one(signers as u64),
+        11 => words_one(needed as u64),
         12 => words_one(flag(settings.paused)),
         13 => totals_words(totals),
         _ => words_none(refusal::INVALID_INPUT),
@@ -593,13 +594,14 @@ fn write(book: Book, questions: &[u64], out: &mut [u64])
     let accounts = book.accounts;
     let totals = book.totals;
     let settings = book.settings;
+    let count = offers.count;
     let asked = questions.len() / 3;
     let mut i: usize = 0;
     while i < asked {
         let code = questions[3 * i];
         let id = questions[3 * i + 1];
         let time = questions[3 * i + 2];
-        let offer_spot = table::spot_by(&offers.ids, offers.count, Named::Id(id));
+        let offer_spot = table::spot_by(&offers.ids, count, Named::Id(id));
         let offer_place = offer_spot.at;
         let offer = offers.rows[offer_place];
         let negotiation = offers.negotiations[offer_place];
@@ -612,18 +614,9 @@ fn write(book: Book, questions: &[u64], out: &mut [u64])
         let deal = SeenDeal::at(offer_spot.here, row);
         let account_spot = table::spot_by(&accounts.ids, accounts.count, Named::Id(id));
         let account_place = account_spot.at;
-        let purse = accounts.rows[account_place];
-        let account = SeenAccount::at(account_spot.here, purse);
-        let words = answer(
-            code,
-            id,
-            time,
-            deal,
-            account,
-            totals,
-            settings,
-            offers.count,
-        );
+        let account_row = accounts.rows[account_place];
+        let account = SeenAccount::at(account_spot.here, account_row);
+        let words = answer(code, id, time, deal, account, totals, settings, count);
         lists::put(&mut *out, 12 * i, &words);
         i += 1;
     }

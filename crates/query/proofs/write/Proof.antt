@@ -1,6 +1,6 @@
-use Prim.Native.Nat.{ℕ, _+_, _*_, _/_, _-_, _<_}
+use Prim.Native.Nat.{ℕ, _+_, _*_, _-_, _<_}
 use native.Mathlib.Omega.{arith}
-use mathlib.Core.Path.{_≡_, refl, sym, ap, _∙_}
+use mathlib.Core.Path.{refl, sym, ap, _∙_}
 use mathlib.Core.List.{[]}
 use lib.ListN.{length, getD}
 use borrow.Author.Needs.{needs}
@@ -19,10 +19,10 @@ use Rattle.query.proofs.write.Tie as tie
 
 -- whatever the invoices are: no question is about one
 abbrev Inv-loop : tie.InvT-loop
-Inv-loop questions out₀ offers accounts totals settings asked i₀ out i = (k : Table Invoice) → Replied questions (modelBy accounts k offers totals settings) out₀ i out
+Inv-loop questions out₀ offers accounts totals settings count asked i₀ out i = (k : Table Invoice) → Replied questions (modelBy accounts k offers totals settings) out₀ i out
 
 abbrev μ-loop : tie.MeasureT-loop
-μ-loop questions out₀ offers accounts totals settings asked i₀ out i = asked - i
+μ-loop questions out₀ offers accounts totals settings count asked i₀ out i = asked - i
 
 abbrev St : Type 0
 St = tie.Start Inv-loop μ-loop
@@ -67,11 +67,11 @@ mul-schedule c = omega (arith, below-o (c .before .before))
 element-copy-out-schedule : tie.Need-element-copy-out-schedule Inv-loop μ-loop
 element-copy-out-schedule c = omega (arith, below-o (c .before .before))
 
-mul-purse : tie.Need-mul-purse Inv-loop μ-loop
-mul-purse c = omega (arith, below-a c)
+mul-account-row : tie.Need-mul-account-row Inv-loop μ-loop
+mul-account-row c = omega (arith, below-a c)
 
-element-copy-out-purse : tie.Need-element-copy-out-purse Inv-loop μ-loop
-element-copy-out-purse c = omega (arith, below-a c)
+element-copy-out-account-row : tie.Need-element-copy-out-account-row Inv-loop μ-loop
+element-copy-out-account-row c = omega (arith, below-a c)
 
 mul-put : tie.Need-mul-put Inv-loop μ-loop
 mul-put c =
@@ -130,8 +130,8 @@ write-spec =
     element-copy-out-schedule
     (λ c κs. search needs)
     (λ c κs. search needs)
-    mul-purse
-    element-copy-out-purse
+    mul-account-row
+    element-copy-out-account-row
     (λ c κs. search needs)
     (λ c κs. search needs)
     mul-put
