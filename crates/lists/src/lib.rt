@@ -10,9 +10,6 @@ ghost use Rattle.lists.specs.Wanted.{paged, wants, known};
 ghost use Rattle.lists.specs.Listing.{offersOf, InUse, numbersOf, inOrder, listing, filled, listRule, listedSays, told};
 ghost use Rattle.lists.specs.Active.{activeIn, activeOf, InRange};
 
-// How many numbers an offer is.
-pub const NUMBERS: usize = 10;
-
 // The offers alone, without their negotiations and schedules.
 pub struct OfferRows {
     pub ids: [u64; 64],
@@ -131,12 +128,13 @@ impl Wanted {
     }
 }
 
-fn put(out: &mut [u64], at: usize, numbers: [u64; 10])
-    requires { ⌜ at + 10 ≤ length (now out) ⌝ }
-    ensures { λ _. ⌜ now (out .exit) ≡ placed at numbers (now (out .entry)) ⌝ }
+// Numbers over the buffer from a place on.
+pub fn put(out: &mut [u64], at: usize, numbers: &[u64])
+    requires { ⌜ at + length (now numbers) ≤ length (now out) ⌝ }
+    ensures { λ _. ⌜ now (out .exit) ≡ placed at (now (numbers .entry)) (now (out .entry)) ⌝ }
 {
     let mut j: usize = 0;
-    while j < NUMBERS {
+    while j < numbers.len() {
         out[at + j] = numbers[j];
         j += 1;
     }
@@ -197,7 +195,7 @@ impl OfferRows {
                 let id = self.ids[i];
                 let o = OfferNumbers::of(id, row);
                 let numbers = o.in_order();
-                put(&mut *out, 10 * n, numbers);
+                put(&mut *out, 10 * n, &numbers);
                 n += 1;
             }
             i += 1;

@@ -3,3 +3,6 @@ pub mod Reads
 pub mod Says
 pub mod Answers
 pub mod Held
+pub mod Questions
+pub mod QuestionLaws
+pub mod Asking

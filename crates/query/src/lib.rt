@@ -1,5 +1,6 @@
 // What can be asked of a book. Every query tests the book first and leaves it as it is.
 use account::Account;
+use account::SeenAccount;
 use book::Book;
 use lists::Listed;
 use lists::OfferNumbers;
@@ -7,19 +8,27 @@ use lists::OfferRows;
 use lists::Wanted;
 use negotiation::Negotiation;
 use offer::Deal;
+use offer::SeenDeal;
+use settings::Settings;
 use shelves::Offers;
 use table::Named;
 use terms::DueAnswer;
 use terms::Schedule;
 use totals::Totals;
 ghost use mathlib.Core.Path.{_≡_};
+ghost use mathlib.Core.List.{[], _∷_};
+ghost use Prim.Native.Nat.{_*_, _≤_};
+ghost use lib.ListN.{length};
 ghost use Rattle.refusal.specs.Rule.{answered};
 ghost use Rattle.negotiation.specs.Rounds.{noNegotiation};
-ghost use Rattle.lists.specs.Listing.{listedSays};
+ghost use Rattle.book.specs.Stored.{modelOf, Shelved};
+ghost use Rattle.lists.specs.Listing.{listedSays, inOrder};
+ghost use Rattle.offer.specs.Rules.{standing};
 ghost use Rattle.lists.specs.declared.Wanted.the-variants.{Invoice, Lender, Status, PendingOf, All, Page};
 ghost use Rattle.query.specs.Numbers.{offersOnly, scheduleNumbers, lenderNumbers, totalsNumbers, dueIn, flag};
-ghost use Rattle.query.specs.Reads.{listRead, asked, onSound, offerRead, scheduleRead, negotiationRead, deadlineRead, statusRead, dueRead, lenderRead, activeRead, countRead, totalsRead, windowRead, seatsRead, thresholdRead, pauseRead};
+ghost use Rattle.query.specs.Reads.{reply, listRead, asked, onSound, offerRead, scheduleRead, negotiationRead, deadlineRead, statusRead, dueRead, lenderRead, activeRead, countRead, totalsRead, windowRead, seatsRead, thresholdRead, pauseRead, lenderOrder, totalsOrder, scheduleValues};
 ghost use Rattle.query.specs.Says.{numberTold, numberSays, offerSays, scheduleSays, lenderSays, totalsSays, negotiationTold};
+ghost use Rattle.query.specs.Questions.{twelve, purseOrder, offerRule, Replies, threes, replied, answersRead, answeredSays};
 
 // The book's totals.
 pub struct TotalsNumbers {
@@ -70,6 +79,13 @@ pub struct LenderNumbers {
 
 pub enum LenderAnswer {
     Lender(LenderNumbers),
+    Unsound,
+}
+
+// How many questions were answered, or why none was.
+pub enum Answered {
+    Answers(usize),
+    Short,
     Unsound,
 }
 
@@ -417,4 +433,206 @@ pub fn contract_is_paused(book: Book) -> NumberAnswer
     let settings = book.settings;
     let paused = settings.paused;
     told(book.sound(), flag(paused))
+}
+
+// ── Many questions ──
+
+fn words_none(number: u64) -> [u64; 12]
+    ensures { λ r. ⌜ r ≡ twelve (number, []) ⌝ }
+{
+    [number, 0, 0, 0, 0, 0, 0, 0, 0, 0, 0, 0]
+}
+
+fn words_one(value: u64) -> [u64; 12]
+    ensures { λ r. ⌜ r ≡ twelve (0, value ∷ []) ⌝ }
+{
+    [0, 1, value, 0, 0, 0, 0, 0, 0, 0, 0, 0]
+}
+
+fn words_four(a: u64, b: u64, c: u64, d: u64) -> [u64; 12]
+    ensures { λ r. ⌜ r ≡ twelve (0, a ∷ b ∷ c ∷ d ∷ []) ⌝ }
+{
+    [0, 4, a, b, c, d, 0, 0, 0, 0, 0, 0]
+}
+
+fn words_ten(n: OfferNumbers) -> [u64; 12]
+    ensures { λ r. ⌜ r ≡ twelve (0, inOrder n) ⌝ }
+{
+    [
+        0,
+        10,
+        n.id,
+        n.invoice,
+        n.lender,
+        n.amount,
+        n.rate,
+        n.duration,
+        n.expires,
+        n.status,
+        n.funded,
+        n.repaid,
+    ]
+}
+
+fn offer_words(id: u64, deal: SeenDeal) -> [u64; 12]
+    ensures { λ r. ⌜ r ≡ twelve (answered reply [] (offerRule id deal)) ⌝ }
+{
+    if !deal.here {
+        return words_none(refusal::NOT_FOUND);
+    }
+    let row = deal.row;
+    let offer = row.offer;
+    words_ten(OfferNumbers::of(id, offer))
+}
+
+fn account_words(account: SeenAccount) -> [u64; 12]
+    ensures { λ r. ⌜ r ≡ twelve (0, purseOrder (account .row)) ⌝ }
+{
+    let row = account.row;
+    let purse = row.purse;
+    let balance = money::bits(purse.balance);
+    let allowance = money::bits(purse.allowance);
+    let offered = money::bits(purse.offered);
+    let accepted = money::bits(purse.accepted);
+    words_four(balance, allowance, offered, accepted)
+}
+
+fn lender_words(account: SeenAccount) -> [u64; 12]
+    ensures { λ r. ⌜ r ≡ twelve (0, lenderOrder (lenderNumbers (account .row))) ⌝ }
+{
+    let row = account.row;
+    let n = LenderNumbers::of(row);
+    words_four(n.offered, n.accepted, n.pending, n.repaid)
+}
+
+fn schedule_words(deal: SeenDeal) -> [u64; 12]
+    ensures { λ r. ⌜ r ≡ twelve (0, scheduleValues (deal .row .schedule)) ⌝ }
+{
+    let row = deal.row;
+    let schedule = row.schedule;
+    if terms::schedule_zero(schedule) {
+        return words_none(0);
+    }
+    let n = ScheduleNumbers::of(schedule);
+    words_four(n.count, n.code, n.installment, n.first)
+}
+
+fn deadline_words(deal: SeenDeal) -> [u64; 12]
+    ensures { λ r. ⌜ r ≡ twelve (0, deal .row .negotiation .deadline ∷ []) ⌝ }
+{
+    let row = deal.row;
+    let negotiation = row.negotiation;
+    words_one(negotiation.deadline)
+}
+
+fn status_words(deal: SeenDeal, now: u64) -> [u64; 12]
+    ensures { λ r. ⌜ r ≡ twelve (0, standing deal now ∷ []) ⌝ }
+{
+    let row = deal.row;
+    let offer = row.offer;
+    let status = offer.status;
+    let negotiation = row.negotiation;
+    let pending = status == terms::PENDING;
+    let n = negotiation.status(pending, now);
+    words_one(n as u64)
+}
+
+fn due_words(deal: SeenDeal, now: u64) -> [u64; 12]
+    ensures { λ r. ⌜ r ≡ twelve (0, dueIn (deal .row) now ∷ []) ⌝ }
+{
+    let row = deal.row;
+    words_one(due(row, now))
+}
+
+fn totals_words(totals: Totals) -> [u64; 12]
+    ensures { λ r. ⌜ r ≡ twelve (0, totalsOrder (totalsNumbers totals)) ⌝ }
+{
+    let n = TotalsNumbers::of(totals);
+    words_four(n.offers, n.financed, n.repaid, n.fees)
+}
+
+// The answer to one question, of what was seen for it.
+fn answer(
+    code: u64,
+    id: u64,
+    time: u64,
+    deal: SeenDeal,
+    account: SeenAccount,
+    totals: Totals,
+    settings: Settings,
+    count: usize,
+) -> [u64; 12]
+    ensures { λ r. ⌜ Replies code id time deal account totals settings count r ⌝ }
+{
+    let signers = settings.seats;
+    let needed = settings.threshold;
+    match code {
+        1 => offer_words(id, deal),
+        2 => account_words(account),
+        3 => lender_words(account),
+        4 => schedule_words(deal),
+        5 => deadline_words(deal),
+        6 => status_words(deal, time),
+        7 => due_words(deal, time),
+        8 => words_one(count as u64),
+        9 => words_one(settings.window),
+        10 => words_one(signers as u64),
+        11 => words_one(needed as u64),
+        12 => words_one(flag(settings.paused)),
+        13 => totals_words(totals),
+        _ => words_none(refusal::INVALID_INPUT),
+    }
+}
+
+// Twelve words for each question, from the start of the buffer on. The tables are locals: rows are read where they stand.
+fn write(book: Book, questions: &[u64], out: &mut [u64])
+    requires shelved { ⌜ Shelved book ⌝ }
+    requires room { ⌜ 12 * length (threes (now questions)) ≤ length (now out) ⌝ }
+    ensures { λ _. ⌜ now (out .exit) ≡ replied (threes (now (questions .entry))) (modelOf book) (now (out .entry)) ⌝ }
+{
+    let offers = book.offers;
+    let accounts = book.accounts;
+    let totals = book.totals;
+    let settings = book.settings;
+    let count = offers.count;
+    let asked = questions.len() / 3;
+    let mut i: usize = 0;
+    while i < asked {
+        let code = questions[3 * i];
+        let id = questions[3 * i + 1];
+        let time = questions[3 * i + 2];
+        let offer_spot = table::spot_by(&offers.ids, count, Named::Id(id));
+        let offer_place = offer_spot.at;
+        let offer = offers.rows[offer_place];
+        let negotiation = offers.negotiations[offer_place];
+        let schedule = offers.schedules[offer_place];
+        let row = Deal {
+            offer,
+            negotiation,
+            schedule,
+        };
+        let deal = SeenDeal::at(offer_spot.here, row);
+        let account_spot = table::spot_by(&accounts.ids, accounts.count, Named::Id(id));
+        let account_place = account_spot.at;
+        let account_row = accounts.rows[account_place];
+        let account = SeenAccount::at(account_spot.here, account_row);
+        let words = answer(code, id, time, deal, account, totals, settings, count);
+        lists::put(&mut *out, 12 * i, &words);
+        i += 1;
+    }
+}
+
+// Lookups by the thousand: the book is tested once, and each answer is the one that the single query gives.
+pub fn answers(book: Book, questions: &[u64], out: &mut [u64]) -> Answered
+    ensures { λ r. ⌜ (answeredSays r, now (out .exit)) ≡ answersRead book (now (questions .entry)) (now (out .entry)) ⌝ }
+{
+    if !book.sound() {
+        return Answered::Unsound;
+    }
+    let asked = questions.len() / 3;
+    if out.len() / 12 < asked {
+        return Answered::Short;
+    }
+    write(book, questions, out);
+    Answered::Answers(asked)
 }

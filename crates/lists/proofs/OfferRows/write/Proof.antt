@@ -3,6 +3,7 @@ use native.Mathlib.Omega.{arith}
 use mathlib.Core.Path.{refl, sym, ap, _∙_}
 use mathlib.Core.Logic.{⊎-elim}
 use mathlib.Core.List.{List}
+use lib.ListN.{length}
 use borrow.Author.Needs.{needs}
 use Rattle.refusal.specs.Placed.{placed}
 use Rattle.lists.specs.Pick.{walk-few}
@@ -23,14 +24,18 @@ mul-put c = omega (arith, walk-few (c .before .before .before .before .before .b
 
 put-requires : tie.Need-put-requires Inv-loop μ-loop
 put-requires c κs =
-    let u = c .before .before .before .before .before .before .before .before .before .in-use .ensures in
-    let l = c .before .before .before .before .before .before .before .before .loop in
-    let h = c .before .before .before .before .before .before .before .loop-test .taken in
-    let s = c .before .before .before .before .before .before .before .before .before .before .before in
-    write-room (l .inv) 10 (λ a. refl) (s .pre) none (inside u (l .i) h) (asked u (l .i) h (s .args .w) _ _ (c .before .before .before .before .before .takes .ensures) (c .before .before .before .before .if1 .taken))
+    let u = c .before .before .before .before .before .before .before .before .before .before .in-use .ensures in
+    let l = c .before .before .before .before .before .before .before .before .before .loop in
+    let h = c .before .before .before .before .before .before .before .before .loop-test .taken in
+    let s = c .before .before .before .before .before .before .before .before .before .before .before .before in
+    omega (
+      arith,
+      write-room (l .inv) 10 (λ a. refl) (s .pre) none (inside u (l .i) h) (asked u (l .i) h (s .args .w) _ _ (c .before .before .before .before .before .before .takes .ensures) (c .before .before .before .before .before .if1 .taken)),
+      ap length (c .before .before .in-order .ensures),
+    )
 
 add-n : tie.Need-add-n Inv-loop μ-loop
-add-n c = omega (arith, walk-few (c .before .before .before .before .before .before .before .before .before .before .before .loop .inv .walked))
+add-n c = omega (arith, walk-few (c .before .before .before .before .before .before .before .before .before .before .before .before .loop .inv .walked))
 
 loop-again : tie.Need-loop-again Inv-loop μ-loop
 loop-again c =
@@ -40,9 +45,9 @@ loop-again c =
     let s = c .before .before .before .before .before .before .before in
     let e = asked u (l .i) h (s .args .w) in
     ⊎-elim
-    (λ x. rw (x .8, x .9)
+    (λ x. rw (x .9, x .10)
     (write-on (l .inv) 10 (λ a. refl) (s .pre) none (inside u (l .i) h) (e _ _ (c .before .takes .ensures) (x .0 .taken)) _
-    (x .5 .ensures ∙ ap (λ (z : List ℕ). placed (10 * l .n) z (l .out)) (x .3 .ensures ∙ ap inOrder (x .2 .ensures) ∙ ap tenOf (sym (entry u (l .i) h))))))
+    (x .6 .ensures ∙ ap (λ (z : List ℕ). placed (10 * l .n) z (l .out)) (x .3 .ensures ∙ ap inOrder (x .2 .ensures) ∙ ap tenOf (sym (entry u (l .i) h))))))
     (λ x. rw (x .1, x .2) (write-off (l .inv) 10 (λ a. refl) (s .pre) none (inside u (l .i) h) (e _ _ (c .before .takes .ensures) (x .0 .left))))
     (c .if1 .came)
 
@@ -69,6 +74,7 @@ write-spec =
     (λ c κs. search needs)
     (λ c κs. search needs)
     mul-put
+    (λ c. search needs)
     put-requires
     add-n
     (λ c. search needs)
