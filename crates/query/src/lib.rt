@@ -82,13 +82,6 @@ pub enum LenderAnswer {
     Unsound,
 }
 
-// How many questions were answered, or why none was.
-pub enum Answered {
-    Answers(usize),
-    Short,
-    Unsound,
-}
-
 // The answer's number, and the negotiation, which has no rounds and deadline 0 where there is none.
 pub struct NegotiationAnswer {
     pub answer: u64,
@@ -620,6 +613,13 @@ fn write(book: Book, questions: &[u64], out: &mut [u64])
         lists::put(&mut *out, 12 * i, &words);
         i += 1;
     }
+}
+
+// How many questions were answered, or why none was.
+pub enum Answered {
+    Answers(usize),
+    Short,
+    Unsound,
 }
 
 // Lookups by the thousand: the book is tested once, and each answer is the one that the single query gives.

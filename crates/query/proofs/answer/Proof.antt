@@ -77,27 +77,78 @@ returns-13 c m s = value 13 (c .before .before) m (totalsOrder (totalsNumbers (c
 returns-14 : tie.Need-returns-14
 returns-14 c m s = by-none (c .before .before .args .code) (c .before .before .args .id) (c .before .before .args .time) m (c .before .match .rest) (c .words-none .ensures)
 
+offer-words-requires : tie.Need-offer-words-requires
+offer-words-requires c κs = search needs
+
+account-words-requires : tie.Need-account-words-requires
+account-words-requires c κs = search needs
+
+lender-words-requires : tie.Need-lender-words-requires
+lender-words-requires c κs = search needs
+
+schedule-words-requires : tie.Need-schedule-words-requires
+schedule-words-requires c κs = search needs
+
+deadline-words-requires : tie.Need-deadline-words-requires
+deadline-words-requires c κs = search needs
+
+status-words-requires : tie.Need-status-words-requires
+status-words-requires c κs = search needs
+
+due-words-requires : tie.Need-due-words-requires
+due-words-requires c κs = search needs
+
+words-one-requires : tie.Need-words-one-requires
+words-one-requires c κs = search needs
+
+words-one-requires-2 : tie.Need-words-one-requires-2
+words-one-requires-2 c κs = search needs
+
+cast-words-one : tie.Need-cast-words-one
+cast-words-one c = search needs
+
+words-one-requires-3 : tie.Need-words-one-requires-3
+words-one-requires-3 c κs = search needs
+
+cast-words-one-2 : tie.Need-cast-words-one-2
+cast-words-one-2 c = search needs
+
+words-one-requires-4 : tie.Need-words-one-requires-4
+words-one-requires-4 c κs = search needs
+
+flag-requires : tie.Need-flag-requires
+flag-requires c κs = search needs
+
+words-one-requires-5 : tie.Need-words-one-requires-5
+words-one-requires-5 c κs = search needs
+
+totals-words-requires : tie.Need-totals-words-requires
+totals-words-requires c κs = search needs
+
+words-none-requires : tie.Need-words-none-requires
+words-none-requires c κs = search needs
+
 pub answer-spec : {M : Type 1} → statement M
 answer-spec =
     tie.close
     (tie.spec
-    (λ c κs. search needs)
-    (λ c κs. search needs)
-    (λ c κs. search needs)
-    (λ c κs. search needs)
-    (λ c κs. search needs)
-    (λ c κs. search needs)
-    (λ c κs. search needs)
-    (λ c κs. search needs)
-    (λ c κs. search needs)
-    (λ c. search needs)
-    (λ c κs. search needs)
-    (λ c. search needs)
-    (λ c κs. search needs)
-    (λ c κs. search needs)
-    (λ c κs. search needs)
-    (λ c κs. search needs)
-    (λ c κs. search needs)
+    offer-words-requires
+    account-words-requires
+    lender-words-requires
+    schedule-words-requires
+    deadline-words-requires
+    status-words-requires
+    due-words-requires
+    words-one-requires
+    words-one-requires-2
+    cast-words-one
+    words-one-requires-3
+    cast-words-one-2
+    words-one-requires-4
+    flag-requires
+    words-one-requires-5
+    totals-words-requires
+    words-none-requires
     returns
     returns-2
     returns-3

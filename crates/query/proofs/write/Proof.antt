@@ -103,6 +103,39 @@ same-length c = reply-length (c .before .loop .inv (invoicesOf (c .before .befor
 returns : tie.Need-returns Inv-loop μ-loop
 returns c = reply-done (c .before .loop .inv (invoicesOf (c .before .before .before .before .before .before .before .before .args .book .invoices))) (c .before .before .before .before .before .before .before .before .pre .1) (c .loop-test .left)
 
+mul-code : tie.Need-mul-code Inv-loop μ-loop
+mul-code c = search needs
+
+mul-code-2 : tie.Need-mul-code-2 Inv-loop μ-loop
+mul-code-2 c = search needs
+
+shared-slice-read-code : tie.Need-shared-slice-read-code Inv-loop μ-loop
+shared-slice-read-code c = search needs
+
+mul-id : tie.Need-mul-id Inv-loop μ-loop
+mul-id c = search needs
+
+add-id : tie.Need-add-id Inv-loop μ-loop
+add-id c = search needs
+
+mul-id-2 : tie.Need-mul-id-2 Inv-loop μ-loop
+mul-id-2 c = search needs
+
+shared-slice-read-id : tie.Need-shared-slice-read-id Inv-loop μ-loop
+shared-slice-read-id c = search needs
+
+mul-time : tie.Need-mul-time Inv-loop μ-loop
+mul-time c = search needs
+
+add-time : tie.Need-add-time Inv-loop μ-loop
+add-time c = search needs
+
+mul-time-2 : tie.Need-mul-time-2 Inv-loop μ-loop
+mul-time-2 c = search needs
+
+shared-slice-read-time : tie.Need-shared-slice-read-time Inv-loop μ-loop
+shared-slice-read-time c = search needs
+
 pub write-spec : {M : Type 1} → statement M
 write-spec =
     tie.close
@@ -110,17 +143,17 @@ write-spec =
     Inv-loop
     μ-loop
     (λ c k. reply-start _ _ _)
-    (λ c. search needs)
-    (λ c. search needs)
-    (λ c. search needs)
-    (λ c. search needs)
-    (λ c. search needs)
-    (λ c. search needs)
-    (λ c. search needs)
-    (λ c. search needs)
-    (λ c. search needs)
-    (λ c. search needs)
-    (λ c. search needs)
+    mul-code
+    mul-code-2
+    shared-slice-read-code
+    mul-id
+    add-id
+    mul-id-2
+    shared-slice-read-id
+    mul-time
+    add-time
+    mul-time-2
+    shared-slice-read-time
     (λ c κs. search needs)
     mul-offer
     element-copy-out-offer
