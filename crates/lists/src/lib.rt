@@ -155,7 +155,7 @@ pub fn active(o: Offer, lender: u64) -> u64
 
 impl OfferRows {
     // The number of rows in use; the arrays hold no more than they have room for.
-    fn in_use(self) -> usize
+    pub fn in_use(self) -> usize
         ensures { λ r. ⌜ InUse self r ⌝ }
     {
         let count = self.count;
@@ -165,7 +165,8 @@ impl OfferRows {
         table::ROOM
     }
 
-    fn count_of(self, w: Wanted) -> usize
+    // How many offers are asked for.
+    pub fn count_of(self, w: Wanted) -> usize
         ensures counted { λ r. ⌜ r ≡ length (listing w (offersOf self)) ⌝ }
         ensures few { λ r. ⌜ r ≤ 64 ⌝ }
     {

@@ -1,0 +1,2 @@
+// Questions, one a line, answered of a book.
+mod rows;
