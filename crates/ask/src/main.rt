@@ -202,7 +202,7 @@ fn warn(record: usize, at: usize) {
     say(b" is malformed (13); answers are from the book before it\n");
 }
 
-fn session(journal: &[u8]) {
+fn answer_from(journal: &[u8]) {
     let outcome = replay::replay(journal);
     let book = outcome.book;
     if outcome.number != 0 {
@@ -234,7 +234,7 @@ fn read_journal(path: &[u8]) {
         failed();
         return;
     }
-    session(&journal[..n]);
+    answer_from(&journal[..n]);
 }
 
 fn main() {

@@ -33,11 +33,11 @@ spaced-back : (f x : ℕ) (z : List ℕ) → x ≤ topOf f → Stop z → spaced
 unfolding spacedIn pick
 spaced-back f x z h s = numeral-back f x z h s
 
--- what follows a number begins with a space or ends the line
-stop-next : (fs xs r : List ℕ) → Stop (numeralsOf fs xs ++ (10 ∷ r))
+-- what follows a name or a number begins with a space or ends the line
+follows : (fs xs r : List ℕ) → Stop (numeralsOf fs xs ++ (10 ∷ r)) × (breaks (getD (numeralsOf fs xs ++ (10 ∷ r)) 0 0) ≡ true)
 unfolding numeralsOf
-stop-next [] xs r = refl
-stop-next (f ∷ fs) xs r = refl
+follows [] xs r = (refl, refl)
+follows (f ∷ fs) xs r = (refl, refl)
 
 past-spaced : (f x : ℕ) (z : List ℕ) → drop (length (numeralOf f x) + 1) ((space ++ numeralOf f x) ++ z) ≡ z
 past-spaced f x z =
@@ -52,18 +52,12 @@ read-back (f ∷ fs) [] r h = absurd h
 read-back (f ∷ fs) (x ∷ xs) r h =
     let w = space ++ numeralOf f x in
     let z = numeralsOf fs xs ++ (10 ∷ r) in
-    let a : spacedIn f (w ++ z) ≡ numeral x (length (numeralOf f x)) = spaced-back f x z (h .0) (stop-next fs xs r) in
+    let a : spacedIn f (w ++ z) ≡ numeral x (length (numeralOf f x)) = spaced-back f x z (h .0) (follows fs xs r .0) in
     let i = read-back fs xs r (h .1) in
     let n : length (numeralOf f x) + 1 + length (numeralsOf fs xs) ≡ length (w ++ numeralsOf fs xs) = omega (arith, length-append w (numeralsOf fs xs)) in
     rw (append-assoc w (numeralsOf fs xs) (10 ∷ r), a, past-spaced f x z, i) (pick-on _ _ refl ∙ ap (λ (k : ℕ). all-read (x ∷ xs) k) n)
 
 -- ---- the line
-
--- what follows a name
-break-next : (fs xs r : List ℕ) → breaks (getD (numeralsOf fs xs ++ (10 ∷ r)) 0 0) ≡ true
-unfolding numeralsOf
-break-next [] xs r = refl
-break-next (f ∷ fs) xs r = refl
 
 module _ (from past : ℕ) (x : ℕ × List ℕ) (found : Found from past (x .0)) (named : 0 < x .0) (range : Tops (fieldsFor (x .0)) (x .1)) where
   line-in : (r : List ℕ) (at : ℕ) → lineIn from past (wordOf (x .0) ++ (numeralsOf (fieldsFor (x .0)) (x .1) ++ (10 ∷ r))) at ≡ item x (at + (length (wordOf (x .0)) + length (numeralsOf (fieldsFor (x .0)) (x .1)) + 1))
@@ -76,7 +70,7 @@ module _ (from past : ℕ) (x : ℕ × List ℕ) (found : Found from past (x .0)
       let n : numbersThere t u at ≡ all-read (x .1) (length m) = ap (readIn (fieldsFor t)) (drop-append-seam w (m ++ (10 ∷ r))) ∙ read-back (fieldsFor t) (x .1) r range in
       let z : getD u (length w + length m) 0 ≡ 10 = getD-append-add w (m ++ (10 ∷ r)) (length m) 0 ∙ getD-append-seam m 10 r 0 in
       let q = lined t u at (λ k. omega arith) (ap (λ (y : Read). y .ok) n) (ap (λ (y : Read). getD u (length w + y .size) 0) n ∙ z) in
-      ap (λ (k : ℕ). lineBy k u at) (found (m ++ (10 ∷ r)) (break-next (fieldsFor t) (x .1) r)) ∙ sym q ∙ ap (λ (y : Read). item (t, y .values) (at + (length w + y .size + 1))) n
+      ap (λ (k : ℕ). lineBy k u at) (found (m ++ (10 ∷ r)) (follows (fieldsFor t) (x .1) r .1)) ∙ sym q ∙ ap (λ (y : Read). item (t, y .values) (at + (length w + y .size + 1))) n
 
   pub line-back : (p r : List ℕ) → lineAt from past (p ++ (lineOf x ++ r)) (length p) ≡ item x (length p + length (lineOf x))
   unfolding lineOf

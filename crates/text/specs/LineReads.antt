@@ -12,7 +12,7 @@ use Rattle.journal.specs.FieldLaws.{and-off}
 use Rattle.text.specs.Names.{wordOf}
 use Rattle.text.specs.Fields.{fieldsFor}
 use Rattle.text.specs.Walk.{item, fault}
-use Rattle.text.specs.Reading.{tagIn, Read, readIn, closed, lineBy, lineIn}
+use Rattle.text.specs.Reading.{tagIn, Read, readIn, lineBy, lineIn}
 
 module _ (k : ℕ) (t : List ℕ) (at : ℕ) where
   abbrev pub numbersThere : Read

@@ -18,7 +18,7 @@ use Rattle.text.specs.NameLaws.{command-word}
 use Rattle.text.specs.Fields.{fieldsFor}
 use Rattle.text.specs.Line.{numeralsOf, lineOf}
 use Rattle.text.specs.Walk.{Item, item, fault, end}
-use Rattle.text.specs.Reading.{leads, tagIn, Read, readIn, lineBy, lineIn, lineAt, commandAt}
+use Rattle.text.specs.Reading.{tagIn, Read, readIn, lineBy, lineIn, lineAt, commandAt}
 use Rattle.text.specs.ReadingLaws.{there, tag-among}
 use Rattle.text.specs.LineWalk.{onward}
 use Rattle.text.specs.Canonical.{leads-take, read-spelt}

@@ -104,6 +104,7 @@ lineIn from past t at = lineBy (tagIn from past t) t at
 unfoldable pub lineAt : ℕ → ℕ → List ℕ → ℕ → Item
 lineAt from past t at = pick (leb (length t) at) end (lineIn from past (drop at t) at)
 
+-- the tags of commands, and those of questions
 abbrev pub commandAt : List ℕ → ℕ → Item
 commandAt t at = lineAt 0x21 0x57 t at
 

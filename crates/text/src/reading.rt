@@ -3,7 +3,6 @@ use crate::fields;
 use crate::names;
 use crate::writing;
 ghost use mathlib.Core.Path.{_≡_};
-ghost use mathlib.Core.Bool.{_&&_};
 ghost use Prim.Native.Nat.{_+_, _≤_, _<_};
 ghost use lib.ListN.{length, getD, take, drop};
 ghost use Rattle.text.specs.Walk.{fault};
