@@ -61,7 +61,7 @@ fn asks_help(word: &[u8]) -> bool {
     check::same(word, b"--help") | check::same(word, b"-h")
 }
 
-// What was read of standard input and not yet answered, how many lines were answered, and whether to go on.
+// What was read of standard input and not yet answered, the number of the next line, and whether to go on.
 struct Session {
     waiting: [u8; 1024],
     size: usize,
@@ -87,6 +87,14 @@ fn line_end(s: &[u8]) -> usize
         return end + 1;
     }
     0
+}
+
+// The number after this one; the largest stays.
+fn counted(lines: u64) -> u64 {
+    if lines < u64::MAX {
+        return lines + 1;
+    }
+    lines
 }
 
 // What is left once n bytes are taken from the front.
@@ -135,45 +143,96 @@ fn answer(book: Book, line: &[u8], number: u64) -> bool
     show(r, &out, line, number)
 }
 
-// More of standard input. What stands there at its end without the end of a line is a line too.
-fn read_more(mut s: Session) -> Session {
-    let size = within(s.size);
-    let mut waiting = s.waiting;
-    let got = libc::read(0, &mut waiting[size..]);
-    let n = io::count(got, &waiting[size..]);
-    if n > 0 {
-        s.size = size + n;
-    } else if size > 0 {
-        if size < LINE {
-            waiting[size] = b'\n';
-        }
-        s.size = within(size + 1);
-    } else {
-        s.goes_on = false;
-    }
-    s.waiting = waiting;
-    s
+// What waits with more behind it, and how many bytes came.
+struct Filled {
+    waiting: [u8; 1024],
+    came: usize,
 }
 
-// The first line that waits is answered, or more is read.
-fn turn(book: Book, mut s: Session) -> Session
+fn fill(mut waiting: [u8; 1024], size: usize) -> Filled {
+    let from = within(size);
+    let got = libc::read(0, &mut waiting[from..]);
+    let came = io::count(got, &waiting);
+    Filled { waiting, came }
+}
+
+fn ended(mut waiting: [u8; 1024], size: usize) -> [u8; 1024] {
+    if size < LINE {
+        waiting[size] = b'\n';
+    }
+    waiting
+}
+
+// More of standard input. What stands there at its end without the end of a line is a line too.
+fn read_more(s: Session) -> Session {
+    let size = within(s.size);
+    let waiting = s.waiting;
+    let m = fill(waiting, size);
+    let came = within(m.came);
+    let filled = m.waiting;
+    if came > 0 {
+        return Session {
+            waiting: filled,
+            size: size + came,
+            lines: s.lines,
+            goes_on: true,
+        };
+    }
+    let last = ended(filled, size);
+    Session {
+        waiting: last,
+        size: size + 1,
+        lines: s.lines,
+        goes_on: size > 0,
+    }
+}
+
+// The length of the first line that waits; 0 where more is to be read for it. One without an end that fills all places is a line too.
+fn first_line(waiting: [u8; 1024], size: usize) -> usize {
+    let n = within(size);
+    let end = line_end(&waiting[..n]);
+    if end > 0 {
+        return end;
+    }
+    if n < LINE {
+        return 0;
+    }
+    LINE
+}
+
+fn answer_first(book: Book, waiting: [u8; 1024], end: usize, number: u64) -> bool
     requires shelved { ⌜ Shelved book ⌝ }
     requires tested { ⌜ bookTest book ≡ true ⌝ }
 {
-    let size = within(s.size);
+    let n = within(end);
+    answer(book, &waiting[..n], number)
+}
+
+fn less(size: usize, end: usize) -> usize {
+    if end < size {
+        return size - end;
+    }
+    0
+}
+
+// The first line that waits is answered, or more is read.
+fn turn(book: Book, s: Session) -> Session
+    requires shelved { ⌜ Shelved book ⌝ }
+    requires tested { ⌜ bookTest book ≡ true ⌝ }
+{
     let waiting = s.waiting;
-    let mut end = line_end(&waiting[..size]);
-    if (end == 0) & (size < LINE) {
+    let end = first_line(waiting, s.size);
+    if end == 0 {
         return read_more(s);
     }
-    if end == 0 {
-        end = size;
+    let goes_on = answer_first(book, waiting, end, s.lines);
+    let left = rest(waiting, end);
+    Session {
+        waiting: left,
+        size: less(s.size, end),
+        lines: counted(s.lines),
+        goes_on,
     }
-    s.lines += 1;
-    s.goes_on = answer(book, &waiting[..end], s.lines);
-    s.waiting = rest(waiting, end);
-    s.size = size - end;
-    s
 }
 
 // Questions until the input ends, or a line is none. The loop counts down from a number that no run uses up.
@@ -184,19 +243,19 @@ fn serve(book: Book)
     let mut s = Session {
         waiting: [0; 1024],
         size: 0,
-        lines: 0,
+        lines: 1,
         goes_on: true,
     };
     let mut turns = u64::MAX;
-    while (turns > 0) & s.goes_on {
+    while turns > 0 && s.goes_on {
         s = turn(book, s);
         turns -= 1;
     }
 }
 
-fn warn(record: usize, at: usize) {
+fn warn(answered: usize, at: usize) {
     say(b"warning: record ");
-    io::print_decimal(libc::STDERR_FILENO, record as u64);
+    io::print_decimal(libc::STDERR_FILENO, counted(answered as u64));
     say(b" at offset ");
     io::print_decimal(libc::STDERR_FILENO, at as u64);
     say(b" is malformed (13); answers are from the book before it\n");
@@ -206,7 +265,7 @@ fn answer_from(journal: &[u8]) {
     let outcome = replay::replay(journal);
     let book = outcome.book;
     if outcome.number != 0 {
-        warn(outcome.count + 1, outcome.at);
+        warn(outcome.count, outcome.at);
     }
     serve(book);
 }
