@@ -7,15 +7,14 @@ use lib.ListN.{length, getD, drop}
 use Rattle.refusal.specs.Choice.{pick}
 use Rattle.refusal.specs.Refusal.{number, invalidInput, journalMalformed, bufferShort, bookUnsound}
 use Rattle.lists.specs.Listing.{Reply}
-use Rattle.lists.specs.declared.Wanted.the-variants.{Invoice, Lender, Status, PendingOf, All, Page}
+use Rattle.lists.specs.declared.Asked.{Asked}
+use Rattle.lists.specs.declared.Asked.the-variants.{For, Unlisted}
 use Rattle.book.specs.declared.Book.{Book}
 use Rattle.query.specs.Reads.{listRead}
 use Rattle.replay.specs.declared.Outcome.{Outcome}
 use Rattle.replay.specs.Replay.{replayOf, outcomeOf}
 use Rattle.text.specs.Answers as Text
 use Rattle.solgaverna.specs.declared.Four.{Four}
-use Rattle.solgaverna.specs.declared.Asked.{Asked}
-use Rattle.solgaverna.specs.declared.Asked.the-variants.{For, Unlisted}
 
 -- −n in two's complement
 unfoldable pub minus : ℕ → ℕ
@@ -32,16 +31,7 @@ left s = outcomeOf 0 (replayOf s)
 unfoldable pub ofBook : List ℕ → List ℕ → (Book → ℕ × List ℕ) → ℕ × List ℕ
 ofBook s l answer = pick (eqb (left s .number) 0) (answer (left s .book)) (minus (number journalMalformed), l)
 
--- ── Lists of offers by a number: 1 by invoice, 2 by lender, 3 by status, 4 by invoice and Pending, 5 all, 6 a page; any other gives 3 ──
-unfoldable pub wantedOf : ℕ → ℕ → ℕ → Asked
-wantedOf kind a b =
-    pick (eqb kind 1) (For (Invoice a))
-    (pick (eqb kind 2) (For (Lender a))
-    (pick (eqb kind 3) (pick (ltb 4294967295 a) Unlisted (For (Status a)))
-    (pick (eqb kind 4) (For (PendingOf a))
-    (pick (eqb kind 5) (For All)
-    (pick (eqb kind 6) (For (Page a b)) Unlisted)))))
-
+-- ── Lists of offers ──
 abbrev pub told : Reply × List ℕ → ℕ × List ℕ
 told r = (coded (r .0 .0) (getD (r .0 .1) 0 0), r .1)
 

@@ -1,10 +1,10 @@
 use mathlib.Core.Path.{refl}
 use borrow.Author.Tests.{eq-eqb, ne-eqb, lt-ltb, le-ltb}
 use Rattle.refusal.specs.ChoiceLaws.{on, off}
-use Rattle.solgaverna.specs.Answers.{wantedOf}
+use Rattle.lists.specs.Wanted.{wantedOf}
 use borrow.Author.Needs.{needs}
-use Rattle.solgaverna.proofs.wanted.Statement.{statement}
-use Rattle.solgaverna.proofs.wanted.Tie as tie
+use Rattle.lists.proofs.Asked.of.Statement.{statement}
+use Rattle.lists.proofs.Asked.of.Tie as tie
 
 returns : tie.Need-returns
 unfolding wantedOf
@@ -38,8 +38,8 @@ returns-8 : tie.Need-returns-8
 unfolding wantedOf
 returns-8 c = off _ (ne-eqb _ _ (c .before .before .before .before .before .if1 .left)) (off _ (ne-eqb _ _ (c .before .before .before .before .if2 .left)) (off _ (ne-eqb _ _ (c .before .before .before .if3 .left)) (off _ (ne-eqb _ _ (c .before .before .if5 .left)) (off _ (ne-eqb _ _ (c .before .if6 .left)) (off _ (ne-eqb _ _ (c .if7 .left)) refl)))))
 
-pub wanted-spec : {M : Type 1} → statement M
-wanted-spec =
+pub of-spec : {M : Type 1} → statement M
+of-spec =
     tie.close
     (tie.spec
     returns
