@@ -169,4 +169,16 @@ mod test {
         let tags = kinds(journal::LATEST).map(|kind| kind.tag);
         assert!(tags.eq(ALLOWED.iter().map(|(tag, _)| *tag)));
     }
+
+    #[test]
+    fn the_second_edition_owes_its_refusals() {
+        let owed = |edition| Coverage::of(edition).unwalked();
+        let new = [
+            "never: an amendment above the invoice's amount is refused",
+            "never: a counter above the invoice's amount is refused",
+            "never: an amendment is refused for its missing invoice",
+        ];
+        assert!(new.iter().all(|path| owed(2).iter().any(|owed| owed == path)));
+        assert!(new.iter().all(|path| owed(1).iter().all(|owed| owed != path)));
+    }
 }
