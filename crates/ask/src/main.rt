@@ -152,7 +152,8 @@ struct Filled {
 fn fill(mut waiting: [u8; 1024], size: usize) -> Filled {
     let from = within(size);
     let got = libc::read(0, &mut waiting[from..]);
-    let came = io::count(got, &waiting);
+    let room = [0u8; 1024];
+    let came = io::count(got, &room);
     Filled { waiting, came }
 }
 
@@ -254,6 +255,10 @@ fn serve(book: Book)
 }
 
 fn warn(answered: usize, at: usize) {
+    if at == 0 {
+        say(b"warning: the header is malformed (13); answers are from a fresh book\n");
+        return;
+    }
     say(b"warning: record ");
     io::print_decimal(libc::STDERR_FILENO, counted(answered as u64));
     say(b" at offset ");
