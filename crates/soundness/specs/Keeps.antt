@@ -49,14 +49,14 @@ module _ {m : Model} (s : ModelSound m) (now a o : ℕ) (t : Terms) (n : ℕ) wh
         fits = record { accounts = fine-adjust (s .fits .accounts) _ _; invoices = s .fits .invoices; offers = fine-adjust (s .fits .offers) _ _ };
         accounts = account-put (m .accounts) a _ (s .accounts) (λ z. Account.reoffer-keeps (accountIn m a .row) (termsIn m o) t z (p .1));
         invoices = s .invoices;
-        offers = deal-put (m .offers) o _ (s .offers) (λ z. Deal.amended-kept (offerIn m o) now a (accountIn m a .row) t n (m .settings .window) z (p .0));
+        offers = deal-put (m .offers) o _ (s .offers) (λ z. Deal.amended-kept (m .settings .edition) (offerIn m o) now a (accountIn m a .row) t n (paperOf m o) (m .settings .window) z (p .0));
         totals = s .totals;
         settings = s .settings;
       }
 
   countered-sound : first (countersIn m now a o t n) ≡ 0 → ModelSound (counteredIn m now o t)
   countered-sound e =
-      with-offers s _ (deal-put (m .offers) o _ (s .offers) (λ z. Deal.countered-kept (offerIn m o) now a (accountIn m a .row) t n (paperOf m o) (m .settings .window) z e))
+      with-offers s _ (deal-put (m .offers) o _ (s .offers) (λ z. Deal.countered-kept (m .settings .edition) (offerIn m o) now a (accountIn m a .row) t n (paperOf m o) (m .settings .window) z e))
       (record { accounts = s .fits .accounts; invoices = s .fits .invoices; offers = fine-adjust (s .fits .offers) _ _ })
 
   amending-sound : first (amending m now a o t n .checks) ≡ 0 → ModelSound (amending m now a o t n .done)
