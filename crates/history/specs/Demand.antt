@@ -1,6 +1,8 @@
 -- Demand 3: from a fresh book, after any commands, every figure of the book is the history's. From any sound book: its figures, and the sums over what is accepted after it.
+use Prim.Native.Nat.{ℕ}
 use native.Mathlib.Omega.{arith}
 use mathlib.Core.Path.{_≡_, refl, sym, subst, _∙_}
+use mathlib.Core.Bool.{true}
 use mathlib.Core.List.{List, [], _∷_}
 use lib.IntN.{pos, _+ℤ_, +ℤ-idl}
 use Rattle.table.specs.Tables.{Found, absent, here, Table, find, keys}
