@@ -551,7 +551,15 @@ impl Near {
         let deal = self.deal;
         let paper = self.paper;
         let settings = self.settings;
-        let refusal = deal.counter_refusal(settings.edition, now, caller, originator, t, round, paper);
+        let refusal = deal.counter_refusal(
+            settings.edition,
+            now,
+            caller,
+            originator,
+            t,
+            round,
+            paper,
+        );
         if !(refusal == 0) {
             return Turn {
                 answer: refusal,
