@@ -60,11 +60,12 @@ fourOver r l =
 abbrev pub written : Text.Outcome → List ℕ → ℕ
 written o l = coded (Text.answerFor o l .0) (Text.answerFor o l .1)
 
--- the number of the first line that is none, 0 where there is none: of a translation, and of what is answered of it
+-- the number of the first line that is no command, or no question; 0 where there is none
 unfoldable pub faultOf : Text.Outcome → ℕ
 faultOf (Text.whole w) = 0
 faultOf (Text.faulty at) = at
 
+-- the line that an answer names
 abbrev pub lineOf : ℕ × ℕ → ℕ
 lineOf a = pick (eqb (a .0) (number journalMalformed)) (a .1) 0
 
