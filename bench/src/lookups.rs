@@ -1,19 +1,40 @@
-//! One lookup repeated: of the proved book, and of a map of the standard library with the same rows.
+//! One lookup repeated, and lookups by the thousand: of the proved book, and of a map of the standard library.
 
+use std::cell::RefCell;
 use std::collections::BTreeMap;
 use std::hint::black_box;
 use std::time::Instant;
 
-use solgaverna::{Journal, Offers};
+use harness::chance::Chance;
+use solgaverna::{Journal, Offer, Offers};
 
 extern "C" {
     fn timing_replay(journal: *const u8, len: usize) -> u64;
     fn timing_lender(journal: *const u8, len: usize, account: u64, times: u64) -> u64;
     fn timing_offer(journal: *const u8, len: usize, id: u64, times: u64) -> u64;
+    fn timing_answers(
+        journal: *const u8,
+        len: usize,
+        questions: *const u64,
+        words: usize,
+        out: *mut u64,
+        room: usize,
+        times: u64,
+    ) -> u64;
     fn timing_sound(journal: *const u8, len: usize, times: u64) -> u64;
 }
 
-const TIMES: u64 = 20_000;
+/// How many lookups are timed: single ones, and ones by the session or of a map.
+const SINGLE: u64 = 20_000;
+const MANY: u64 = 1_000_000;
+/// How many questions are asked in one call, the words of a question, and those of its answer.
+const SESSION: usize = 1_000;
+const QUESTION: usize = 3;
+const ANSWER: usize = 12;
+/// Codes of questions: an offer, a lender's figures, the last one.
+const OFFER: u64 = 1;
+const LENDER: u64 = 3;
+const LAST: u64 = 13;
 
 pub fn replay(journal: &[u8]) -> u64 {
     unsafe { timing_replay(journal.as_ptr(), journal.len()) }
@@ -24,32 +45,58 @@ pub fn measure(runs: usize, bytes: &[u8]) {
     let offers = journal.offers(Offers::All).expect("a whole journal");
     let Some(offer) = offers.last() else { return println!("the journal has no offer") };
     let (from, len) = (bytes.as_ptr(), bytes.len());
-    println!("\n{TIMES} lookups, {} offers; nanoseconds for one, lowest, middle and highest", offers.len());
-    show(runs, "library, the soundness test", &|times| unsafe { timing_sound(from, len, times) });
-    show(runs, "library, one offer", &|times| unsafe { timing_offer(from, len, offer.id, times) });
-    show(runs, "library, a lender's figures", &|times| unsafe {
+    println!("\n{} offers; nanoseconds for one lookup, lowest, middle and highest", offers.len());
+    show(runs, "library, the soundness test", SINGLE, &|times| unsafe { timing_sound(from, len, times) });
+    show(runs, "library, one offer", SINGLE, &|times| unsafe { timing_offer(from, len, offer.id, times) });
+    show(runs, "library, a lender's figures", SINGLE, &|times| unsafe {
         timing_lender(from, len, offer.lender, times)
     });
-    let rows: BTreeMap<_, _> = offers.iter().map(|offer| (offer.id, *offer)).collect();
-    show(runs, "map, one offer", &|times| {
-        let amount = |turn: u64| rows.get(&black_box(offer.id ^ turn & 1)).map_or(4, |offer| offer.amount as u64);
-        (0..times).fold(0, |mixed, turn| mixed ^ amount(turn))
+    let mut chance = Chance::new(0);
+    let asked: Vec<_> = (0..SESSION).map(|_| chance.pick(&offers)).collect();
+    sessions(runs, bytes, &asked);
+    maps(runs, &journal, &asked);
+}
+
+/// Questions by the thousand, of offers and lenders that are there, in no order.
+fn sessions(runs: usize, bytes: &[u8], asked: &[Offer]) {
+    let of = |what, questions: Vec<[u64; QUESTION]>| session(runs, bytes, what, questions.as_flattened());
+    of("session, offers", asked.iter().map(|offer| [OFFER, offer.id, 0]).collect());
+    of("session, lenders' figures", asked.iter().map(|offer| [LENDER, offer.lender, 0]).collect());
+    let turns = asked.iter().zip((OFFER..=LAST).cycle());
+    of("session, each code in turn", turns.map(|(offer, code)| [code, offer.id, offer.expires]).collect());
+}
+
+fn session(runs: usize, bytes: &[u8], what: &str, questions: &[u64]) {
+    let answers = RefCell::new(vec![0; SESSION * ANSWER]);
+    show(runs, what, MANY, &|times| {
+        let (from, len) = (bytes.as_ptr(), bytes.len());
+        let (words, count) = (questions.as_ptr(), questions.len());
+        let mut out = answers.borrow_mut();
+        unsafe { timing_answers(from, len, words, count, out.as_mut_ptr(), out.len(), times / SESSION as u64) }
     });
-    let lenders: BTreeMap<_, _> = offers
-        .iter()
-        .map(|offer| (offer.lender, journal.lender(offer.lender).expect("a whole journal")))
-        .collect();
-    show(runs, "map, a lender's figures", &|times| {
-        let offered = |turn: u64| lenders.get(&black_box(offer.lender ^ turn & 1)).map_or(0, |lender| lender.offered);
-        (0..times).fold(0, |mixed, turn| mixed ^ offered(turn))
+    assert!(answers.borrow().chunks_exact(ANSWER).all(|answer| answer[0] == 0), "every question is answered");
+}
+
+/// The same questions of maps, which hand out one number.
+fn maps(runs: usize, journal: &Journal, asked: &[Offer]) {
+    let rows: BTreeMap<_, _> = asked.iter().map(|offer| (offer.id, *offer)).collect();
+    show(runs, "map, offers", MANY, &|times| {
+        let amount = |offer: &Offer| rows.get(&black_box(offer.id)).map_or(4, |offer| offer.amount as u64);
+        asked.iter().cycle().take(times as usize).fold(0, |mixed, offer| mixed ^ amount(offer))
+    });
+    let figures = |lender| journal.lender(lender).expect("a whole journal");
+    let lenders: BTreeMap<_, _> = asked.iter().map(|offer| (offer.lender, figures(offer.lender))).collect();
+    show(runs, "map, lenders' figures", MANY, &|times| {
+        let offered = |offer: &Offer| lenders.get(&black_box(offer.lender)).map_or(0, |lender| lender.offered);
+        asked.iter().cycle().take(times as usize).fold(0, |mixed, offer| mixed ^ offered(offer))
     });
 }
 
 /// The time of many less the time of none, which is the replay before them.
-fn show(runs: usize, what: &str, work: &dyn Fn(u64) -> u64) {
-    let mut times: Vec<_> = (0..runs).map(|_| seconds(work, TIMES) - seconds(work, 0)).collect();
+fn show(runs: usize, what: &str, many: u64, work: &dyn Fn(u64) -> u64) {
+    let mut times: Vec<_> = (0..runs).map(|_| seconds(work, many) - seconds(work, 0)).collect();
     times.sort_by(f64::total_cmp);
-    let each = |at: usize| times[at] * 1e9 / TIMES as f64;
+    let each = |at: usize| times[at] * 1e9 / many as f64;
     println!("{what:32} {:8.1} {:8.1} {:8.1}", each(0), each(runs / 2), each(runs - 1));
 }
 

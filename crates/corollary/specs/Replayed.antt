@@ -13,7 +13,8 @@ use Rattle.journal.specs.Answers.{Reading, found, refused, ended}
 use Rattle.journal.specs.Format.{headerOf, openingOf, readAt, bytesFor}
 use Rattle.journal.specs.RoundTrip.{header-back}
 use Rattle.rules.specs.Model.{Model, freshModel}
-use Rattle.book.specs.Stored.{modelOf, stored, bookTest}
+use Rattle.book.specs.Stored.{modelOf, stored, bookTest, Shelved}
+use Rattle.book.specs.Shelving.{shelved-stored}
 use Rattle.soundness.specs.Sound.{fresh-model}
 use Rattle.soundness.specs.Played.{answerTo, obeyed, played, answersOf}
 use Rattle.soundness.specs.Books.{played-sound, book-sound}
@@ -56,6 +57,9 @@ module _ (s : List ℕ) (r : Outcome) (e : r ≡ outcomeOf 0 (replayOf s)) where
 
   pub replay-sound : bookTest (r .book) ≡ true
   replay-sound = rw left (book-sound (played-sound fresh-model (commandsIn s)))
+
+  pub replay-shelved : Shelved (r .book)
+  replay-shelved = rw left (shelved-stored (played-sound fresh-model (commandsIn s) .fits))
 
 -- ── The journal of commands ───────────────────────────────────────
 -- every command is answered, in order, to the end

@@ -12,7 +12,7 @@ use Rattle.refusal.specs.Placed.{placed}
 use Rattle.lists.specs.Pick.{pick-fewer, pick-on, pick-off, Walked, walk-start, walk-on, walk-off, walk-room}
 use Rattle.lists.specs.Taking.{pickFrom, spread}
 
-spread-append : {A : Type 0} (f : A → List ℕ) (s t : List A) → spread f (s ++ t) ≡ spread f s ++ spread f t
+pub spread-append : {A : Type 0} (f : A → List ℕ) (s t : List A) → spread f (s ++ t) ≡ spread f s ++ spread f t
 unfolding spread
 spread-append f [] t = refl
 spread-append f (e ∷ s) t = ap (λ (z : List ℕ). f e ++ z) (spread-append f s t) ∙ sym (append-assoc (f e) (spread f s) (spread f t))

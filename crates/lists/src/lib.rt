@@ -6,7 +6,7 @@ ghost use Prim.Native.Nat.{_+_, _*_, _≤_};
 ghost use lib.ListN.{length};
 ghost use Rattle.refusal.specs.Rule.{answered};
 ghost use Rattle.refusal.specs.Placed.{placed};
-ghost use Rattle.lists.specs.Wanted.{paged, wants, known};
+ghost use Rattle.lists.specs.Wanted.{paged, wants, known, wantedOf};
 ghost use Rattle.lists.specs.Listing.{offersOf, InUse, numbersOf, inOrder, listing, filled, listRule, listedSays, told};
 ghost use Rattle.lists.specs.Active.{activeIn, activeOf, InRange};
 
@@ -39,6 +39,12 @@ pub enum Wanted {
     PendingOf(u64),
     All,
     Page(u64, u64),
+}
+
+// Which offers are asked for, or that the number is not listed.
+pub enum Asked {
+    For(Wanted),
+    Unlisted,
 }
 
 // How many offers were written to the buffer, or why none was.
@@ -128,6 +134,36 @@ impl Wanted {
     }
 }
 
+impl Asked {
+    // Which offers the number of a list asks for.
+    pub fn of(kind: u64, a: u64, b: u64) -> Asked
+        ensures { λ r. ⌜ r ≡ wantedOf kind a b ⌝ }
+    {
+        if kind == 1 {
+            return Asked::For(Wanted::Invoice(a));
+        }
+        if kind == 2 {
+            return Asked::For(Wanted::Lender(a));
+        }
+        if kind == 3 {
+            if a > 4294967295 {
+                return Asked::Unlisted;
+            }
+            return Asked::For(Wanted::Status(a as u32));
+        }
+        if kind == 4 {
+            return Asked::For(Wanted::PendingOf(a));
+        }
+        if kind == 5 {
+            return Asked::For(Wanted::All);
+        }
+        if kind == 6 {
+            return Asked::For(Wanted::Page(a, b));
+        }
+        Asked::Unlisted
+    }
+}
+
 // Numbers over the buffer from a place on.
 pub fn put(out: &mut [u64], at: usize, numbers: &[u64])
     requires { ⌜ at + length (now numbers) ≤ length (now out) ⌝ }
@@ -155,7 +191,7 @@ pub fn active(o: Offer, lender: u64) -> u64
 
 impl OfferRows {
     // The number of rows in use; the arrays hold no more than they have room for.
-    fn in_use(self) -> usize
+    pub fn in_use(self) -> usize
         ensures { λ r. ⌜ InUse self r ⌝ }
     {
         let count = self.count;
@@ -165,7 +201,8 @@ impl OfferRows {
         table::ROOM
     }
 
-    fn count_of(self, w: Wanted) -> usize
+    // How many offers are asked for.
+    pub fn count_of(self, w: Wanted) -> usize
         ensures counted { λ r. ⌜ r ≡ length (listing w (offersOf self)) ⌝ }
         ensures few { λ r. ⌜ r ≤ 64 ⌝ }
     {

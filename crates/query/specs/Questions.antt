@@ -1,11 +1,11 @@
 -- Many questions of one book: each has a code and two arguments, an id and a time, and its reply is the one that the single query gives.
 use Prim.Native.Nat.{ℕ, zero, suc, _*_}
-use mathlib.Core.Bool.{true, not}
+use mathlib.Core.Bool.{true}
 use mathlib.Core.List.{List, [], _∷_}
 use lib.ListN.{length}
 use lib.Dec.{eqb, ltb}
 use Rattle.refusal.specs.Choice.{pick}
-use Rattle.refusal.specs.Refusal.{number, _gives_, invalidInput, notFound, bufferShort, bookUnsound}
+use Rattle.refusal.specs.Refusal.{number, _gives_, invalidInput, bufferShort, bookUnsound}
 use Rattle.refusal.specs.Rule.{Rule, sure, answered}
 use Rattle.refusal.specs.Placed.{placed}
 use Rattle.money.specs.Range.{bitsOf}
@@ -14,7 +14,7 @@ use Rattle.account.specs.declared.SeenAccount.{SeenAccount}
 use Rattle.offer.specs.declared.SeenDeal.{SeenDeal}
 use Rattle.totals.specs.declared.Totals.{Totals}
 use Rattle.settings.specs.declared.Settings.{Settings}
-use Rattle.lists.specs.Listing.{Reply, tenOf, told}
+use Rattle.lists.specs.Listing.{Reply, told}
 use Rattle.lists.specs.Taking.{spread}
 use Rattle.rules.specs.Model.{Model, accountIn, offerIn}
 use Rattle.book.specs.declared.Book.{Book}
@@ -29,10 +29,6 @@ purseOrder a = bitsOf (a .purse .balance) ∷ bitsOf (a .purse .allowance) ∷ b
 
 abbrev pub accountRead : ℕ → Model → Rule (List ℕ)
 accountRead a m = sure (purseOrder (accountIn m a .row))
-
--- an offer that was looked up
-abbrev pub offerRule : ℕ → SeenDeal → Rule (List ℕ)
-offerRule id s = record { checks = (not (s .here) gives notFound) ∷ []; done = tenOf (id, s .row .offer) }
 
 -- ── The codes ──
 -- a code, and the query that it asks of an id and a time

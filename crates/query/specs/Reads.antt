@@ -12,6 +12,7 @@ use Rattle.table.specs.Tables.{Table}
 use Rattle.negotiation.specs.declared.Negotiation.{Negotiation}
 use Rattle.offer.specs.Rules.{standing}
 use Rattle.offer.specs.declared.Offer.{Offer}
+use Rattle.offer.specs.declared.SeenDeal.{SeenDeal}
 use Rattle.lists.specs.declared.Wanted.{Wanted}
 use Rattle.lists.specs.Listing.{Reply, tenOf, listRule, told}
 use Rattle.lists.specs.Active.{activeOf}
@@ -53,8 +54,11 @@ abbrev pub lenderRead : ℕ → Model → Rule (List ℕ)
 lenderRead lender m = sure (lenderOrder (lenderNumbers (accountIn m lender .row)))
 
 -- ── One offer, absent, gives 4; an absent schedule is its own answer; an absent negotiation has no rounds and deadline 0 ──
+abbrev pub dealRead : ℕ → SeenDeal → Rule (List ℕ)
+dealRead id s = record { checks = (not (s .here) gives notFound) ∷ []; done = tenOf (id, s .row .offer) }
+
 abbrev pub offerRead : ℕ → Model → Rule (List ℕ)
-offerRead id m = record { checks = (not (offerIn m id .here) gives notFound) ∷ []; done = tenOf (id, offerIn m id .row .offer) }
+offerRead id m = dealRead id (offerIn m id)
 
 abbrev pub scheduleOrder : ScheduleNumbers → List ℕ
 scheduleOrder n = n .count ∷ n .code ∷ n .installment ∷ n .first ∷ []

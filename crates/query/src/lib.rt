@@ -16,19 +16,22 @@ use terms::DueAnswer;
 use terms::Schedule;
 use totals::Totals;
 ghost use mathlib.Core.Path.{_≡_};
+ghost use mathlib.Core.Bool.{true};
 ghost use mathlib.Core.List.{[], _∷_};
 ghost use Prim.Native.Nat.{_*_, _≤_};
 ghost use lib.ListN.{length};
 ghost use Rattle.refusal.specs.Rule.{answered};
 ghost use Rattle.negotiation.specs.Rounds.{noNegotiation};
-ghost use Rattle.book.specs.Stored.{modelOf, Shelved};
+ghost use Rattle.book.specs.Stored.{modelOf, bookTest, Shelved};
+ghost use Rattle.rules.specs.Model.{offerIn};
 ghost use Rattle.lists.specs.Listing.{listedSays, inOrder};
+ghost use Rattle.lists.specs.Active.{activeOf};
 ghost use Rattle.offer.specs.Rules.{standing};
 ghost use Rattle.lists.specs.declared.Wanted.the-variants.{Invoice, Lender, Status, PendingOf, All, Page};
 ghost use Rattle.query.specs.Numbers.{offersOnly, scheduleNumbers, lenderNumbers, totalsNumbers, dueIn, flag};
-ghost use Rattle.query.specs.Reads.{reply, listRead, asked, onSound, offerRead, scheduleRead, negotiationRead, deadlineRead, statusRead, dueRead, lenderRead, activeRead, countRead, totalsRead, windowRead, seatsRead, thresholdRead, pauseRead, lenderOrder, totalsOrder, scheduleValues};
+ghost use Rattle.query.specs.Reads.{reply, offersIn, dealRead, listRead, asked, onSound, offerRead, scheduleRead, negotiationRead, deadlineRead, statusRead, dueRead, lenderRead, activeRead, countRead, totalsRead, windowRead, seatsRead, thresholdRead, pauseRead, lenderOrder, totalsOrder, scheduleValues};
 ghost use Rattle.query.specs.Says.{numberTold, numberSays, offerSays, scheduleSays, lenderSays, totalsSays, negotiationTold};
-ghost use Rattle.query.specs.Questions.{twelve, purseOrder, offerRule, Replies, threes, replied, answersRead, answeredSays};
+ghost use Rattle.query.specs.Questions.{twelve, purseOrder, replyTo, Replies, threes, replied, answersRead, answeredSays};
 
 // The book's totals.
 pub struct TotalsNumbers {
@@ -136,7 +139,8 @@ impl TotalsNumbers {
 
 // ── Lists ──
 
-fn offers_only(t: Offers) -> OfferRows
+// The offers alone, of the table that has their negotiations and schedules too.
+pub fn offers_only(t: Offers) -> OfferRows
     ensures { λ r. ⌜ r ≡ offersOnly t ⌝ }
 {
     let ids = t.ids;
@@ -240,6 +244,17 @@ pub fn get_schedule(book: Book, id: u64) -> ScheduleAnswer
     ScheduleAnswer::Schedule(numbers)
 }
 
+// An offer's negotiation, of a book that was tested.
+pub fn negotiation_of(book: Book, id: u64) -> Negotiation
+    requires { ⌜ Shelved book ⌝ }
+    ensures { λ r. ⌜ r ≡ offerIn (modelOf book) id .row .negotiation ⌝ }
+{
+    let offers = book.offers;
+    let seen = offers.see(Named::Id(id));
+    let row = seen.row;
+    row.negotiation
+}
+
 // An offer's negotiation.
 pub fn get_negotiation(book: Book, id: u64) -> NegotiationAnswer
     ensures { λ r. ⌜ r ≡ answered negotiationTold noNegotiation (onSound book (negotiationRead id)) ⌝ }
@@ -251,10 +266,7 @@ pub fn get_negotiation(book: Book, id: u64) -> NegotiationAnswer
             negotiation: none,
         };
     }
-    let offers = book.offers;
-    let seen = offers.see(Named::Id(id));
-    let row = seen.row;
-    let negotiation = row.negotiation;
+    let negotiation = negotiation_of(book, id);
     NegotiationAnswer {
         answer: 0,
         negotiation,
@@ -338,6 +350,17 @@ pub fn get_lender_stats(book: Book, lender: u64) -> LenderAnswer
     LenderAnswer::Lender(numbers)
 }
 
+// What a lender has in Accepted and Financed offers, of a book that was tested.
+pub fn active_of(book: Book, lender: u64) -> u64
+    requires shelved { ⌜ Shelved book ⌝ }
+    requires sound { ⌜ bookTest book ≡ true ⌝ }
+    ensures { λ r. ⌜ r ≡ activeOf lender (offersIn (modelOf book)) ⌝ }
+{
+    let offers = book.offers;
+    let rows = offers_only(offers);
+    rows.active_total(lender)
+}
+
 // What a lender has in Accepted and Financed offers.
 pub fn get_lender_active_total(book: Book, lender: u64) -> NumberAnswer
     ensures { λ r. ⌜ numberSays r ≡ asked book (activeRead lender) ⌝ }
@@ -345,9 +368,7 @@ pub fn get_lender_active_total(book: Book, lender: u64) -> NumberAnswer
     if !book.sound() {
         return NumberAnswer::Unsound;
     }
-    let offers = book.offers;
-    let rows = offers_only(offers);
-    let total = rows.active_total(lender);
+    let total = active_of(book, lender);
     NumberAnswer::Number(total)
 }
 
@@ -468,7 +489,7 @@ fn words_ten(n: OfferNumbers) -> [u64; 12]
 }
 
 fn offer_words(id: u64, deal: SeenDeal) -> [u64; 12]
-    ensures { λ r. ⌜ r ≡ twelve (answered reply [] (offerRule id deal)) ⌝ }
+    ensures { λ r. ⌜ r ≡ twelve (answered reply [] (dealRead id deal)) ⌝ }
 {
     if !deal.here {
         return words_none(refusal::NOT_FOUND);
@@ -575,6 +596,29 @@ fn answer(
         13 => totals_words(totals),
         _ => words_none(refusal::INVALID_INPUT),
     }
+}
+
+// The answer to one question, of a book that was tested.
+pub fn lookup(book: Book, code: u64, id: u64, time: u64) -> [u64; 12]
+    requires { ⌜ Shelved book ⌝ }
+    ensures { λ r. ⌜ r ≡ twelve (replyTo code id time (modelOf book)) ⌝ }
+{
+    let offers = book.offers;
+    let accounts = book.accounts;
+    let totals = book.totals;
+    let settings = book.settings;
+    let deal = offers.see(Named::Id(id));
+    let account = accounts.see(Named::Id(id));
+    answer(
+        code,
+        id,
+        time,
+        deal,
+        account,
+        totals,
+        settings,
+        offers.count,
+    )
 }
 
 // Twelve words for each question, from the start of the buffer on. The tables are locals: rows are read where they stand.

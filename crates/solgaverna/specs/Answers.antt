@@ -7,15 +7,17 @@ use lib.ListN.{length, getD, drop}
 use Rattle.refusal.specs.Choice.{pick}
 use Rattle.refusal.specs.Refusal.{number, invalidInput, journalMalformed, bufferShort, bookUnsound}
 use Rattle.lists.specs.Listing.{Reply}
-use Rattle.lists.specs.declared.Wanted.the-variants.{Invoice, Lender, Status, PendingOf, All, Page}
+use Rattle.lists.specs.declared.Asked.{Asked}
+use Rattle.lists.specs.declared.Asked.the-variants.{For, Unlisted}
 use Rattle.book.specs.declared.Book.{Book}
+use Rattle.book.specs.Stored.{modelOf}
 use Rattle.query.specs.Reads.{listRead}
+use Rattle.query.specs.Questions.{answersRead}
+use Rattle.asking.specs.Questions.{answersOf}
 use Rattle.replay.specs.declared.Outcome.{Outcome}
 use Rattle.replay.specs.Replay.{replayOf, outcomeOf}
 use Rattle.text.specs.Answers as Text
 use Rattle.solgaverna.specs.declared.Four.{Four}
-use Rattle.solgaverna.specs.declared.Asked.{Asked}
-use Rattle.solgaverna.specs.declared.Asked.the-variants.{For, Unlisted}
 
 -- −n in two's complement
 unfoldable pub minus : ℕ → ℕ
@@ -32,16 +34,7 @@ left s = outcomeOf 0 (replayOf s)
 unfoldable pub ofBook : List ℕ → List ℕ → (Book → ℕ × List ℕ) → ℕ × List ℕ
 ofBook s l answer = pick (eqb (left s .number) 0) (answer (left s .book)) (minus (number journalMalformed), l)
 
--- ── Lists of offers by a number: 1 by invoice, 2 by lender, 3 by status, 4 by invoice and Pending, 5 all, 6 a page; any other gives 3 ──
-unfoldable pub wantedOf : ℕ → ℕ → ℕ → Asked
-wantedOf kind a b =
-    pick (eqb kind 1) (For (Invoice a))
-    (pick (eqb kind 2) (For (Lender a))
-    (pick (eqb kind 3) (pick (ltb 4294967295 a) Unlisted (For (Status a)))
-    (pick (eqb kind 4) (For (PendingOf a))
-    (pick (eqb kind 5) (For All)
-    (pick (eqb kind 6) (For (Page a b)) Unlisted)))))
-
+-- ── Lists of offers ──
 abbrev pub told : Reply × List ℕ → ℕ × List ℕ
 told r = (coded (r .0 .0) (getD (r .0 .1) 0 0), r .1)
 
@@ -67,7 +60,20 @@ fourOver r l =
 abbrev pub written : Text.Outcome → List ℕ → ℕ
 written o l = coded (Text.answerFor o l .0) (Text.answerFor o l .1)
 
--- the number of the first line that is no command, 0 where there is none
+-- the number of the first line that is no command, or no question; 0 where there is none
 unfoldable pub faultOf : Text.Outcome → ℕ
 faultOf (Text.whole w) = 0
 faultOf (Text.faulty at) = at
+
+-- the line that an answer names
+abbrev pub lineOf : ℕ × ℕ → ℕ
+lineOf a = pick (eqb (a .0) (number journalMalformed)) (a .1) 0
+
+-- ── Questions about the book of a journal ─────────────────────────
+-- in text, one a line: how many bytes the answers are
+abbrev pub textFor : List ℕ → List ℕ → Book → ℕ × List ℕ
+textFor t l b = (written (answersOf (modelOf b) t) l, Text.leftFor (answersOf (modelOf b) t) l)
+
+-- lookups, three words each: how many were answered
+abbrev pub wordsFor : List ℕ → List ℕ → Book → ℕ × List ℕ
+wordsFor words l b = told (answersRead b words l)

@@ -1,7 +1,10 @@
-// The library for C and Rust: the bytes of a journal go in, and its listing, its offers or its figures come out in lent buffers.
+// The library for C and Rust: the bytes of a journal go in, and its listing, its offers, its figures or answers to questions come out in
+// lent buffers.
+mod questions;
+
 use book::Book;
+use lists::Asked;
 use lists::Listed as Offers;
-use lists::Wanted;
 use query::LenderAnswer;
 use query::TotalsAnswer;
 use replay::Listed;
@@ -9,19 +12,14 @@ use text::Answer;
 ghost use mathlib.Core.Path.{_≡_};
 ghost use lib.ListN.{getD};
 ghost use Rattle.lists.specs.Listing.{listedSays};
+ghost use Rattle.lists.specs.Wanted.{wantedOf};
 ghost use Rattle.query.specs.Reads.{asked, lenderRead, totalsRead};
 ghost use Rattle.replay.specs.Text.{listingOf};
 ghost use Rattle.sheet.specs.Shown.{listedIn, shownIn};
-ghost use Rattle.solgaverna.specs.Answers.{minus, coded, ofBook, wantedOf, offersFor, noFour, fourSays, fourOver, written, faultOf};
+ghost use Rattle.solgaverna.specs.Answers.{minus, coded, ofBook, offersFor, noFour, fourSays, fourOver, written, lineOf, faultOf};
 ghost use Rattle.text.specs.Answers.{answered, leftFor};
 ghost use Rattle.text.specs.Text.{textOf};
 ghost use Rattle.text.specs.Journal.{journalOf};
-
-// Which offers are asked for, or that the number is not listed.
-pub enum Asked {
-    For(Wanted),
-    Unlisted,
-}
 
 // −n in two's complement, for the number of a refusal.
 fn refused(n: u64) -> u64
@@ -31,33 +29,6 @@ fn refused(n: u64) -> u64
         return 0;
     }
     18446744073709551615 - (n - 1)
-}
-
-fn wanted(kind: u64, a: u64, b: u64) -> Asked
-    ensures { λ r. ⌜ r ≡ wantedOf kind a b ⌝ }
-{
-    if kind == 1 {
-        return Asked::For(Wanted::Invoice(a));
-    }
-    if kind == 2 {
-        return Asked::For(Wanted::Lender(a));
-    }
-    if kind == 3 {
-        if a > 4294967295 {
-            return Asked::Unlisted;
-        }
-        return Asked::For(Wanted::Status(a as u32));
-    }
-    if kind == 4 {
-        return Asked::For(Wanted::PendingOf(a));
-    }
-    if kind == 5 {
-        return Asked::For(Wanted::All);
-    }
-    if kind == 6 {
-        return Asked::For(Wanted::Page(a, b));
-    }
-    Asked::Unlisted
 }
 
 // The listing of a journal: how many bytes it is.
@@ -100,6 +71,16 @@ pub extern "C" fn solgaverna_text(journal: &[u8], out: &mut [u8]) -> u64
     sized(told)
 }
 
+fn line(r: Answer) -> u64
+    ensures { λ x. ⌜ x ≡ lineOf (answered r) ⌝ }
+{
+    match r {
+        Answer::Done(_) => { 0 }
+        Answer::Malformed(k) => { k as u64 }
+        Answer::Short => { 0 }
+    }
+}
+
 // The number of the first line of a text that is no command, 0 where there is none.
 #[no_mangle]
 pub extern "C" fn solgaverna_faulty_line(lines: &[u8]) -> u64
@@ -107,11 +88,7 @@ pub extern "C" fn solgaverna_faulty_line(lines: &[u8]) -> u64
 {
     let mut out: [u8; 1] = [0; 1];
     let r = text::to_journal(lines, &mut out);
-    match r {
-        Answer::Done(_) => { 0 }
-        Answer::Malformed(k) => { k as u64 }
-        Answer::Short => { 0 }
-    }
+    line(r)
 }
 
 fn counted(r: Offers) -> u64
@@ -141,7 +118,7 @@ pub extern "C" fn solgaverna_offers(
     if !(number == 0) {
         return refused(refusal::JOURNAL_MALFORMED);
     }
-    let k = wanted(kind, a, b);
+    let k = Asked::of(kind, a, b);
     let Asked::For(w) = k else {
         return refused(refusal::INVALID_INPUT);
     };

@@ -5,11 +5,11 @@ use lib.ListN.{length}
 use Rattle.refusal.specs.Choice.{pick}
 use Rattle.journal.specs.Format.{headerOf, recordOf}
 use Rattle.text.specs.Walk.{Walk, walkBy, allOf}
-use Rattle.text.specs.Reading.{lineAt}
+use Rattle.text.specs.Reading.{commandAt}
 use Rattle.text.specs.Answers.{Outcome, whole, faulty}
 
 unfoldable pub linesIn : List ℕ → Walk
-linesIn t = walkBy (length t) (lineAt t) 0
+linesIn t = walkBy (length t) (commandAt t) 0
 
 unfoldable pub recordFor : ℕ × List ℕ → List ℕ
 recordFor x = recordOf (x .0) (x .1)

@@ -1,5 +1,7 @@
 pub mod Names
 pub mod NameLaws
+pub mod Fields
+pub mod FieldLaws
 pub mod Line
 pub mod LineLaws
 pub mod Walk
@@ -7,6 +9,7 @@ pub mod Reading
 pub mod ReadingLaws
 pub mod NumbersLaws
 pub mod LineReads
+pub mod LineWalk
 pub mod WalkLaws
 pub mod Telling
 pub mod Answers
@@ -18,6 +21,7 @@ pub mod JournalLaws
 pub mod RecordLaws
 pub mod Trip
 pub mod Canonical
+pub mod NamesApart
 pub mod LineWay
 pub mod RecordWay
 pub mod NumberBack

@@ -1,4 +1,4 @@
--- A command as a line: its name, and the numbers of its fields in the journal's order with a space before each, to the end of the line.
+-- A command or a question as a line: its name, and the numbers of its fields in order with a space before each, to the end of the line.
 use mathlib.Core.Bool.{Bool, _||_}
 use mathlib.Core.List.{List, [], _∷_, _++_}
 use Prim.Native.Nat.{ℕ, _-_}
@@ -6,8 +6,8 @@ use lib.ListN.{getD, drop}
 use lib.Dec.{eqb, ltb}
 use Rattle.refusal.specs.Choice.{pick}
 use Rattle.sheet.specs.Decimal.{decimalOf, space, newline}
-use Rattle.journal.specs.Table.{fieldsOf}
 use Rattle.text.specs.Names.{wordOf}
+use Rattle.text.specs.Fields.{fieldsFor}
 
 -- 05 amount and 0F fee are two's complement: 45 is a minus
 abbrev pub isSigned : ℕ → Bool
@@ -29,4 +29,4 @@ numeralsOf (f ∷ fs) xs = (space ++ numeralOf f (getD xs 0 0)) ++ numeralsOf fs
 
 -- the line of a tag and its numbers
 unfoldable pub lineOf : ℕ × List ℕ → List ℕ
-lineOf p = wordOf (p .0) ++ (numeralsOf (fieldsOf (p .0)) (p .1) ++ newline)
+lineOf p = wordOf (p .0) ++ (numeralsOf (fieldsFor (p .0)) (p .1) ++ newline)

@@ -9,15 +9,17 @@ use lib.Seq.{drop-append-seam, getD-append-seam, getD-append-add}
 use Rattle.refusal.specs.Choice.{pick}
 use Rattle.refusal.specs.ChoiceLaws.{pick-on}
 use Rattle.sheet.specs.Decimal.{space, newline}
-use Rattle.journal.specs.Table.{topOf, fieldsOf}
+use Rattle.journal.specs.Table.{topOf}
 use Rattle.journal.specs.HeldLaws.{Tops}
-use Rattle.text.specs.Names.{names, wordIn, wordOf}
-use Rattle.text.specs.NameLaws.{Each, _▸_, each}
+use Rattle.text.specs.Names.{commands, wordOf}
+use Rattle.text.specs.NameLaws.{is-tag}
+use Rattle.text.specs.Fields.{fieldsFor}
 use Rattle.text.specs.Line.{numeralOf, numeralsOf, lineOf}
 use Rattle.text.specs.Walk.{item}
-use Rattle.text.specs.Reading.{leads, isNamed, tagBy, tagIn, numeral, Read, spacedIn, readIn, lineIn, lineAt}
+use Rattle.text.specs.Reading.{numeral, Read, spacedIn, readIn, lineBy, lineIn, lineAt, commandAt}
 use Rattle.text.specs.LineReads.{numbersThere, lined}
-use Rattle.text.specs.JournalLaws.{onward, at-line, at-end}
+use Rattle.text.specs.LineWalk.{onward, at-line, at-end}
+use Rattle.text.specs.NamesApart.{breaks, Found, command-found}
 use Rattle.text.specs.NumberBack.{Stop, numeral-back}
 use Rattle.text.specs.Trip.{Writes}
 use Rattle.text.specs.LineWay.{Good}
@@ -31,11 +33,11 @@ spaced-back : (f x : ℕ) (z : List ℕ) → x ≤ topOf f → Stop z → spaced
 unfolding spacedIn pick
 spaced-back f x z h s = numeral-back f x z h s
 
--- what follows a number begins with a space or ends the line
-stop-next : (fs xs r : List ℕ) → Stop (numeralsOf fs xs ++ (10 ∷ r))
+-- what follows a name or a number begins with a space or ends the line
+follows : (fs xs r : List ℕ) → Stop (numeralsOf fs xs ++ (10 ∷ r)) × (breaks (getD (numeralsOf fs xs ++ (10 ∷ r)) 0 0) ≡ true)
 unfolding numeralsOf
-stop-next [] xs r = refl
-stop-next (f ∷ fs) xs r = refl
+follows [] xs r = (refl, refl)
+follows (f ∷ fs) xs r = (refl, refl)
 
 past-spaced : (f x : ℕ) (z : List ℕ) → drop (length (numeralOf f x) + 1) ((space ++ numeralOf f x) ++ z) ≡ z
 past-spaced f x z =
@@ -50,77 +52,36 @@ read-back (f ∷ fs) [] r h = absurd h
 read-back (f ∷ fs) (x ∷ xs) r h =
     let w = space ++ numeralOf f x in
     let z = numeralsOf fs xs ++ (10 ∷ r) in
-    let a : spacedIn f (w ++ z) ≡ numeral x (length (numeralOf f x)) = spaced-back f x z (h .0) (stop-next fs xs r) in
+    let a : spacedIn f (w ++ z) ≡ numeral x (length (numeralOf f x)) = spaced-back f x z (h .0) (follows fs xs r .0) in
     let i = read-back fs xs r (h .1) in
     let n : length (numeralOf f x) + 1 + length (numeralsOf fs xs) ≡ length (w ++ numeralsOf fs xs) = omega (arith, length-append w (numeralsOf fs xs)) in
     rw (append-assoc w (numeralsOf fs xs) (10 ∷ r), a, past-spaced f x z, i) (pick-on _ _ refl ∙ ap (λ (k : ℕ). all-read (x ∷ xs) k) n)
 
--- ---- the name
-
-abbrev Found : ℕ → Type 0
-Found t = (r : List ℕ) → tagIn (wordOf t ++ r) ≡ t
-
--- no name begins another
-all-found : Each Found names
-unfolding tagIn tagBy isNamed leads wordOf wordIn pick
-all-found =
-    (λ r. refl)
-    ▸ (λ r. refl)
-    ▸ (λ r. refl)
-    ▸ (λ r. refl)
-    ▸ (λ r. refl)
-    ▸ (λ r. refl)
-    ▸ (λ r. refl)
-    ▸ (λ r. refl)
-    ▸ (λ r. refl)
-    ▸ (λ r. refl)
-    ▸ (λ r. refl)
-    ▸ (λ r. refl)
-    ▸ (λ r. refl)
-    ▸ (λ r. refl)
-    ▸ (λ r. refl)
-    ▸ (λ r. refl)
-    ▸ (λ r. refl)
-    ▸ (λ r. refl)
-    ▸ (λ r. refl)
-    ▸ (λ r. refl)
-    ▸ (λ r. refl)
-    ▸ (λ r. refl)
-    ▸ (λ r. refl)
-    ▸ (λ r. refl)
-    ▸ tt
-
-found : (t : ℕ) → 0 < length (wordOf t) → Found t
-found t h = each Found t all-found h
-
--- no name belongs to the tag 0
-zero-nameless : length (wordOf 0) ≡ 0
-unfolding wordOf wordIn pick
-zero-nameless = refl
-
 -- ---- the line
 
-line-in : (t : ℕ) (xs r : List ℕ) (at : ℕ) → Good (t, xs) → lineIn (wordOf t ++ (numeralsOf (fieldsOf t) xs ++ (10 ∷ r))) at ≡ item (t, xs) (at + (length (wordOf t) + length (numeralsOf (fieldsOf t) xs) + 1))
-line-in t xs r at g =
-    let w = wordOf t in
-    let m = numeralsOf (fieldsOf t) xs in
-    let u = w ++ (m ++ (10 ∷ r)) in
-    let e : t ≡ tagIn u = sym (found t (g .0) (m ++ (10 ∷ r))) in
-    let n : numbersThere u at e ≡ all-read xs (length m) = ap (readIn (fieldsOf t)) (drop-append-seam w (m ++ (10 ∷ r))) ∙ read-back (fieldsOf t) xs r (g .1) in
-    let z : getD u (length w + length m) 0 ≡ 10 = getD-append-add w (m ++ (10 ∷ r)) (length m) 0 ∙ getD-append-seam m 10 r 0 in
-    let q = lined u at e (λ k. omega (arith, ap (λ (j : ℕ). length (wordOf j)) k, zero-nameless, g .0)) (ap (λ (y : Read). y .ok) n) (ap (λ (y : Read). getD u (length w + y .size) 0) n ∙ z) in
-    sym q ∙ ap (λ (y : Read). item (t, y .values) (at + (length w + y .size + 1))) n
+module _ (from past : ℕ) (x : ℕ × List ℕ) (found : Found from past (x .0)) (named : 0 < x .0) (range : Tops (fieldsFor (x .0)) (x .1)) where
+  line-in : (r : List ℕ) (at : ℕ) → lineIn from past (wordOf (x .0) ++ (numeralsOf (fieldsFor (x .0)) (x .1) ++ (10 ∷ r))) at ≡ item x (at + (length (wordOf (x .0)) + length (numeralsOf (fieldsFor (x .0)) (x .1)) + 1))
+  unfolding lineIn
+  line-in r at =
+      let t = x .0 in
+      let w = wordOf t in
+      let m = numeralsOf (fieldsFor t) (x .1) in
+      let u = w ++ (m ++ (10 ∷ r)) in
+      let n : numbersThere t u at ≡ all-read (x .1) (length m) = ap (readIn (fieldsFor t)) (drop-append-seam w (m ++ (10 ∷ r))) ∙ read-back (fieldsFor t) (x .1) r range in
+      let z : getD u (length w + length m) 0 ≡ 10 = getD-append-add w (m ++ (10 ∷ r)) (length m) 0 ∙ getD-append-seam m 10 r 0 in
+      let q = lined t u at (λ k. omega arith) (ap (λ (y : Read). y .ok) n) (ap (λ (y : Read). getD u (length w + y .size) 0) n ∙ z) in
+      ap (λ (k : ℕ). lineBy k u at) (found (m ++ (10 ∷ r)) (follows (fieldsFor t) (x .1) r .1)) ∙ sym q ∙ ap (λ (y : Read). item (t, y .values) (at + (length w + y .size + 1))) n
 
-line-back : (x : ℕ × List ℕ) (p r : List ℕ) → Good x → lineAt (p ++ (lineOf x ++ r)) (length p) ≡ item x (length p + length (lineOf x))
-unfolding lineOf
-line-back x p r g =
-    let w = wordOf (x .0) in
-    let m = numeralsOf (fieldsOf (x .0)) (x .1) in
-    let s = p ++ (lineOf x ++ r) in
-    let u : lineOf x ++ r ≡ w ++ (m ++ (10 ∷ r)) = append-assoc w (m ++ newline) r ∙ ap (λ (l : List ℕ). w ++ l) (append-assoc m newline r) in
-    let l : length (lineOf x) ≡ length w + length m + 1 = length-append w (m ++ newline) ∙ omega (arith, length-append m newline) in
-    let h : length p < length s = omega (arith, length-append p (lineOf x ++ r), length-append (lineOf x) r) in
-    at-line s (length p) h ∙ ap (λ (t : List ℕ). lineIn t (length p)) (drop-append-seam p (lineOf x ++ r) ∙ u) ∙ line-in (x .0) (x .1) r (length p) g ∙ ap (λ (n : ℕ). item x (length p + n)) (sym l)
+  pub line-back : (p r : List ℕ) → lineAt from past (p ++ (lineOf x ++ r)) (length p) ≡ item x (length p + length (lineOf x))
+  unfolding lineOf
+  line-back p r =
+      let w = wordOf (x .0) in
+      let m = numeralsOf (fieldsFor (x .0)) (x .1) in
+      let s = p ++ (lineOf x ++ r) in
+      let u : lineOf x ++ r ≡ w ++ (m ++ (10 ∷ r)) = append-assoc w (m ++ newline) r ∙ ap (λ (l : List ℕ). w ++ l) (append-assoc m newline r) in
+      let l : length (lineOf x) ≡ length w + length m + 1 = length-append w (m ++ newline) ∙ omega (arith, length-append m newline) in
+      let h : length p < length s = omega (arith, length-append p (lineOf x ++ r), length-append (lineOf x) r) in
+      at-line from past s (length p) h ∙ ap (λ (t : List ℕ). lineIn from past t (length p)) (drop-append-seam p (lineOf x ++ r) ∙ u) ∙ line-in r (length p) ∙ ap (λ (n : ℕ). item x (length p + n)) (sym l)
 
-pub line-writes : Writes lineOf lineAt Good
-line-writes = record { ahead = onward; back = line-back; over = at-end }
+pub line-writes : Writes lineOf commandAt Good
+line-writes = record { ahead = onward 0x21 0x57; back = λ x p r g. line-back 0x21 0x57 x (command-found (x .0) (g .0)) (is-tag commands (x .0) refl (g .0)) (g .1) p r; over = at-end 0x21 0x57 }

@@ -16,9 +16,10 @@ use Rattle.sheet.specs.declared.Pen.{Pen}
 use Rattle.sheet.specs.Sheet.{Wrote}
 use Rattle.sheet.specs.SheetLaws.{next, retext, none, kept}
 use Rattle.sheet.specs.Decimal.{space, newline}
-use Rattle.journal.specs.Table.{fieldsOf, padded, sent}
+use Rattle.journal.specs.Table.{padded, sent}
 use Rattle.journal.specs.declared.writing.Parts.{Parts}
-use Rattle.text.specs.Names.{Name, names, wordIn, wordOf, spelt}
+use Rattle.text.specs.Names.{Name, commands, questions, wordIn, wordOf, isCommand, spelt}
+use Rattle.text.specs.Fields.{fieldsFor}
 use Rattle.text.specs.Line.{numeralOf, numeralsOf, lineOf}
 use Rattle.text.specs.declared.names.Spelling.{Spelling}
 
@@ -46,32 +47,32 @@ module _ {ink : Bool} {fs xs from : List ℕ} {start : Pen} where
       let d : numeralsOf (drop i fs) (drop i xs) ≡ [] = rw (e, drop-length fs) in
       n .completes out pen (retext (none ink out pen) (sym d))
 
--- no name is longer than an array of seventeen
+-- no name is longer than an array of eighteen
 abbrev allShort : List Name → Bool
 allShort [] = true
-allShort (n ∷ ns) = leb (length (n .word)) 17 && allShort ns
+allShort (n ∷ ns) = leb (length (n .word)) 18 && allShort ns
 
-short-pick : (b : Bool) (v w : List ℕ) → length v ≤ 17 → length w ≤ 17 → length (pick b v w) ≤ 17
+short-pick : (b : Bool) (v w : List ℕ) → length v ≤ 18 → length w ≤ 18 → length (pick b v w) ≤ 18
 unfolding pick
 short-pick true v w h k = h
 short-pick false v w h k = k
 
-short-in : (ns : List Name) (t : ℕ) → allShort ns ≡ true → length (wordIn ns t) ≤ 17
+short-in : (ns : List Name) (t : ℕ) → allShort ns ≡ true → length (wordIn ns t) ≤ 18
 unfolding wordIn
 short-in [] t e = omega arith
 short-in (n ∷ ns) t e =
-    short-pick (eqb t (n .tag)) (n .word) (wordIn ns t) (leb-true (length (n .word)) 17 (and-left _ (allShort ns) e)) (short-in ns t (and-right (leb (length (n .word)) 17) _ e))
+    short-pick (eqb t (n .tag)) (n .word) (wordIn ns t) (leb-true (length (n .word)) 18 (and-left _ (allShort ns) e)) (short-in ns t (and-right (leb (length (n .word)) 18) _ e))
 
-pub word-short : (t : ℕ) → length (wordOf t) ≤ 17
+pub word-short : (t : ℕ) → length (wordOf t) ≤ 18
 unfolding wordOf
-word-short t = short-in names t refl
+word-short t = short-pick (isCommand t) (wordIn commands t) (wordIn questions t) (short-in commands t refl) (short-in questions t refl)
 
 -- the name in its array
 pub word-in : {r : Spelling} (w : List ℕ) → r ≡ spelt w → take (r .0) (r .1) ≡ w
-word-in w e = ap (λ (r : Spelling). take (r .0) (r .1)) e ∙ take-append-seam w (replicate (17 - length w) 32)
+word-in w e = ap (λ (r : Spelling). take (r .0) (r .1)) e ∙ take-append-seam w (replicate (18 - length w) 32)
 
 pub word-fits : {r : Spelling} (w : List ℕ) → r ≡ spelt w → r .0 ≤ length (r .1)
-word-fits w e = rw e (omega (arith, length-append w (replicate (17 - length w) 32)))
+word-fits w e = rw e (omega (arith, length-append w (replicate (18 - length w) 32)))
 
 -- numbers in an array
 numerals-zeros : (fs xs : List ℕ) (n : ℕ) → numeralsOf fs (xs ++ replicate n 0) ≡ numeralsOf fs xs
@@ -83,4 +84,4 @@ numerals-zeros (f ∷ fs) (x ∷ xs) n = ap (λ (l : List ℕ). (space ++ numera
 
 pub line-sent : {p : Parts} (x : ℕ × List ℕ) → p ≡ sent x → lineOf (p .0, p .1) ≡ lineOf x
 unfolding lineOf padded
-line-sent x e = ap (λ (p : Parts). lineOf (p .0, p .1)) e ∙ ap (λ (l : List ℕ). wordOf (x .0) ++ (l ++ newline)) (numerals-zeros (fieldsOf (x .0)) (x .1) (9 - length (x .1)))
+line-sent x e = ap (λ (p : Parts). lineOf (p .0, p .1)) e ∙ ap (λ (l : List ℕ). wordOf (x .0) ++ (l ++ newline)) (numerals-zeros (fieldsFor (x .0)) (x .1) (9 - length (x .1)))

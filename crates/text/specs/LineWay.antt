@@ -8,24 +8,25 @@ use native.Mathlib.Nat.{add-zero}
 use lib.ListN.{length, getD, take, drop, length-drop}
 use lib.Seq.{take-add, take-suc, drop-drop, getD-drop, length-take-le}
 use lib.Dec.{eqb, leb, ltb}
-use borrow.Author.Tests.{eqb-true, ltb-true}
+use borrow.Author.Tests.{eqb-true, ltb-true, lt-ltb}
 use Rattle.refusal.specs.Choice.{pick}
 use Rattle.wire.specs.FieldLaws.{and-left, and-right}
 use Rattle.sheet.specs.Decimal.{newline}
-use Rattle.journal.specs.Table.{fieldsOf}
 use Rattle.journal.specs.HeldLaws.{Tops}
-use Rattle.text.specs.Names.{wordOf}
+use Rattle.text.specs.Names.{commands, wordIn, wordOf}
+use Rattle.text.specs.NameLaws.{command-word}
+use Rattle.text.specs.Fields.{fieldsFor}
 use Rattle.text.specs.Line.{numeralsOf, lineOf}
 use Rattle.text.specs.Walk.{Item, item, fault, end}
-use Rattle.text.specs.Reading.{leads, tagIn, Read, readIn, lineIn, lineAt}
-use Rattle.text.specs.ReadingLaws.{there, tag-named}
-use Rattle.text.specs.JournalLaws.{onward}
+use Rattle.text.specs.Reading.{tagIn, Read, readIn, lineBy, lineIn, lineAt, commandAt}
+use Rattle.text.specs.ReadingLaws.{there, tag-among}
+use Rattle.text.specs.LineWalk.{onward}
 use Rattle.text.specs.Canonical.{leads-take, read-spelt}
 use Rattle.text.specs.Trip.{Stands, Reads}
 
 -- a command's tag has a name, and its numbers are in range
 abbrev pub Good : ℕ × List ℕ → Type 0
-Good x = (0 < length (wordOf (x .0))) × Tops (fieldsOf (x .0)) (x .1)
+Good x = (0 < length (wordIn commands (x .0))) × Tops (fieldsFor (x .0)) (x .1)
 
 -- what an item holds
 abbrev pub partsIn : Item → ℕ × List ℕ
@@ -56,7 +57,7 @@ three a b t n e f g =
     ∙ ap (λ (x : List ℕ). a ++ x) (take-add n 1 (drop (length a) t) ∙ ap (λ (x : List ℕ). x ++ take 1 (drop n (drop (length a) t))) f ∙ ap (λ (x : List ℕ). b ++ x) o) in
     (w, sym (length-take-le (length a + n + 1) t (omega arith)) ∙ ap length w)
 
-line-by : (s : List ℕ) (p : ℕ) (b : Bool) (k : ℕ) (r : Read) (x : ℕ × List ℕ) (n : ℕ) → k ≡ tagIn (drop p s) → r ≡ readIn (fieldsOf k) (drop (length (wordOf k)) (drop p s))
+line-by : (s : List ℕ) (p : ℕ) (b : Bool) (k : ℕ) (r : Read) (x : ℕ × List ℕ) (n : ℕ) → k ≡ tagIn 0x21 0x57 (drop p s) → r ≡ readIn (fieldsFor k) (drop (length (wordOf k)) (drop p s))
     → ltb 0 k && (r .ok && eqb (getD (drop p s) (length (wordOf k) + r .size) 0) 10) ≡ b
     → pick b (item (k, r .values) (p + (length (wordOf k) + r .size + 1))) fault ≡ item x n → Stands lineOf Good s p x n
 unfolding pick lineOf
@@ -64,12 +65,11 @@ line-by s p true k r x n i j e q =
     let t = drop p s in
     let pos : 0 < k = ltb-true 0 k (and-left (ltb 0 k) _ e) in
     let both = and-right (ltb 0 k) _ e in
-    let nm = tag-named t (rw i at pos) in
-    let v : (take (r .size) (drop (length (wordOf k)) t) ≡ numeralsOf (fieldsOf k) (r .values)) × Tops (fieldsOf k) (r .values) =
-    rw j (read-spelt (fieldsOf k) (drop (length (wordOf k)) t) (rw j at (and-left (r .ok) _ both))) in
-    let lead : leads (wordOf k) t ≡ true = rw i (nm .1) in
-    let w = three (wordOf k) (numeralsOf (fieldsOf k) (r .values)) t (r .size) (leads-take (wordOf k) t lead) (v .0) (eqb-true _ 10 (and-right (r .ok) _ both)) in
-    let named : 0 < length (wordOf k) = rw i (nm .0) in
+    let m = tag-among 0x21 0x57 t i pos in
+    let v : (take (r .size) (drop (length (wordOf k)) t) ≡ numeralsOf (fieldsFor k) (r .values)) × Tops (fieldsFor k) (r .values) =
+    rw j (read-spelt (fieldsFor k) (drop (length (wordOf k)) t) (rw j at (and-left (r .ok) _ both))) in
+    let w = three (wordOf k) (numeralsOf (fieldsFor k) (r .values)) t (r .size) (leads-take (wordOf k) t (m .stands)) (v .0) (eqb-true _ 10 (and-right (r .ok) _ both)) in
+    let named : 0 < length (wordIn commands k) = rw (command-word k (lt-ltb k 0x60 (omega (arith, m .high)))) at (m .word) in
     let a : (k, r .values) ≡ x = ap partsIn q in
     let c : p + (length (wordOf k) + r .size + 1) ≡ n = ap pastIn q in
     rw (← a) record {
@@ -84,12 +84,12 @@ unfolding pick
 end-not true d x n q = let z = ap isItem q in let y : _≡_ {A = ℕ} 0 1 = cc in absurd (omega arith)
 end-not false d x n q = q
 
-pub line-stands : (s : List ℕ) (p : ℕ) (x : ℕ × List ℕ) (n : ℕ) → lineAt s p ≡ item x n → Stands lineOf Good s p x n
-unfolding lineAt lineIn
+pub line-stands : (s : List ℕ) (p : ℕ) (x : ℕ × List ℕ) (n : ℕ) → commandAt s p ≡ item x n → Stands lineOf Good s p x n
+unfolding lineAt lineIn lineBy
 line-stands s p x n q =
     let t = drop p s in
-    let k = tagIn t in
-    line-by s p _ k (readIn (fieldsOf k) (drop (length (wordOf k)) t)) x n refl refl refl (end-not (leb (length s) p) (lineIn t p) x n q)
+    let k = tagIn 0x21 0x57 t in
+    line-by s p _ k (readIn (fieldsFor k) (drop (length (wordOf k)) t)) x n refl refl refl (end-not (leb (length s) p) (lineIn 0x21 0x57 t p) x n q)
 
-pub line-reads : Reads lineOf lineAt Good (λ (s : List ℕ). Unit)
-line-reads = record { ahead = onward; stands = λ s p x n k q. line-stands s p x n q }
+pub line-reads : Reads lineOf commandAt Good (λ (s : List ℕ). Unit)
+line-reads = record { ahead = onward 0x21 0x57; stands = λ s p x n k q. line-stands s p x n q }

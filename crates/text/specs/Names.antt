@@ -1,12 +1,13 @@
--- The commands by the names that document 01 gives them.
+-- The commands by the names that document 01 gives them, and the questions by names of the same kind.
+use mathlib.Core.Bool.{Bool}
 use mathlib.Core.List.{List, [], _∷_, _++_}
 use Prim.Native.Nat.{ℕ, _-_}
 use lib.ListN.{length, replicate}
-use lib.Dec.{eqb}
+use lib.Dec.{eqb, ltb}
 use Rattle.refusal.specs.Choice.{pick}
 use Rattle.text.specs.declared.names.Spelling.{Spelling}
 
--- a command's tag, and its name as bytes
+-- the tag of a command or of a question, and its name as bytes
 pub record Name : Type 0 where
   pub tag : ℕ
   pub word : List ℕ
@@ -14,8 +15,8 @@ pub record Name : Type 0 where
 abbrev name : ℕ → List ℕ → Name
 name t w = record { tag = t; word = w }
 
-abbrev pub names : List Name
-names =
+abbrev pub commands : List Name
+commands =
     name 0x21 (111 ∷ 112 ∷ 101 ∷ 110 ∷ 45 ∷ 97 ∷ 99 ∷ 99 ∷ 111 ∷ 117 ∷ 110 ∷ 116 ∷ [])  -- open-account
     ∷ name 0x22 (100 ∷ 101 ∷ 112 ∷ 111 ∷ 115 ∷ 105 ∷ 116 ∷ [])  -- deposit
     ∷ name 0x23 (112 ∷ 97 ∷ 121 ∷ 111 ∷ 117 ∷ 116 ∷ [])  -- payout
@@ -42,14 +43,43 @@ names =
     ∷ name 0x56 (115 ∷ 101 ∷ 97 ∷ 116 ∷ 115 ∷ [])  -- seats
     ∷ []
 
--- the name of a tag, and none for a tag that no command has
+-- of two names of which one begins the other the longer stands first
+abbrev pub questions : List Name
+questions =
+    name 0x61 (111 ∷ 102 ∷ 102 ∷ 101 ∷ 114 ∷ 115 ∷ 45 ∷ 98 ∷ 121 ∷ 45 ∷ 105 ∷ 110 ∷ 118 ∷ 111 ∷ 105 ∷ 99 ∷ 101 ∷ [])  -- offers-by-invoice
+    ∷ name 0x62 (111 ∷ 102 ∷ 102 ∷ 101 ∷ 114 ∷ 115 ∷ 45 ∷ 98 ∷ 121 ∷ 45 ∷ 108 ∷ 101 ∷ 110 ∷ 100 ∷ 101 ∷ 114 ∷ [])  -- offers-by-lender
+    ∷ name 0x63 (111 ∷ 102 ∷ 102 ∷ 101 ∷ 114 ∷ 115 ∷ 45 ∷ 98 ∷ 121 ∷ 45 ∷ 115 ∷ 116 ∷ 97 ∷ 116 ∷ 117 ∷ 115 ∷ [])  -- offers-by-status
+    ∷ name 0x64 (112 ∷ 101 ∷ 110 ∷ 100 ∷ 105 ∷ 110 ∷ 103 ∷ 45 ∷ 111 ∷ 102 ∷ 102 ∷ 101 ∷ 114 ∷ 115 ∷ [])  -- pending-offers
+    ∷ name 0x65 (97 ∷ 108 ∷ 108 ∷ 45 ∷ 111 ∷ 102 ∷ 102 ∷ 101 ∷ 114 ∷ 115 ∷ [])  -- all-offers
+    ∷ name 0x66 (112 ∷ 97 ∷ 103 ∷ 101 ∷ [])  -- page
+    ∷ name 0x71 (111 ∷ 102 ∷ 102 ∷ 101 ∷ 114 ∷ [])  -- offer
+    ∷ name 0x72 (97 ∷ 99 ∷ 99 ∷ 111 ∷ 117 ∷ 110 ∷ 116 ∷ [])  -- account
+    ∷ name 0x73 (108 ∷ 101 ∷ 110 ∷ 100 ∷ 101 ∷ 114 ∷ [])  -- lender
+    ∷ name 0x74 (115 ∷ 99 ∷ 104 ∷ 101 ∷ 100 ∷ 117 ∷ 108 ∷ 101 ∷ [])  -- schedule
+    ∷ name 0x76 (110 ∷ 101 ∷ 103 ∷ 111 ∷ 116 ∷ 105 ∷ 97 ∷ 116 ∷ 105 ∷ 111 ∷ 110 ∷ 45 ∷ 115 ∷ 116 ∷ 97 ∷ 116 ∷ 117 ∷ 115 ∷ [])  -- negotiation-status
+    ∷ name 0x77 (100 ∷ 117 ∷ 101 ∷ [])  -- due
+    ∷ name 0x78 (99 ∷ 111 ∷ 117 ∷ 110 ∷ 116 ∷ [])  -- count
+    ∷ name 0x79 (119 ∷ 105 ∷ 110 ∷ 100 ∷ 111 ∷ 119 ∷ [])  -- window
+    ∷ name 0x7A (115 ∷ 101 ∷ 97 ∷ 116 ∷ 115 ∷ [])  -- seats
+    ∷ name 0x7B (116 ∷ 104 ∷ 114 ∷ 101 ∷ 115 ∷ 104 ∷ 111 ∷ 108 ∷ 100 ∷ [])  -- threshold
+    ∷ name 0x7C (112 ∷ 97 ∷ 117 ∷ 115 ∷ 101 ∷ 100 ∷ [])  -- paused
+    ∷ name 0x7D (116 ∷ 111 ∷ 116 ∷ 97 ∷ 108 ∷ 115 ∷ [])  -- totals
+    ∷ name 0x7E (97 ∷ 99 ∷ 116 ∷ 105 ∷ 118 ∷ 101 ∷ [])  -- active
+    ∷ name 0x7F (110 ∷ 101 ∷ 103 ∷ 111 ∷ 116 ∷ 105 ∷ 97 ∷ 116 ∷ 105 ∷ 111 ∷ 110 ∷ [])  -- negotiation
+    ∷ []
+
+-- the name of a tag, and none for a tag that the list has not
 unfoldable pub wordIn : List Name → ℕ → List ℕ
 wordIn [] t = []
 wordIn (n ∷ ns) t = pick (eqb t (n .tag)) (n .word) (wordIn ns t)
 
-unfoldable pub wordOf : ℕ → List ℕ
-wordOf t = wordIn names t
+-- the questions' tags lie above the commands'
+abbrev pub isCommand : ℕ → Bool
+isCommand t = ltb t 0x60
 
--- in an array of seventeen, with spaces after it
+unfoldable pub wordOf : ℕ → List ℕ
+wordOf t = pick (isCommand t) (wordIn commands t) (wordIn questions t)
+
+-- in an array of eighteen, with spaces after it
 abbrev pub spelt : List ℕ → Spelling
-spelt w = (length w, w ++ replicate (17 - length w) 32)
+spelt w = (length w, w ++ replicate (18 - length w) 32)

@@ -1,12 +1,14 @@
--- What line stands at a place of a text. A line reads as a command where it is the line of that command, byte for byte.
+-- What line stands at a place of a text, of a tag in a range: the commands' or the questions'. A line reads as a command or a question where
+-- it is the line of that one, byte for byte.
 use mathlib.Core.Bool.{Bool, true, false, _&&_, _||_}
 use mathlib.Core.List.{List, [], _∷_}
 use Prim.Native.Nat.{ℕ, zero, suc, _+_, _-_, _*_}
 use lib.ListN.{length, getD, drop}
 use lib.Dec.{eqb, leb, ltb}
 use Rattle.refusal.specs.Choice.{pick}
-use Rattle.journal.specs.Table.{topOf, fieldsOf, padded}
+use Rattle.journal.specs.Table.{topOf, padded}
 use Rattle.text.specs.Names.{wordOf}
+use Rattle.text.specs.Fields.{fieldsFor}
 use Rattle.text.specs.Line.{isSigned}
 use Rattle.text.specs.Walk.{Item, item, fault, end}
 use Rattle.text.specs.declared.reading.Numeral.{Numeral}
@@ -19,7 +21,7 @@ leads [] t = true
 leads (x ∷ w) [] = false
 leads (x ∷ w) (y ∷ t) = eqb y x && leads w t
 
--- t begins with the name of the tag k; and the tag, of those from k on, whose name t begins with, or 0
+-- t begins with the name of the tag k; and the first tag, of the n from k on, whose name t begins with, or 0
 unfoldable pub isNamed : ℕ → List ℕ → Bool
 isNamed k t = ltb 0 (length (wordOf k)) && leads (wordOf k) t
 
@@ -27,8 +29,9 @@ unfoldable pub tagBy : ℕ → ℕ → List ℕ → ℕ
 tagBy zero k t = 0
 tagBy (suc n) k t = pick (isNamed k t) k (tagBy n (k + 1) t)
 
-unfoldable pub tagIn : List ℕ → ℕ
-tagIn t = tagBy 54 0x21 t
+-- from a first tag to below another
+unfoldable pub tagIn : ℕ → ℕ → List ℕ → ℕ
+tagIn from past t = tagBy (past - from) from t
 
 -- the digits that t begins with, and the number that its first n digits are
 abbrev pub isDigit : ℕ → Bool
@@ -92,11 +95,21 @@ readIn (f ∷ fs) t = pick (spacedIn f t .ok && readIn fs (drop (spacedIn f t .s
 abbrev pub closed : ℕ → ℕ → Read → List ℕ → ℕ → Item
 closed k n r t at = pick (ltb 0 k && (r .ok && eqb (getD t (n + r .size) 0) 10)) (item (k, r .values) (at + (n + r .size + 1))) fault
 
-unfoldable pub lineIn : List ℕ → ℕ → Item
-lineIn t at = closed (tagIn t) (length (wordOf (tagIn t))) (readIn (fieldsOf (tagIn t)) (drop (length (wordOf (tagIn t))) t)) t at
+unfoldable pub lineBy : ℕ → List ℕ → ℕ → Item
+lineBy k t at = closed k (length (wordOf k)) (readIn (fieldsFor k) (drop (length (wordOf k)) t)) t at
 
-unfoldable pub lineAt : List ℕ → ℕ → Item
-lineAt t at = pick (leb (length t) at) end (lineIn (drop at t) at)
+unfoldable pub lineIn : ℕ → ℕ → List ℕ → ℕ → Item
+lineIn from past t at = lineBy (tagIn from past t) t at
+
+unfoldable pub lineAt : ℕ → ℕ → List ℕ → ℕ → Item
+lineAt from past t at = pick (leb (length t) at) end (lineIn from past (drop at t) at)
+
+-- the tags of commands, and those of questions
+abbrev pub commandAt : List ℕ → ℕ → Item
+commandAt t at = lineAt 0x21 0x57 t at
+
+abbrev pub questionAt : List ℕ → ℕ → Item
+questionAt t at = lineAt 0x61 0x80 t at
 
 -- as the code has them
 abbrev pub numbersFor : ℕ → Read → Numbers

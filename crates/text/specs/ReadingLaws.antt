@@ -11,7 +11,7 @@ use lib.Seq.{drop-cons, drop-length, getD-drop}
 use lib.Dec.{eqb, leb, ltb}
 use borrow.Author.Tests.{eq-eqb, ne-eqb, eqb-true, lt-leb, leb-true, le-ltb, lt-ltb, ltb-true, ltb-false}
 use Rattle.refusal.specs.Choice.{pick}
-use Rattle.refusal.specs.ChoiceLaws.{pick-on, pick-off, on, off}
+use Rattle.refusal.specs.ChoiceLaws.{either, pick-on, pick-off, on, off}
 use Rattle.wire.specs.FieldLaws.{and-left, and-right}
 use Rattle.journal.specs.FieldLaws.{and-off}
 use Rattle.journal.specs.Table.{topOf}
@@ -58,33 +58,38 @@ lead-done w t i e = rw (e, drop-length w)
 
 -- ---- the tag
 
-pub tag-here : (t : List ℕ) (k : ℕ) → k < 87 → isNamed k t ≡ true → tagBy (87 - k) k t ≡ k
-unfolding tagBy
-tag-here t k h e = let n : 87 - k ≡ suc (87 - (k + 1)) = omega arith in rw n (pick-on _ _ e)
+module _ (past : ℕ) (t : List ℕ) (k : ℕ) where
+  pub tag-here : k < past → isNamed k t ≡ true → tagBy (past - k) k t ≡ k
+  unfolding tagBy
+  tag-here h e = let n : past - k ≡ suc (past - (k + 1)) = omega arith in rw n (pick-on _ _ e)
 
-pub tag-on : (t : List ℕ) (k : ℕ) → k < 87 → isNamed k t ≡ false → tagBy (87 - k) k t ≡ tagBy (87 - (k + 1)) (k + 1) t
-unfolding tagBy
-tag-on t k h e = let n : 87 - k ≡ suc (87 - (k + 1)) = omega arith in rw n (pick-off _ _ e)
+  pub tag-on : k < past → isNamed k t ≡ false → tagBy (past - k) k t ≡ tagBy (past - (k + 1)) (k + 1) t
+  unfolding tagBy
+  tag-on h e = let n : past - k ≡ suc (past - (k + 1)) = omega arith in rw n (pick-off _ _ e)
 
--- the name of the tag that is found stands there
-pick-named : (b : Bool) (k m : ℕ) (t : List ℕ) → (b ≡ true → isNamed k t ≡ true) → (0 < m → isNamed m t ≡ true) → 0 < pick b k m → isNamed (pick b k m) t ≡ true
-unfolding pick
-pick-named true k m t f g h = f refl
-pick-named false k m t f g h = g h
+  pub no-tag : past ≤ k → tagBy (past - k) k t ≡ 0
+  unfolding tagBy
+  no-tag h = let e : past - k ≡ 0 = omega arith in rw e
 
-named-by : (n k : ℕ) (t : List ℕ) → 0 < tagBy n k t → isNamed (tagBy n k t) t ≡ true
-unfolding tagBy
-named-by zero k t h = absurd (omega arith)
-named-by (suc n) k t h = pick-named (isNamed k t) k (tagBy n (k + 1) t) t (λ e. e) (λ z. named-by n (k + 1) t z) h
+-- the tag m that is found is one of the n from k on, and its name stands there
+pub record Among (n k : ℕ) (t : List ℕ) (m : ℕ) : Type 0 where
+  pub low : k ≤ m
+  pub high : m < k + n
+  pub word : 0 < length (wordOf m)
+  pub stands : leads (wordOf m) t ≡ true
 
-pub tag-named : (t : List ℕ) → 0 < tagIn t → (0 < length (wordOf (tagIn t))) × (leads (wordOf (tagIn t)) t ≡ true)
-unfolding tagIn isNamed
-tag-named t h =
-    let e = named-by 54 33 t h in
-    (ltb-true 0 (length (wordOf (tagIn t))) (and-left _ (leads (wordOf (tagIn t)) t) e), and-right (ltb 0 (length (wordOf (tagIn t)))) _ e)
+among : (n k : ℕ) (t : List ℕ) → 0 < tagBy n k t → Among n k t (tagBy n k t)
+unfolding tagBy isNamed
+among zero k t h = absurd (omega arith)
+among (suc n) k t h =
+    either (λ (m : ℕ). 0 < m → Among (suc n) k t m) (isNamed k t) k (tagBy n (k + 1) t)
+    (λ e z. record { low = omega arith; high = omega arith; word = ltb-true 0 (length (wordOf k)) (and-left _ (leads (wordOf k) t) e); stands = and-right (ltb 0 (length (wordOf k))) _ e })
+    (λ e z. let i = among n (k + 1) t z in record { low = omega arith; high = omega arith; word = i .word; stands = i .stands })
+    h
 
-pub tag-leads : (t : List ℕ) → 0 < tagIn t → leads (wordOf (tagIn t)) t ≡ true
-tag-leads t h = tag-named t h .1
+pub tag-among : (from past : ℕ) (t : List ℕ) {k : ℕ} → k ≡ tagIn from past t → 0 < k → Among (past - from) from t k
+unfolding tagIn
+tag-among from past t e h = rw e (among (past - from) from t (rw e at h))
 
 pub leads-room : (w t : List ℕ) → leads w t ≡ true → length w ≤ length t
 unfolding leads
@@ -203,10 +208,6 @@ module _ (k : ℕ) (t : List ℕ) where
   pub some-name : (length (wordOf k) ≡ 0 → ⊥) → leads (wordOf k) t ≡ isNamed k t
   unfolding isNamed
   some-name e = rw (lt-ltb 0 (length (wordOf k)) (omega (arith, e)))
-
-pub no-tag : (t : List ℕ) (k : ℕ) → 87 ≤ k → tagBy (87 - k) k t ≡ 0
-unfolding tagBy
-no-tag t k h = let e : 87 - k ≡ 0 = omega arith in rw e
 
 module _ (f : ℕ) (t : List ℕ) {r : Numeral} where
   pub plain-number : isSigned f ≡ false → r ≡ naturalIn (topOf f) t → r ≡ numeralIn f t

@@ -17,8 +17,9 @@ use Rattle.journal.specs.Faithful.{made-of}
 use Rattle.journal.specs.Canonical.{canonical}
 use Rattle.journal.specs.RoundTrip.{parts-back}
 use Rattle.journal.specs.ReadLaws.{at-end}
-use Rattle.text.specs.Names.{names, wordIn, wordOf}
-use Rattle.text.specs.NameLaws.{Each, _▸_, each}
+use Rattle.text.specs.Names.{commands, wordIn}
+use Rattle.text.specs.NameLaws.{Each, _▸_, each, is-command}
+use Rattle.text.specs.FieldLaws.{command-fields}
 use Rattle.text.specs.Walk.{item}
 use Rattle.text.specs.Text.{itemOf}
 use Rattle.text.specs.TextLaws.{onward}
@@ -27,8 +28,8 @@ use Rattle.text.specs.Trip.{Stands, Reads, Writes}
 use Rattle.text.specs.LineWay.{Good, partsIn, pastIn, isItem}
 
 -- each command's tag has a name
-tag-word : (c : Command) → 0 < length (wordOf (partsOf c .0))
-unfolding wordOf wordIn partsOf pick
+tag-word : (c : Command) → 0 < length (wordIn commands (partsOf c .0))
+unfolding wordIn partsOf pick
 tag-word (OpenAccount t c) = omega arith
 tag-word (Deposit t c a) = omega arith
 tag-word (Payout t c a) = omega arith
@@ -58,7 +59,7 @@ tag-word (SetSeats t s h x) = omega arith
 abbrev Makes : ℕ → Type 0
 Makes t = (xs : List ℕ) (at next : ℕ) → (c : Command) × (made t (named xs) at next ≡ found c next)
 
-all-make : Each Makes names
+all-make : Each Makes commands
 unfolding made madeIn pick
 all-make =
     (λ xs at next. (_, refl))
@@ -87,8 +88,8 @@ all-make =
     ▸ (λ xs at next. (_, refl))
     ▸ tt
 
-makes : (t : ℕ) → 0 < length (wordOf t) → Makes t
-makes t h = each Makes t all-make h
+makes : (t : ℕ) → 0 < length (wordIn commands t) → Makes t
+makes t h = each Makes commands t all-make h
 
 -- ---- what stands in a journal
 
@@ -98,7 +99,7 @@ stands-by s p (found c m) x n k e q =
     let w = canonical s p c m k e in
     let a : partsOf c ≡ x = ap partsIn q in
     let b : m ≡ n = ap pastIn q in
-    rw (← a) record { past = sym b ∙ w .past; bytes = w .bytes; good = (tag-word c, w .range) }
+    rw (← a) record { past = sym b ∙ w .past; bytes = w .bytes; good = (tag-word c, rw (command-fields (partsOf c .0) (is-command (partsOf c .0) (tag-word c))) (w .range)) }
 stands-by s p (refused m r) x n k e q = let z = ap isItem q in let y : _≡_ {A = ℕ} 0 1 = cc in absurd (omega arith)
 stands-by s p ended x n k e q = let z = ap isItem q in let y : _≡_ {A = ℕ} 0 1 = cc in absurd (omega arith)
 
@@ -129,9 +130,10 @@ record-back : (x : ℕ × List ℕ) (p r : List ℕ) → Good x → itemOf (read
 unfolding recordFor
 record-back x p r g =
     let n = length p + length (recordFor x) in
+    let o : Tops (fieldsOf (x .0)) (x .1) = rw (command-fields (x .0) (is-command (x .0) (g .0))) at (g .1) in
     let c = makes (x .0) (g .0) (byTag zeros (fieldsOf (x .0)) (x .1)) (length p) n in
-    let m = made-of (x .0) (length p) n n (x .1) (c .0) (tops-long (fieldsOf (x .0)) (x .1) (g .1)) (tops-small (fieldsOf (x .0)) (x .1) (g .1)) (c .1) in
-    ap itemOf (parts-back (x .0) (x .1) p r (g .1) ∙ c .1) ∙ ap (λ (y : ℕ × List ℕ). item y n) (m .1)
+    let m = made-of (x .0) (length p) n n (x .1) (c .0) (tops-long (fieldsOf (x .0)) (x .1) o) (tops-small (fieldsOf (x .0)) (x .1) o) (c .1) in
+    ap itemOf (parts-back (x .0) (x .1) p r o ∙ c .1) ∙ ap (λ (y : ℕ × List ℕ). item y n) (m .1)
 
 pub record-reads : Reads recordFor (λ (s : List ℕ) (p : ℕ). itemOf (readAt s p)) Good Bytes
 record-reads = record { ahead = onward; stands = λ s p x n k q. stands-by s p (readAt s p) x n k refl q }

@@ -1,6 +1,7 @@
 // Journals as text, one command a line, and back.
+mod fields;
 mod names;
-mod reading;
+pub mod reading;
 mod writing;
 
 use journal::Decoded;
@@ -118,7 +119,7 @@ fn tell_lines(s: &[u8], out: &mut [u8], ink: bool) -> Told
     let mut at: usize = 0;
     let mut k: usize = 0;
     while at < s.len() {
-        let x = reading::line_at(s, at);
+        let x = reading::line_at(s, at, 0x21, 0x57);
         if !x.ok {
             return Told {
                 pen,

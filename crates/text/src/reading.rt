@@ -1,8 +1,8 @@
-// From a line to its command's tag and numbers.
+// From a line to its tag and numbers.
+use crate::fields;
 use crate::names;
 use crate::writing;
 ghost use mathlib.Core.Path.{_≡_};
-ghost use mathlib.Core.Bool.{_&&_};
 ghost use Prim.Native.Nat.{_+_, _≤_, _<_};
 ghost use lib.ListN.{length, getD, take, drop};
 ghost use Rattle.text.specs.Walk.{fault};
@@ -22,12 +22,12 @@ pub(crate) struct Numbers {
     pub(crate) next: usize,
 }
 
-// A command's tag, its numbers, and the place past its line.
-pub(crate) struct Line {
-    pub(crate) ok: bool,
-    pub(crate) tag: u8,
-    pub(crate) values: [u64; 9],
-    pub(crate) next: usize,
+// The tag of a line, its numbers, and the place past it; or that none stands there.
+pub struct Line {
+    pub ok: bool,
+    pub tag: u8,
+    pub values: [u64; 9],
+    pub next: usize,
 }
 
 fn none() -> Numeral
@@ -50,8 +50,8 @@ fn byte(s: &[u8], p: usize) -> u8
     0
 }
 
-fn starts(s: &[u8], at: usize, n: usize, name: [u8; 17]) -> bool
-    requires { ⌜ (at ≤ length (now s)) × (n ≤ 17) ⌝ }
+fn starts(s: &[u8], at: usize, n: usize, name: [u8; 18]) -> bool
+    requires { ⌜ (at ≤ length (now s)) × (n ≤ 18) ⌝ }
     ensures { λ r. ⌜ r ≡ leads (take n name) (drop at (now (s .entry))) ⌝ }
 {
     let mut i: usize = 0;
@@ -80,13 +80,13 @@ fn named(s: &[u8], at: usize, k: u8) -> bool
     starts(s, at, size, name)
 }
 
-// The tag whose name stands there, or 0.
-fn tag_at(s: &[u8], at: usize) -> u8
+// The first tag from one to below another whose name stands there, or 0.
+fn tag_at(s: &[u8], at: usize, first: u8, past: u8) -> u8
     requires { ⌜ at ≤ length (now s) ⌝ }
-    ensures { λ r. ⌜ r ≡ tagIn (drop at (now (s .entry))) ⌝ }
+    ensures { λ r. ⌜ r ≡ tagIn first past (drop at (now (s .entry))) ⌝ }
 {
-    let mut k: u8 = 0x21;
-    while k < 0x57 {
+    let mut k = first;
+    while k < past {
         if named(s, at, k) {
             return k;
         }
@@ -206,17 +206,17 @@ fn no_line() -> Line
     }
 }
 
-// The line at a place.
-pub(crate) fn line_at(s: &[u8], at: usize) -> Line
+// The line at a place, of a tag from one to below another.
+pub fn line_at(s: &[u8], at: usize, first: u8, past: u8) -> Line
     requires { ⌜ at ≤ length (now s) ⌝ }
-    ensures { λ r. ⌜ r ≡ lineFor (lineIn (drop at (now (s .entry))) at) ⌝ }
+    ensures { λ r. ⌜ r ≡ lineFor (lineIn first past (drop at (now (s .entry))) at) ⌝ }
 {
-    let tag = tag_at(s, at);
+    let tag = tag_at(s, at, first, past);
     if tag == 0 {
         return no_line();
     }
     let word = names::word(tag);
-    let row = journal::table::fields(tag);
+    let row = fields::listed(tag);
     let tags = row.1;
     let x = numbers_at(s, at + word.0, row.0, tags);
     if !x.ok {

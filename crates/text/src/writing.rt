@@ -1,4 +1,5 @@
 // From a command's tag and numbers to its line.
+use crate::fields;
 use crate::names;
 use sheet::Pen;
 ghost use mathlib.Core.Path.{_≡_};
@@ -69,7 +70,7 @@ pub(crate) fn put_line(out: &mut [u8], pen: Pen, ink: bool, tag: u8, numbers: [u
     let size = word.0;
     let name = word.1;
     let put = sheet::put(out, pen, ink, &name[..size]);
-    let row = journal::table::fields(tag);
+    let row = fields::listed(tag);
     let tags = row.1;
     let q = put_numerals(out, put, ink, row.0, tags, numbers);
     sheet::put(out, q, ink, b"\n")

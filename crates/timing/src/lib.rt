@@ -1,4 +1,5 @@
 // What the benchmark runs: one call repeated on the book of a journal. What comes back only keeps the calls from being left out.
+use query::Answered;
 use query::LenderAnswer;
 use query::OfferAnswer;
 
@@ -61,6 +62,34 @@ pub extern "C" fn timing_sound(journal: &[u8], times: u64) -> u64 {
     for i in 0..times {
         if book.sound() {
             mixed = mixed ^ i;
+        }
+    }
+    mixed
+}
+
+// Answers the same questions again and again.
+#[no_mangle]
+pub extern "C" fn timing_answers(
+    journal: &[u8],
+    questions: &[u64],
+    out: &mut [u64],
+    times: u64,
+) -> u64 {
+    let o = replay::replay(journal);
+    let book = o.book;
+    let mut mixed: u64 = 0;
+    for i in 0..times {
+        let r = query::answers(book, questions, &mut *out);
+        match r {
+            Answered::Answers(n) => {
+                mixed = mixed ^ i ^ (n as u64);
+            }
+            Answered::Short => {
+                mixed = mixed ^ 14;
+            }
+            Answered::Unsound => {
+                mixed = mixed ^ 1;
+            }
         }
     }
     mixed

@@ -8,7 +8,7 @@ use side::Side;
 
 use crate::chance::Chance;
 use crate::coverage::Coverage;
-use crate::damage::{damaged, listings_differ, other_tags};
+use crate::damage::{answers_differ, damaged, listings_differ, other_tags};
 use crate::generate::{Generator, Plan};
 use crate::given::given;
 use crate::pair::{Pair, Start};
@@ -18,6 +18,7 @@ use crate::vectors::samples;
 #[derive(Default)]
 pub struct Report {
     pub samples: u64,
+    pub questions: u64,
     pub commands: u64,
     pub books: u64,
     pub given_books: u64,
@@ -52,11 +53,14 @@ pub fn compare(other: &mut dyn Side, seed: u64, commands: u64) -> (Report, Optio
     (report, found)
 }
 
-/// The listings of the fixed sample, the longest journal that the program holds among them.
+/// The listings of the fixed sample, the longest journal that the program holds among them, and the
+/// answers to its questions.
 fn compare_samples(other: &mut dyn Side, report: &mut Report) -> Option<Found> {
     for sample in samples() {
         report.samples += 1;
-        if let Some((one, two)) = listings_differ(other, &sample.bytes) {
+        report.questions += sample.questions.lines().count() as u64;
+        let listings = listings_differ(other, &sample.bytes);
+        if let Some((one, two)) = listings.or_else(|| answers_differ(other, &sample)) {
             return Some(Found::Bytes(sample.bytes, one, two));
         }
     }

@@ -5,12 +5,21 @@ use layer::Original;
 use side::Side;
 
 use crate::chance::Chance;
+use crate::vectors::Sample;
 
 /// The listings of both sides for these bytes, if they differ.
 pub fn listings_differ(other: &mut dyn Side, bytes: &[u8]) -> Option<(String, String)> {
     let one = Original::default().listing(bytes);
     let two = other.listing(bytes);
     let text = |listing: Vec<u8>| String::from_utf8_lossy(&listing).into_owned();
+    (one != two).then(|| (text(one), text(two)))
+}
+
+/// The answers of both sides to a sample's questions, if they differ.
+pub fn answers_differ(other: &mut dyn Side, sample: &Sample) -> Option<(String, String)> {
+    let one = Original::default().answers(&sample.bytes, &sample.questions);
+    let two = other.answers(&sample.bytes, &sample.questions);
+    let text = |answers: Result<String, String>| answers.unwrap_or_else(|fault| fault + "\n");
     (one != two).then(|| (text(one), text(two)))
 }
 

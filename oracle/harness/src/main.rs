@@ -17,6 +17,8 @@ const USAGE: &str = "usage:
       slip in the plain model, which must then be found
   harness replay FILE
       prints the original's listing of a journal
+  harness answer [--side plain] JOURNAL QUESTIONS
+      prints the original's answers to questions, or the plain model's, as the program ask does
   harness vectors [--check] DIR
       writes the sample of journals with the original's listings, or tests what is there";
 
@@ -26,6 +28,10 @@ fn main() -> ExitCode {
     let done = match words.as_slice() {
         ["compare", options @ ..] => compare_command(options),
         ["replay", file] => replay(file),
+        ["answer", "--side", "plain", journal, questions] => {
+            answer(&mut Plain::default(), journal, questions)
+        }
+        ["answer", journal, questions] => answer(&mut Original::default(), journal, questions),
         ["vectors", "--check", folder] => harness::vectors::check_folder(folder),
         ["vectors", folder] => harness::vectors::write(folder),
         _ => Err(USAGE.to_string()),
@@ -39,9 +45,19 @@ fn main() -> ExitCode {
     }
 }
 
+fn contents(file: &str) -> Result<Vec<u8>, String> {
+    std::fs::read(file).map_err(|error| format!("{file}: {error}"))
+}
+
 fn replay(file: &str) -> Result<(), String> {
-    let journal = std::fs::read(file).map_err(|error| format!("{file}: {error}"))?;
-    print!("{}", Original::default().replay(&journal));
+    print!("{}", Original::default().replay(&contents(file)?));
+    Ok(())
+}
+
+fn answer(side: &mut dyn Side, journal: &str, questions: &str) -> Result<(), String> {
+    let text = String::from_utf8(contents(questions)?);
+    let text = text.map_err(|error| format!("{questions}: {error}"))?;
+    print!("{}", side.answers(&contents(journal)?, &text)?);
     Ok(())
 }
 
@@ -121,9 +137,10 @@ fn told(other: &mut dyn Side, found: Found) -> String {
 
 fn print_report(report: &Report, seed: u64, name: &str) {
     println!(
-        "{} commands compared with {name}, seed {seed}: {} journals of the sample, {} books, {} of them from given rows, {} queries, {} damaged journals, {:.1} s",
+        "{} commands compared with {name}, seed {seed}: {} journals of the sample with {} questions, {} books, {} of them from given rows, {} queries, {} damaged journals, {:.1} s",
         report.commands,
         report.samples,
+        report.questions,
         report.books,
         report.given_books,
         report.queries,

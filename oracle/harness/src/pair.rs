@@ -2,7 +2,7 @@
 
 use journal::Command;
 use layer::{Original, Verdict};
-use side::{Book, Query, Reply, Side};
+use side::{Book, Offer, Query, Reply, Side};
 
 use crate::questions::questions;
 
@@ -129,7 +129,7 @@ impl<'a> Pair<'a> {
         second.resize(reply.written + 2, UNTOUCHED);
         let other = self.other.ask(query, second);
         let past = second.split_off(reply.written);
-        if wide_quotient(&self.book, query) && first[0] != 0 {
+        if about_wide_quotient(&self.book, query) && first[0] != 0 {
             self.met.wide_quotients += 1;
             first[0] = 0;
         }
@@ -169,13 +169,16 @@ fn shown(reply: Reply, numbers: &[u64]) -> String {
     }
 }
 
+/// Whether the query is about such an offer.
+fn about_wide_quotient(book: &Book, query: Query) -> bool {
+    let Query::Due(id, _) = query else { return false };
+    book.offers.iter().any(|offer| offer.id == id && wide_quotient(offer))
+}
+
 /// Whether the due rule's paid quotient is 2^32 or more, where the port's answer is 0 since no
 /// schedule has so many installments.
-fn wide_quotient(book: &Book, query: Query) -> bool {
-    let Query::Due(id, _) = query else { return false };
-    let offer = book.offers.iter().find(|offer| offer.id == id);
-    let schedule = offer.and_then(|offer| offer.schedule.map(|schedule| (offer, schedule)));
-    schedule.is_some_and(|(offer, schedule)| offer.repaid / schedule.installment >= 1 << 32)
+pub fn wide_quotient(offer: &Offer) -> bool {
+    offer.schedule.is_some_and(|schedule| offer.repaid / schedule.installment >= 1 << 32)
 }
 
 fn books_differ(original: &Book, other: Option<&Book>, name: &str) -> String {

@@ -146,6 +146,11 @@ impl Side for Original {
     fn listing(&mut self, journal: &[u8]) -> Vec<u8> {
         self.replay(journal).into_bytes()
     }
+
+    fn answers(&mut self, journal: &[u8], questions: &str) -> Result<String, String> {
+        self.replay(journal);
+        side::answered(self, questions)
+    }
 }
 
 impl Original {

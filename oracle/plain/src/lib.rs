@@ -5,6 +5,7 @@
 //! the book, which is dropped if the command is refused.
 
 mod admin;
+mod asking;
 mod money;
 mod negotiation;
 mod offers;
@@ -205,5 +206,10 @@ impl Side for Plain {
     fn listing(&mut self, journal: &[u8]) -> Vec<u8> {
         self.reset();
         reading::listing(self, journal).into_bytes()
+    }
+
+    fn answers(&mut self, journal: &[u8], questions: &str) -> Result<String, String> {
+        self.reset();
+        asking::answers(self, journal, questions)
     }
 }

@@ -11,6 +11,9 @@ use side::{Query, Reply, Side, PROGRAM_HOLDS, TOO_LONG};
 /// Names the command that starts the program, its words parted by spaces.
 pub const COMMAND: &str = "SOLGAVERNA_BRIDGE";
 
+const HEADER: [u8; 5] = [0x10, 0, 2, 0, 1];
+const MALFORMED: u64 = 13;
+
 pub struct Port {
     pipe: RefCell<Pipe>,
     /// The book after the last command, which its answer brings along.
@@ -21,6 +24,20 @@ impl Port {
     pub fn start(command: &str) -> Result<Port, String> {
         let pipe = Pipe::start(command).map_err(|error| format!("{command}: {error}"))?;
         Ok(Port { pipe: RefCell::new(pipe), shown: None })
+    }
+
+    /// Replays a journal record by record up to its end or a malformed one, and keeps the book.
+    fn replay(&mut self, journal: &[u8]) {
+        self.reset();
+        let Some(mut rest) = journal.strip_prefix(&HEADER) else { return };
+        while let [_, high, low, ..] = *rest {
+            let length = 3 + usize::from(u16::from_be_bytes([high, low]));
+            let Some((record, after)) = rest.split_at_checked(length) else { return };
+            if self.apply(record) == MALFORMED {
+                return;
+            }
+            rest = after;
+        }
     }
 
     fn list(&mut self, query: Query, out: &mut [u64]) -> Reply {
@@ -96,6 +113,11 @@ impl Side for Port {
         pipe.send_large(journal);
         let length = pipe.answer()[0] as usize;
         pipe.bytes(length)
+    }
+
+    fn answers(&mut self, journal: &[u8], questions: &str) -> Result<String, String> {
+        self.replay(journal);
+        side::answered(self, questions)
     }
 
     fn one_in(&self) -> usize {

@@ -1,10 +1,12 @@
 //! What a side of the comparison is: a book that takes records and shows its whole state.
 
+mod asking;
 mod flat;
 mod listing;
 mod query;
 mod rows;
 
+pub use asking::answered;
 pub use listing::{answer_line, malformed_line, tables, PROGRAM_HOLDS, TOO_LONG};
 pub use query::{Query, Reply};
 pub use rows::{Account, Book, Invoice, Offer, Round, Schedule, Totals};
@@ -33,6 +35,11 @@ pub trait Side {
 
     /// The whole output of the replay program for these input bytes, from a fresh book.
     fn listing(&mut self, journal: &[u8]) -> Vec<u8>;
+
+    /// The whole output of the program `ask` for this journal and these lines of questions: the
+    /// book that the journal leaves answers, a malformed one as after the record before. `Err`
+    /// names a line that is no question.
+    fn answers(&mut self, journal: &[u8], questions: &str) -> Result<String, String>;
 
     /// One in so many of the queries is asked after each command, the next one after the next
     /// command: more than 1 for a side to which every question is a long way.

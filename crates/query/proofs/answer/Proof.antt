@@ -11,8 +11,8 @@ use Rattle.totals.specs.declared.Totals.{Totals}
 use Rattle.settings.specs.declared.Settings.{Settings}
 use Rattle.rules.specs.Model.{Model}
 use Rattle.query.specs.Numbers.{lenderNumbers, totalsNumbers, dueIn, flag}
-use Rattle.query.specs.Reads.{lenderOrder, totalsOrder, scheduleValues}
-use Rattle.query.specs.Questions.{readIn, readOf, replyTo, twelve, purseOrder, offerRule}
+use Rattle.query.specs.Reads.{dealRead, lenderOrder, totalsOrder, scheduleValues}
+use Rattle.query.specs.Questions.{readIn, readOf, replyTo, twelve, purseOrder}
 use Rattle.query.specs.QuestionLaws.{by-code, by-sure, by-none}
 use Rattle.query.proofs.answer.Statement.{statement}
 use Rattle.query.proofs.answer.Tie as tie
@@ -24,7 +24,7 @@ value k s m v e w q = by-sure (s .args .code) (s .args .id) (s .args .time) m k 
 
 returns : tie.Need-returns
 unfolding readOf readIn pick
-returns c m s = by-code (c .before .before .args .code) (c .before .before .args .id) (c .before .before .args .time) m 1 (offerRule (c .before .before .args .id) (c .before .before .args .deal)) (c .before .match .keys1) (c .offer-words .ensures) (ap (λ (d : SeenDeal). offerRule (c .before .before .args .id) d) (s .deal-seen))
+returns c m s = by-code (c .before .before .args .code) (c .before .before .args .id) (c .before .before .args .time) m 1 (dealRead (c .before .before .args .id) (c .before .before .args .deal)) (c .before .match .keys1) (c .offer-words .ensures) (ap (λ (d : SeenDeal). dealRead (c .before .before .args .id) d) (s .deal-seen))
 
 returns-2 : tie.Need-returns-2
 unfolding readOf readIn pick

@@ -1,7 +1,9 @@
-//! The fixed sample: journals with the original's listings, as files that are replayed where no
-//! Rust is at hand.
+//! The fixed sample: journals with the original's listings, and questions about them with the
+//! original's answers, as files that are replayed where no Rust is at hand.
 
 mod malformed;
+mod met;
+mod questions;
 mod samples;
 
 use std::collections::BTreeSet;
@@ -11,9 +13,13 @@ use journal::{Command, Step as Read, HEADER, SESSION_LISTING};
 use layer::{Original, Source, Verdict};
 
 use crate::coverage::ALLOWED;
+use crate::damage::answers_differ;
 use crate::script::{steps, Step};
+use met::unmet;
+use plain::Plain;
 use samples::SCRIPTS;
 pub use samples::{samples, Sample};
+use side::Side;
 
 /// Answers that document 01 allows and that no journal of 32,768 bytes reaches: balances and
 /// totals near 4×10^15 and a count near 1,000,000. The comparison starts from given rows there.
@@ -35,17 +41,41 @@ fn answers(bytes: &[u8]) -> Vec<(Command, Verdict)> {
     answers
 }
 
-/// The files of the sample: NAME.journal and NAME.listing for every journal, and a table of them.
+/// The files of the sample: NAME.journal and NAME.listing for every journal, NAME.questions and
+/// NAME.answers for some, and a table of them.
 fn files() -> Result<Vec<(String, Vec<u8>)>, String> {
     let samples = samples();
     check(&samples)?;
+    let answers = check_answers(&samples)?;
     let mut files = vec![("INDEX.md".to_string(), index(&samples).into_bytes())];
-    for sample in samples {
+    for (sample, answers) in samples.into_iter().zip(answers) {
+        let name = sample.name;
         let listing = Original::default().replay(&sample.bytes);
-        files.push((format!("{}.listing", sample.name), listing.into_bytes()));
-        files.push((format!("{}.journal", sample.name), sample.bytes));
+        files.push((format!("{name}.listing"), listing.into_bytes()));
+        files.push((format!("{name}.journal"), sample.bytes));
+        if !sample.questions.is_empty() {
+            files.push((format!("{name}.questions"), sample.questions.into_bytes()));
+            files.push((format!("{name}.answers"), answers.into_bytes()));
+        }
     }
     Ok(files)
+}
+
+/// The original's answers to each sample's questions. The plain model must give the same, and
+/// together they hold every answer that is owed.
+fn check_answers(samples: &[Sample]) -> Result<Vec<String>, String> {
+    let mut all = Vec::new();
+    for sample in samples {
+        if let Some((one, two)) = answers_differ(&mut Plain::default(), sample) {
+            let name = &sample.name;
+            return Err(format!("{name}: the original answers\n{one}the plain model\n{two}"));
+        }
+        all.push(Original::default().answers(&sample.bytes, &sample.questions)?);
+    }
+    match unmet(samples, &all) {
+        Some(unmet) => Err(unmet),
+        None => Ok(all),
+    }
 }
 
 /// Writes the sample into a folder.
@@ -121,9 +151,10 @@ fn index(samples: &[Sample]) -> String {
             answers.iter().filter(|(_, verdict)| sources.contains(&verdict.source)).count()
         };
         out += &format!(
-            "| {} | {} | {} | {} | {} | {} | {} |\n",
+            "| {} | {} | {} | {} | {} | {} | {} | {} |\n",
             sample.name,
             sample.bytes.len(),
+            sample.questions.lines().count(),
             by(&[Source::Accepted]),
             by(&[Source::Code]),
             by(&[Source::Assert, Source::Other]),
@@ -137,20 +168,23 @@ fn index(samples: &[Sample]) -> String {
 const INDEX_HEAD: &str = "# Journals with the original's listings
 
 Made by `cargo run --release -p harness -- vectors DIR` in oracle/, from the original's text and no
-other book. NAME.journal is the replay program's input, NAME.listing everything that it prints.
+other book. NAME.journal is the replay program's input, NAME.listing everything that it prints;
+NAME.questions is the input of the program ask, which answers from that journal, NAME.answers
+everything that it prints.
 
-The answers of each journal, by where they come from: accepted by the original; refused with the
+The answers to the commands of each journal, by where they come from: accepted by the original; refused with the
 original's own code; refused by a bare assert of the original or by another contract, where it has no
 code and the number is document 01's for that test; refused by a rule that only the port has. Lines
 with 13 or 14 are the journal's and not counted.
 
-| journal | bytes | accepted | own code | no code | port | what |
-|---|---|---|---|---|---|---|
+| journal | bytes | questions | accepted | own code | no code | port | what |
+|---|---|---|---|---|---|---|---|
 ";
 
 #[cfg(test)]
 mod test {
     use super::*;
+    use crate::damage::listings_differ;
 
     #[test]
     fn the_sample_holds_what_it_is_for() {
@@ -167,8 +201,22 @@ mod test {
     }
 
     #[test]
+    fn the_plain_model_answers_the_same() {
+        assert_eq!(check_answers(&samples()).map(drop), Ok(()));
+    }
+
+    #[test]
+    fn a_slip_that_only_answers_show_is_seen() {
+        let mut slipped = Plain::with_slip(Some(plain::Slip::DefaultedActive));
+        let samples = samples();
+        assert!(samples
+            .iter()
+            .all(|sample| listings_differ(&mut slipped, &sample.bytes).is_none()));
+        assert!(samples.iter().any(|sample| answers_differ(&mut slipped, sample).is_some()));
+    }
+
+    #[test]
     fn the_plain_model_lists_the_same() {
-        use side::Side;
         for sample in samples() {
             let plain = plain::Plain::default().listing(&sample.bytes);
             let original = Original::default().replay(&sample.bytes);

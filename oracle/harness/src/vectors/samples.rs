@@ -4,16 +4,19 @@ use journal::{journal, session, Command, HEADER};
 use layer::Original;
 use side::Book;
 
+use super::answers;
 use super::malformed::malformed;
+use super::questions::{is_asked, questions};
 use crate::chance::Chance;
 use crate::generate::{Generator, Plan};
 use crate::script::{steps, Step};
 
-/// A journal and what it is for.
+/// A journal, what it is for and the questions about it, if any.
 pub struct Sample {
     pub name: String,
     pub what: String,
     pub bytes: Vec<u8>,
+    pub questions: String,
 }
 
 macro_rules! scripts {
@@ -34,7 +37,8 @@ scripts! {
 }
 
 pub(super) fn sample(name: &str, what: &str, bytes: Vec<u8>) -> Sample {
-    Sample { name: name.to_string(), what: what.to_string(), bytes }
+    let (name, what) = (name.to_string(), what.to_string());
+    Sample { name, what, bytes, questions: String::new() }
 }
 
 /// Every sample, in the order in which they are written.
@@ -48,7 +52,21 @@ pub fn samples() -> Vec<Sample> {
     samples.extend(malformed());
     samples.extend(generated());
     samples.extend(sizes());
+    for sample in samples.iter_mut().filter(|sample| is_asked(&sample.name)) {
+        sample.questions = asked(sample);
+    }
     samples
+}
+
+/// Questions about the book that the original has after a journal. The name is the seed, so that a
+/// sample's questions do not hang on those before it.
+fn asked(sample: &Sample) -> String {
+    let mut original = Original::default();
+    original.replay(&sample.bytes);
+    let now = answers(&sample.bytes).last().map_or(0, |(command, _)| command.now());
+    let bytes = sample.name.bytes();
+    let seed = bytes.fold(0u64, |seed, byte| seed.wrapping_mul(31).wrapping_add(byte.into()));
+    questions(&original.book(), now, &mut Chance::new(seed))
 }
 
 fn commands(steps: &[Step]) -> Vec<Command> {

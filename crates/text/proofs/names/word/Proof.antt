@@ -1,45 +1,15 @@
-use mathlib.Core.Path.{_≡_, sym, ap}
-use Prim.Native.Nat.{ℕ}
-use Rattle.refusal.specs.Choice.{pick}
-use Rattle.text.specs.Names.{wordIn, wordOf, spelt}
-use Rattle.text.specs.NameLaws.{no-word}
+use mathlib.Core.Path.{sym, ap, _∙_}
+use borrow.Author.Needs.{needs}
+use Rattle.text.specs.Names.{spelt}
+use Rattle.text.specs.NameLaws.{command-word, question-word}
 use Rattle.text.proofs.names.word.Statement.{statement}
 use Rattle.text.proofs.names.word.Tie as tie
 
--- in the arm of a tag
-at : (k : ℕ) {t : ℕ} → t ≡ k → spelt (wordOf k) ≡ spelt (wordOf t)
-at k e = ap (λ (t : ℕ). spelt (wordOf t)) (sym e)
+returns : tie.Need-returns
+returns c = c .command .ensures ∙ ap spelt (sym (command-word _ (sym (c .before .before .is-command .ensures) ∙ c .before .if1 .taken)))
 
-rest : tie.Need-returns-25
-rest c = ap spelt (sym (no-word (c .before .before .before .args .tag) (c .before .before .match .rest)))
+returns-2 : tie.Need-returns-2
+returns-2 c = c .question .ensures ∙ ap spelt (sym (question-word _ (sym (c .before .before .is-command .ensures) ∙ c .before .if1 .left)))
 
 pub word-spec : {M : Type 1} → statement M
-unfolding wordOf wordIn pick
-word-spec =
-    tie.close
-    (tie.spec
-    (λ c. at 0x21 (c .before .before .match .keys1))
-    (λ c. at 0x22 (c .before .before .match .keys2))
-    (λ c. at 0x23 (c .before .before .match .keys3))
-    (λ c. at 0x24 (c .before .before .match .keys4))
-    (λ c. at 0x25 (c .before .before .match .keys5))
-    (λ c. at 0x26 (c .before .before .match .keys6))
-    (λ c. at 0x31 (c .before .before .match .keys7))
-    (λ c. at 0x32 (c .before .before .match .keys8))
-    (λ c. at 0x33 (c .before .before .match .keys9))
-    (λ c. at 0x34 (c .before .before .match .keys10))
-    (λ c. at 0x35 (c .before .before .match .keys11))
-    (λ c. at 0x36 (c .before .before .match .keys12))
-    (λ c. at 0x37 (c .before .before .match .keys13))
-    (λ c. at 0x38 (c .before .before .match .keys14))
-    (λ c. at 0x41 (c .before .before .match .keys15))
-    (λ c. at 0x42 (c .before .before .match .keys16))
-    (λ c. at 0x43 (c .before .before .match .keys17))
-    (λ c. at 0x44 (c .before .before .match .keys18))
-    (λ c. at 0x51 (c .before .before .match .keys19))
-    (λ c. at 0x52 (c .before .before .match .keys20))
-    (λ c. at 0x53 (c .before .before .match .keys21))
-    (λ c. at 0x54 (c .before .before .match .keys22))
-    (λ c. at 0x55 (c .before .before .match .keys23))
-    (λ c. at 0x56 (c .before .before .match .keys24))
-    rest)
+word-spec = tie.close (tie.spec (λ c κs. search needs) (λ c κs. search needs) returns (λ c κs. search needs) returns-2)

@@ -1,5 +1,4 @@
 use mathlib.Core.Path.{_≡_, sym, ap, _∙_}
-use mathlib.Core.Bool.{true}
 use mathlib.Core.List.{List}
 use Prim.Native.Nat.{ℕ, _+_, _≤_, _<_}
 use native.Mathlib.Omega.{arith}
@@ -7,13 +6,15 @@ use lib.ListN.{length, getD, take, drop, length-drop}
 use lib.Seq.{drop-drop, getD-drop}
 use borrow.Author.Needs.{needs}
 use borrow.Author.Tests.{not-true, not-false}
-use Rattle.journal.specs.Table.{fieldsOf, padded}
-use Rattle.journal.specs.TableLaws.{few, take-padded}
+use Rattle.journal.specs.Table.{padded}
+use Rattle.journal.specs.TableLaws.{take-padded}
 use Rattle.journal.specs.declared.table.Listed.{Listed}
 use Rattle.text.specs.Names.{wordOf}
-use Rattle.text.specs.Reading.{leads, tagIn, Read, readIn, numbersFor, lineFor}
-use Rattle.text.specs.ReadingLaws.{there, tag-leads, leads-room}
-use Rattle.text.specs.LineReads.{numbersThere, nameless, numberless, endless, lined}
+use Rattle.text.specs.Fields.{fieldsFor}
+use Rattle.text.specs.FieldLaws.{few-fields}
+use Rattle.text.specs.Reading.{tagIn, Read, readIn, lineBy, lineIn, numbersFor, lineFor}
+use Rattle.text.specs.ReadingLaws.{there, tag-among, leads-room}
+use Rattle.text.specs.LineReads.{numbersThere, nameless, numberless, endless, lined, by-tag}
 use Rattle.text.specs.declared.names.Spelling.{Spelling}
 use Rattle.text.specs.declared.reading.Numbers.{Numbers}
 use Rattle.text.proofs.reading.line_at.Statement.{statement}
@@ -26,8 +27,17 @@ tag c = c .before .before .tag-at .result
 abbrev bytes : tie.After-word → List ℕ
 bytes c = drop (c .before .before .before .before .args .at) (c .before .before .before .before .args .s .now)
 
-found : (c : tie.After-word) → tag c ≡ tagIn (bytes c)
+abbrev first : tie.After-word → ℕ
+first c = c .before .before .before .before .args .first
+
+abbrev past : tie.After-word → ℕ
+past c = c .before .before .before .before .args .past
+
+found : (c : tie.After-word) → tag c ≡ tagIn (first c) (past c) (bytes c)
 found c = c .before .before .tag-at .ensures
+
+here : (c : tie.After-word) → lineBy (tag c) (bytes c) (c .before .before .before .before .args .at) ≡ lineIn (first c) (past c) (bytes c) (c .before .before .before .before .args .at)
+here c = by-tag _ _ _ _ (found c)
 
 size-is : (c : tie.After-word) → c .word .result .0 ≡ length (wordOf (tag c))
 size-is c = ap (λ (r : Spelling). r .0) (c .word .ensures)
@@ -37,36 +47,36 @@ room : (c : tie.After-word) → c .before .before .before .before .args .at + c 
 room c =
     let s = c .before .before .before .before in
     let p : 0 < tag c = omega (arith, c .before .if1 .left) in
-    let l : leads (wordOf (tag c)) (bytes c) ≡ true = rw (found c) (tag-leads (bytes c) (rw (found c) at p)) in
-    omega (arith, size-is c, leads-room (wordOf (tag c)) (bytes c) l, length-drop (s .args .at) (s .args .s .now), s .pre)
+    let m = tag-among (first c) (past c) (bytes c) (found c) p in
+    omega (arith, size-is c, leads-room (wordOf (tag c)) (bytes c) (m .stands), length-drop (s .args .at) (s .args .s .now), s .pre)
 
 abbrev there-is : (c : tie.After-numbers-at) → Read
-there-is c = let w = c .before .before .before .before in numbersThere (bytes w) (w .before .before .before .before .args .at) (found w)
+there-is c = let w = c .before .before .before .before in numbersThere (tag w) (bytes w) (w .before .before .before .before .args .at)
 
 read : (c : tie.After-numbers-at) → c .numbers-at .result ≡ numbersFor (c .before .before .before .before .before .before .before .before .args .at + length (wordOf (tag (c .before .before .before .before)))) (there-is c)
 read c =
     let w = c .before .before .before .before in
     let s = w .before .before .before .before in
-    let f = c .before .before .before .fields .ensures in
+    let f = c .before .before .before .listed .ensures in
     let b = drop (s .args .at + w .word .result .0) (s .args .s .now) in
     c .numbers-at .ensures
     ∙ ap (λ (r : Listed). numbersFor (s .args .at + w .word .result .0) (readIn (take (r .0) (r .1)) b)) f
-    ∙ ap (λ (l : List ℕ). numbersFor (s .args .at + w .word .result .0) (readIn l b)) (take-padded (fieldsOf (tag w)))
-    ∙ ap (λ (n : ℕ). numbersFor (s .args .at + n) (readIn (fieldsOf (tag w)) (drop (s .args .at + n) (s .args .s .now)))) (size-is w)
-    ∙ ap (λ (l : List ℕ). numbersFor (s .args .at + length (wordOf (tag w))) (readIn (fieldsOf (tag w)) l)) (sym (drop-drop (length (wordOf (tag w))) (s .args .at) (s .args .s .now)))
+    ∙ ap (λ (l : List ℕ). numbersFor (s .args .at + w .word .result .0) (readIn l b)) (take-padded (fieldsFor (tag w)))
+    ∙ ap (λ (n : ℕ). numbersFor (s .args .at + n) (readIn (fieldsFor (tag w)) (drop (s .args .at + n) (s .args .s .now)))) (size-is w)
+    ∙ ap (λ (l : List ℕ). numbersFor (s .args .at + length (wordOf (tag w))) (readIn (fieldsFor (tag w)) l)) (sym (drop-drop (length (wordOf (tag w))) (s .args .at) (s .args .s .now)))
 
 returns : tie.Need-returns
-returns c = c .no-line .ensures ∙ ap lineFor (nameless _ _ (c .before .before .tag-at .ensures) (c .before .if1 .taken))
+returns c = c .no-line .ensures ∙ ap lineFor (nameless _ _ _ (c .before .if1 .taken) ∙ by-tag _ _ _ _ (c .before .before .tag-at .ensures))
 
 numbers-at-requires : tie.Need-numbers-at-requires
 numbers-at-requires c κs =
     let w = c .before .before .before in
-    (room w, omega (arith, ap (λ (r : Listed). r .0) (c .before .before .fields .ensures), few (tag w)))
+    (room w, omega (arith, ap (λ (r : Listed). r .0) (c .before .before .listed .ensures), few-fields (tag w)))
 
 returns-2 : tie.Need-returns-2
 returns-2 c =
     let d = c .before .before .before in
-    c .no-line2 .ensures ∙ ap lineFor (numberless _ _ (found (d .before .before .before .before)) (ap (λ (x : Numbers). x .ok) (sym (read d)) ∙ not-true _ (c .before .if2 .taken)))
+    c .no-line2 .ensures ∙ ap lineFor (numberless _ _ _ (ap (λ (x : Numbers). x .ok) (sym (read d)) ∙ not-true _ (c .before .if2 .taken)) ∙ here (d .before .before .before .before))
 
 -- the byte past the numbers
 last : (c : tie.After-byte) → getD (bytes (c .before .before .before .before .before .before .before)) (length (wordOf (tag (c .before .before .before .before .before .before .before))) + there-is (c .before .before .before) .size) 0 ≡ c .byte .result
@@ -81,7 +91,7 @@ last c =
 returns-3 : tie.Need-returns-3
 returns-3 c =
     let b = c .before .before in
-    c .no-line3 .ensures ∙ ap lineFor (endless _ _ (found (b .before .before .before .before .before .before .before)) (λ e. c .before .if3 .taken (sym (last b) ∙ e)))
+    c .no-line3 .ensures ∙ ap lineFor (endless _ _ _ (λ e. c .before .if3 .taken (sym (last b) ∙ e)) ∙ here (b .before .before .before .before .before .before .before))
 
 returns-4 : tie.Need-returns-4
 returns-4 c =
@@ -93,7 +103,7 @@ returns-4 c =
     let x = d .numbers-at .result in
     let v : x .values ≡ padded (there-is d .values) = ap (λ (y : Numbers). y .values) (read d) in
     let e : x .next + 1 ≡ s .args .at + (n + there-is d .size + 1) = omega (arith, ap (λ (y : Numbers). y .next) (read d)) in
-    let z = lined _ _ (found w) (w .before .if1 .left) (ap (λ (y : Numbers). y .ok) (sym (read d)) ∙ not-false _ (b .before .if2 .left)) (last b ∙ c .before .before .if3 .left) in
+    let z = lined _ _ _ (w .before .if1 .left) (ap (λ (y : Numbers). y .ok) (sym (read d)) ∙ not-false _ (b .before .if2 .left)) (last b ∙ c .before .before .if3 .left) ∙ here w in
     rw (v, e) (ap lineFor z)
 
 pub line-at-spec : {M : Type 1} → statement M

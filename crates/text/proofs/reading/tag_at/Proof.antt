@@ -1,5 +1,5 @@
 use mathlib.Core.Path.{_≡_, refl, sym, _∙_}
-use Prim.Native.Nat.{_-_, _≤_}
+use Prim.Native.Nat.{_-_}
 use native.Mathlib.Omega.{arith}
 use lib.ListN.{drop}
 use Rattle.text.specs.Reading.{tagBy, tagIn}
@@ -8,27 +8,27 @@ use Rattle.text.proofs.reading.tag_at.Statement.{statement}
 use Rattle.text.proofs.reading.tag_at.Tie as tie
 
 abbrev Inv-loop : tie.InvT-loop
-Inv-loop s at k₀ k = (k ≤ 87) × (tagIn (drop at s) ≡ tagBy (87 - k) k (drop at s))
+Inv-loop s at first past k₀ k = tagIn first past (drop at s) ≡ tagBy (past - k) k (drop at s)
 
 abbrev μ-loop : tie.MeasureT-loop
-μ-loop s at k₀ k = 87 - k
+μ-loop s at first past k₀ k = past - k
 
 loop-holds : tie.Need-loop-holds Inv-loop μ-loop
 unfolding tagIn
-loop-holds c = (omega arith, refl)
+loop-holds c = refl
 
 returns : tie.Need-returns Inv-loop μ-loop
 returns c =
     let l = c .before .before .before .loop in
-    sym (l .inv .1 ∙ tag-here _ (l .k) (c .before .before .loop-test .taken) (sym (c .before .named .ensures) ∙ c .if1 .taken))
+    sym (l .inv ∙ tag-here _ _ (l .k) (c .before .before .loop-test .taken) (sym (c .before .named .ensures) ∙ c .if1 .taken))
 
 loop-again : tie.Need-loop-again Inv-loop μ-loop
 loop-again c =
     let l = c .before .before .before .loop in
-    (omega (arith, c .before .before .loop-test .taken), l .inv .1 ∙ tag-on _ (l .k) (c .before .before .loop-test .taken) (sym (c .before .named .ensures) ∙ c .if1 .left))
+    l .inv ∙ tag-on _ _ (l .k) (c .before .before .loop-test .taken) (sym (c .before .named .ensures) ∙ c .if1 .left)
 
 returns-2 : tie.Need-returns-2 Inv-loop μ-loop
-returns-2 c = let l = c .before .loop in sym (l .inv .1 ∙ no-tag _ (l .k) (c .loop-test .left))
+returns-2 c = let l = c .before .loop in sym (l .inv ∙ no-tag _ _ (l .k) (c .loop-test .left))
 
 pub tag-at-spec : {M : Type 1} → statement M
 tag-at-spec =

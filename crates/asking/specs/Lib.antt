@@ -1,0 +1,5 @@
+pub mod Answers
+pub mod AnswerLaws
+pub mod Questions
+pub mod QuestionLaws
+pub mod ReplyLaws
