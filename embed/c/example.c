@@ -1,4 +1,4 @@
-/* The session of the README from its text: a journal, its listing, the lender's figures and the offer. */
+/* The session of the README from its text: a journal, its listing, the lender's figures and the offer, and questions. */
 #include <stdio.h>
 #include <string.h>
 
@@ -15,6 +15,51 @@ static const char session[] =
     "amend 100 1 20 900 500 86400 0\n"
     "amend 100 1 20 900 500 86400 1\n"
     "accept 100 2 20\n";
+
+static const char questions[] =
+    "offer 20\n"
+    "negotiation 20\n"
+    "schedule 20\n"
+    "active 1\n"
+    "offer 21\n";
+
+static const uint64_t lookups[] = {
+    SOLGAVERNA_LOOKUP_ACCOUNT, 2, 0,
+    SOLGAVERNA_LOOKUP_DEADLINE, 20, 0,
+    SOLGAVERNA_LOOKUP_NEGOTIATION_STATUS, 20, 100,
+    SOLGAVERNA_LOOKUP_OFFER, 21, 0,
+};
+
+static const char misspelt[] =
+    "count\n"
+    "ofer 20\n";
+
+/* How many bytes of text the questions' answers are. */
+static int64_t ask(const uint8_t *journal, size_t size, const char *asked, uint8_t *out, size_t room) {
+    return solgaverna_ask(journal, size, (const uint8_t *)asked, strlen(asked), out, room);
+}
+
+/* Asks in text, and by lookups, whose answers are printed as lines: 0 or a refusal, and the values. */
+static int print_answers(const uint8_t *journal, size_t size) {
+    static uint8_t text[1024];
+    uint64_t words[48];
+    int64_t written = ask(journal, size, questions, text, sizeof text);
+    if (written < 0 || ask(journal, size, misspelt, text, sizeof text) != -13 ||
+        solgaverna_answers(journal, size, lookups, 12, words, 48) != 4) {
+        fprintf(stderr, "refused\n");
+        return 1;
+    }
+    fwrite(text, 1, written, stdout);
+    for (const uint64_t *answer = words; answer < words + 48; answer += 12) {
+        printf("%llu", (unsigned long long)answer[0]);
+        for (uint64_t i = 0; i < answer[1]; i++)
+            printf(" %llu", (unsigned long long)answer[2 + i]);
+        printf("\n");
+    }
+    printf("line %llu is no question\n",
+           (unsigned long long)solgaverna_faulty_question((const uint8_t *)misspelt, strlen(misspelt)));
+    return 0;
+}
 
 int main(void) {
     static uint8_t journal[4096], listing[4096];
@@ -35,5 +80,5 @@ int main(void) {
     printf("lender 1 offered %llu accepted %llu\n", (unsigned long long)figures[0], (unsigned long long)figures[1]);
     printf("offer %llu amount %llu status %llu\n", (unsigned long long)offer[0], (unsigned long long)offer[3],
            (unsigned long long)offer[7]);
-    return 0;
+    return print_answers(journal, size);
 }

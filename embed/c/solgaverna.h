@@ -1,9 +1,10 @@
-/* The proved book for C. The bytes of a journal go in; its listing, its offers or its figures come out in a lent buffer.
+/* The proved book for C. The bytes of a journal go in; its listing, its offers, its figures or answers to questions come out
+ * in a lent buffer.
  *
- * Every function answers on every input. At least 0: how many bytes, offers or numbers were written. Below 0: minus the
- * number of a refusal, and the buffer is as it was:
+ * Every function answers on every input. At least 0: how many bytes, offers, numbers or answers were written. Below 0: minus
+ * the number of a refusal, and the buffer is as it was:
  *    3  a list that is none, or an unlisted status
- *   13  the journal or the text is malformed
+ *   13  the journal or the text is malformed, or a line is no question
  *   14  the buffer is too short
  * Room past an answer is untouched. Nothing is kept between calls. Give a thread that calls it 1 MiB of stack or more: a
  * replay was measured to take between 448 and 480 KiB on Arm, and no proof bounds it.
@@ -42,5 +43,34 @@ int64_t solgaverna_offers(const uint8_t *journal, size_t journal_len, uint64_t l
  * The book's totals: offers, financed, repaid, fees. */
 int64_t solgaverna_lender(const uint8_t *journal, size_t journal_len, uint64_t account, uint64_t *out, size_t out_len);
 int64_t solgaverna_totals(const uint8_t *journal, size_t journal_len, uint64_t *out, size_t out_len);
+
+/* The answers to questions about the book after the journal, one a line (`./run ask --help` lists them). */
+int64_t solgaverna_ask(const uint8_t *journal, size_t journal_len, const uint8_t *questions, size_t questions_len,
+                       uint8_t *out, size_t out_len);
+
+/* The number, from 1, of the first line that is no question, whatever the book; 0 if there is none. */
+uint64_t solgaverna_faulty_question(const uint8_t *questions, size_t questions_len);
+
+/* Lookups after the journal, three numbers each: a code, an id and a time (any number where it asks about none). An answer
+ * is twelve numbers: 0 or the number of a refusal, how many values there are, and ten places for them, zeros after the last;
+ * values stand in the order of `solgaverna_ask`. A code that is none gives 3, an absent offer 4. What comes back is how many
+ * lookups there are; one or two numbers at the end are none. */
+enum {
+    SOLGAVERNA_LOOKUP_OFFER = 1,
+    SOLGAVERNA_LOOKUP_ACCOUNT = 2,
+    SOLGAVERNA_LOOKUP_LENDER = 3,
+    SOLGAVERNA_LOOKUP_SCHEDULE = 4,           /* of an offer; no values where it has none */
+    SOLGAVERNA_LOOKUP_DEADLINE = 5,           /* of an offer's negotiation */
+    SOLGAVERNA_LOOKUP_NEGOTIATION_STATUS = 6, /* of an offer, at a time */
+    SOLGAVERNA_LOOKUP_DUE = 7,                /* of an offer, at a time */
+    SOLGAVERNA_LOOKUP_COUNT = 8,
+    SOLGAVERNA_LOOKUP_WINDOW = 9,
+    SOLGAVERNA_LOOKUP_SEATS = 10,
+    SOLGAVERNA_LOOKUP_THRESHOLD = 11,
+    SOLGAVERNA_LOOKUP_PAUSED = 12,
+    SOLGAVERNA_LOOKUP_TOTALS = 13
+};
+int64_t solgaverna_answers(const uint8_t *journal, size_t journal_len, const uint64_t *questions, size_t questions_len,
+                           uint64_t *out, size_t out_len);
 
 #endif

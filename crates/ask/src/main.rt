@@ -52,6 +52,9 @@ Replays a journal and answers questions about its book, one a line:
                                 0 N
   totals                        0 offers financed repaid fees
 The ten numbers: id invoice lender amount rate duration expires status funded repaid.
+4 says that there is no such offer. An offer's status: 0 Pending, 1 Accepted, 2 Rejected, 3 Financed, 4 Repaid, 5 Defaulted; a
+negotiation's status and outcome: 0 none, 1 Open, 2 Closed, 3 Accepted, 4 Expired; a party: 0 lender, 1 originator; a schedule's code:
+1 weekly, 2 fortnightly, 3 thirty days. Seats are a bit each.
 ",
     );
 }
@@ -114,7 +117,10 @@ fn show(r: Answer, out: &[u8], line: &[u8], number: u64) -> bool
 {
     match r {
         Answer::Done(k) => {
-            return io::write_all(1, &out[..k]);
+            if io::write_all(1, &out[..k]) {
+                return true;
+            }
+            os::fail(b"standard output");
         }
         Answer::Malformed(_) => {
             no_question(line, number);
@@ -130,8 +136,20 @@ fn show(r: Answer, out: &[u8], line: &[u8], number: u64) -> bool
 fn no_question(line: &[u8], number: u64) {
     say(b"line ");
     io::print_decimal(libc::STDERR_FILENO, number);
-    say(b" is no question (./run ask --help lists them): ");
-    say(line);
+    say(b" is no question (./run ask --help lists them): \"");
+    say_start(line);
+    say(b"\"\n");
+}
+
+// At most the first 64 bytes of a line, without its end.
+fn say_start(line: &[u8]) {
+    let end = bytes::scan::find(line, 0, line.len(), b'\n');
+    if end < 64 {
+        say(&line[..end]);
+        return;
+    }
+    say(&line[..64]);
+    say(b"..");
 }
 
 fn answer(book: Book, line: &[u8], number: u64) -> bool
@@ -152,6 +170,10 @@ struct Filled {
 fn fill(mut waiting: [u8; 1024], size: usize) -> Filled {
     let from = within(size);
     let got = libc::read(0, &mut waiting[from..]);
+    if got < 0 {
+        os::fail(b"standard input");
+        failed();
+    }
     let room = [0u8; 1024];
     let came = io::count(got, &room);
     Filled { waiting, came }
@@ -256,7 +278,9 @@ fn serve(book: Book)
 
 fn warn(answered: usize, at: usize) {
     if at == 0 {
-        say(b"warning: the header is malformed (13); answers are from a fresh book\n");
+        say(
+            b"warning: record 0 at offset 0, the header, is malformed (13); answers are from a fresh book\n",
+        );
         return;
     }
     say(b"warning: record ");

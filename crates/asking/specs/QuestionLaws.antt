@@ -7,6 +7,8 @@ use mathlib.Core.Bool.{Bool, true, false}
 use mathlib.Core.List.{List, [], _∷_, _++_}
 use lib.ListN.{length, getD, take, drop}
 use borrow.Author.Tests.{lt-ltb, le-ltb, eq-eqb, ne-eqb}
+use lib.Dec.{eqb}
+use Rattle.refusal.specs.Choice.{pick}
 use Rattle.refusal.specs.ChoiceLaws.{pick-on, pick-off, on, off}
 use Rattle.refusal.specs.Refusal.{number, invalidInput}
 use Rattle.table.specs.Tables.{Table}
@@ -20,6 +22,7 @@ use Rattle.lists.specs.declared.Asked.the-variants.{For}
 use Rattle.lists.specs.declared.Wanted.{Wanted}
 use Rattle.lists.specs.Wanted.{known, wantedOf}
 use Rattle.lists.specs.Listing.{listing}
+use Rattle.lists.specs.Answers.{one-said}
 use Rattle.lists.specs.Active.{activeOf}
 use Rattle.rules.specs.Model.{Model, offerIn}
 use Rattle.query.specs.Reads.{offersIn}
@@ -31,8 +34,10 @@ use Rattle.text.specs.LineWalk.{Had}
 use Rattle.text.specs.Journal.{faultLine}
 use Rattle.text.specs.Answers.{whole, faulty}
 use Rattle.text.specs.declared.reading.Line.{Line}
+use Rattle.asking.specs.declared.Told.{Told}
+use Rattle.asking.specs.declared.Told.the-variants.{Answers, NoQuestion, Short, Unsound}
 use Rattle.asking.specs.Answers.{rowOf, replyLine, replyIn, offerLines}
-use Rattle.asking.specs.Questions.{listText, noneOr, scheduleText, negotiationText, answerText, questionsIn, answerTo, answersOf}
+use Rattle.asking.specs.Questions.{listText, noneOr, scheduleText, negotiationText, answerText, questionsIn, answerTo, answersOf, toldSays}
 
 -- ── A list ──
 module _ {x : Asked} {w : Wanted} (t : Table Offer) (e : x ≡ For w) where
@@ -122,3 +127,18 @@ answers-faulty m t e = pick-on _ _ e
 pub answers-whole : (m : Model) (t : List ℕ) → questionsIn t .bad ≡ false → answersOf m t ≡ whole (allOf (answerTo m) (questionsIn t .items))
 unfolding answersOf
 answers-whole m t e = pick-off _ _ e
+
+-- ── One answer ──
+-- an answer is read back from what it says
+unfoldable readTold : ℕ × ℕ → Told
+readTold p = pick (eqb (p .0) 0) (Answers (p .1)) (pick (eqb (p .0) 13) (NoQuestion (p .1)) (pick (eqb (p .0) 14) Short Unsound))
+
+back-told : (x : Told) → readTold (toldSays x) ≡ x
+unfolding readTold pick
+back-told (Answers n) = refl
+back-told (NoQuestion line) = refl
+back-told Short = refl
+back-told Unsound = refl
+
+pub one-told : (x y : Told) → toldSays x ≡ toldSays y → x ≡ y
+one-told = one-said toldSays readTold back-told

@@ -1,5 +1,5 @@
 -- The questions that can be asked of a book in text, and what is answered to each. A question's tag stands for its name (crate text): 61 to 66 are the lists
--- 1 to 6 of `wantedOf`, and 71 to 7D the codes 1 to 13 of `questions` (crate query).
+-- 1 to 6 of `wantedOf`, 71 to 7D the codes 1 to 13 of `questions` (crate query; 75, a deadline, has no name), 7E an active total, 7F a negotiation.
 use Prim.Native.Nat.{ℕ, _-_}
 use mathlib.Core.List.{List, [], _∷_, _++_}
 use lib.ListN.{length, getD}
@@ -13,11 +13,10 @@ use Rattle.lists.specs.declared.Asked.{Asked}
 use Rattle.lists.specs.declared.Asked.the-variants.{For, Unlisted}
 use Rattle.lists.specs.Wanted.{known, wantedOf}
 use Rattle.lists.specs.Listing.{Reply, listing}
-use Rattle.lists.specs.Active.{activeOf}
-use Rattle.rules.specs.Model.{Model, offerIn}
+use Rattle.rules.specs.Model.{Model}
 use Rattle.book.specs.declared.Book.{Book}
 use Rattle.book.specs.Stored.{modelOf, bookTest}
-use Rattle.query.specs.Reads.{offersIn}
+use Rattle.query.specs.Reads.{offersIn, activeRead, negotiationRead}
 use Rattle.query.specs.Questions.{replyTo}
 use Rattle.text.specs.Walk.{Walk, walkBy, allOf}
 use Rattle.text.specs.Reading.{questionAt}
@@ -48,8 +47,8 @@ unfoldable pub answerText : Model → ℕ → ℕ → ℕ → List ℕ
 answerText m tag a b =
     pick (ltb tag 0x70) (listText (wantedOf (tag - 0x60) a b) (offersIn m))
     (pick (eqb tag 0x74) (scheduleText (replyTo 4 a b m))
-    (pick (eqb tag 0x7E) (rowOf (0 ∷ activeOf a (offersIn m) ∷ []))
-    (pick (eqb tag 0x7F) (negotiationText (offerIn m a .row .negotiation))
+    (pick (eqb tag 0x7E) (rowOf (0 ∷ activeRead a m .done))
+    (pick (eqb tag 0x7F) (negotiationText (negotiationRead a m .done))
     (replyLine (replyTo (tag - 0x70) a b m)))))
 
 -- ── Questions, one a line ──

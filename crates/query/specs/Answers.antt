@@ -18,6 +18,9 @@ use Rattle.query.specs.declared.LenderAnswer.{LenderAnswer}
 use Rattle.query.specs.declared.LenderAnswer.the-variants as Lender
 use Rattle.query.specs.declared.TotalsAnswer.{TotalsAnswer}
 use Rattle.query.specs.declared.TotalsAnswer.the-variants as Totals
+use Rattle.query.specs.declared.Answered.{Answered}
+use Rattle.query.specs.declared.Answered.the-variants as Told
+use Rattle.query.specs.Questions.{answeredSays}
 use Rattle.query.specs.Says.{numberSays, offerSays, scheduleSays, lenderSays, totalsSays}
 
 -- each answer read back from what it says
@@ -95,3 +98,16 @@ one-lender = one-said lenderSays readLender back-lender
 
 pub one-totals : (a b : TotalsAnswer) → totalsSays a ≡ totalsSays b → a ≡ b
 one-totals = one-said totalsSays readTotals back-totals
+
+-- many lookups in one call
+readAnswered : Reply → Answered
+readAnswered p = pick (eqb (p .0) 0) (Told.Answers (getD (p .1) 0 0)) (pick (eqb (p .0) 14) Told.Short Told.Unsound)
+
+back-answered : (a : Answered) → readAnswered (answeredSays a) ≡ a
+unfolding readAnswered pick
+back-answered (Told.Answers n) = refl
+back-answered Told.Short = refl
+back-answered Told.Unsound = refl
+
+pub one-answered : (a b : Answered) → answeredSays a ≡ answeredSays b → a ≡ b
+one-answered = one-said answeredSays readAnswered back-answered

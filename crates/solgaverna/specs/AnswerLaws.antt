@@ -14,9 +14,13 @@ use Rattle.refusal.specs.Refusal.{number, journalMalformed, bufferShort}
 use Rattle.lists.specs.Listing.{Reply}
 use Rattle.book.specs.declared.Book.{Book}
 use Rattle.replay.specs.declared.Outcome.{Outcome}
+use Rattle.rules.specs.Model.{Model}
 use Rattle.text.specs.Answers as Text
+use Rattle.text.specs.Journal.{faultLine}
+use Rattle.asking.specs.Questions.{questionsIn, answersOf}
+use Rattle.asking.specs.QuestionLaws.{answers-faulty, answers-whole}
 use Rattle.solgaverna.specs.declared.Four.{Four}
-use Rattle.solgaverna.specs.Answers.{minus, coded, left, ofBook, told, fourSays, fourOver, faultOf}
+use Rattle.solgaverna.specs.Answers.{minus, coded, left, ofBook, told, fourSays, fourOver, faultOf, lineOf}
 
 pub turned : (n : ℕ) → (n ≡ 0 → ⊥) → 18446744073709551615 - (n - 1) ≡ 18446744073709551616 - n
 turned zero h = absurd (h refl)
@@ -35,6 +39,10 @@ module _ (s l : List ℕ) (f : Book → ℕ × List ℕ) {o : Outcome} (e : o �
 -- a list's answer
 pub counts : {r : Reply} {x : ℕ} {m : List ℕ} {a : Reply × List ℕ} → x ≡ coded (r .0) (getD (r .1) 0 0) → (r, m) ≡ a → (x, m) ≡ told a
 counts {m = m} e h = ap (λ (n : ℕ). (n, m)) e ∙ ap told h
+
+-- the answers to questions
+pub sizes : {a b : ℕ × ℕ} {x : ℕ} {m l : List ℕ} → x ≡ coded (a .0) (a .1) → (a ≡ b) × (m ≡ l) → _≡_ {A = ℕ × List ℕ} (x, m) (coded (b .0) (b .1), l)
+sizes {b = b} {m = m} e h = ap (λ (n : ℕ). (n, m)) (e ∙ ap (λ (z : ℕ × ℕ). coded (z .0) (z .1)) (h .0)) ∙ ap (λ (z : List ℕ). (coded (b .0) (b .1), z)) (h .1)
 
 -- four numbers
 says-by : (x : Four) (t : Bool) → eqb (x .number) 0 ≡ t → fourSays x ≡ pick t (0, x .a ∷ x .b ∷ x .c ∷ x .d ∷ []) (x .number, [])
@@ -64,17 +72,21 @@ module _ (x : Four) (l : List ℕ) where
   four-fits e h = four-set l (x .a) (x .b) (x .c) (x .d) h ∙ sym (ap (λ (r : Reply). fourOver r l) (says-by x true e))
 
 -- a faulty line
-fault-by : (t : Bool) (w : List ℕ) {k : ℕ} → _≡_ {A = ℕ × ℕ} (number journalMalformed, k) (pick t (0, length w) (number bufferShort, 0)) → ⊥
+line-by : (t : Bool) (n : ℕ) → lineOf (pick t (0, n) (number bufferShort, 0)) ≡ 0
 unfolding pick
-fault-by true w e = let z = ap (λ (p : ℕ × ℕ). p .0) e in omega arith
-fault-by false w e = let z = ap (λ (p : ℕ × ℕ). p .0) e in omega arith
+line-by true n = refl
+line-by false n = refl
 
-pub fault : (o : Text.Outcome) (l : List ℕ) {k : ℕ} → _≡_ {A = ℕ × ℕ} (number journalMalformed, k) (Text.answerFor o l) → k ≡ faultOf o
-unfolding Text.answerFor listedIn faultOf
-fault (Text.whole w) l e = absurd (fault-by (leb (length w) (length l)) w e)
-fault (Text.faulty at) l e = ap (λ (p : ℕ × ℕ). p .1) e
+pub fault-line : (o : Text.Outcome) (l : List ℕ) → lineOf (Text.answerFor o l) ≡ faultOf o
+unfolding Text.answerFor listedIn faultOf pick
+fault-line (Text.whole w) l = line-by (leb (length w) (length l)) (length w)
+fault-line (Text.faulty at) l = refl
 
-pub no-fault : (o : Text.Outcome) (l : List ℕ) {n k : ℕ} → (n ≡ number journalMalformed → ⊥) → _≡_ {A = ℕ × ℕ} (n, k) (Text.answerFor o l) → 0 ≡ faultOf o
-unfolding Text.answerFor listedIn faultOf
-no-fault (Text.whole w) l h e = refl
-no-fault (Text.faulty at) l h e = absurd (h (ap (λ (p : ℕ × ℕ). p .0) e))
+-- which line is no question, no book decides
+pub question-line : (m : Model) (t : List ℕ) → faultOf (answersOf m t) ≡ faultLine (questionsIn t)
+unfolding faultLine faultOf
+question-line m t = go (questionsIn t .bad) refl
+  where
+    go : (b : Bool) → questionsIn t .bad ≡ b → faultOf (answersOf m t) ≡ faultLine (questionsIn t)
+    go true e = ap faultOf (answers-faulty m t e)
+    go false e = ap faultOf (answers-whole m t e) ∙ off _ e refl

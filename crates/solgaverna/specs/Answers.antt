@@ -10,7 +10,10 @@ use Rattle.lists.specs.Listing.{Reply}
 use Rattle.lists.specs.declared.Asked.{Asked}
 use Rattle.lists.specs.declared.Asked.the-variants.{For, Unlisted}
 use Rattle.book.specs.declared.Book.{Book}
+use Rattle.book.specs.Stored.{modelOf}
 use Rattle.query.specs.Reads.{listRead}
+use Rattle.query.specs.Questions.{answersRead}
+use Rattle.asking.specs.Questions.{answersOf}
 use Rattle.replay.specs.declared.Outcome.{Outcome}
 use Rattle.replay.specs.Replay.{replayOf, outcomeOf}
 use Rattle.text.specs.Answers as Text
@@ -57,7 +60,20 @@ fourOver r l =
 abbrev pub written : Text.Outcome → List ℕ → ℕ
 written o l = coded (Text.answerFor o l .0) (Text.answerFor o l .1)
 
--- the number of the first line that is no command, 0 where there is none
+-- the number of the first line that is no command, or no question; 0 where there is none
 unfoldable pub faultOf : Text.Outcome → ℕ
 faultOf (Text.whole w) = 0
 faultOf (Text.faulty at) = at
+
+-- the line that an answer names
+abbrev pub lineOf : ℕ × ℕ → ℕ
+lineOf a = pick (eqb (a .0) (number journalMalformed)) (a .1) 0
+
+-- ── Questions about the book of a journal ─────────────────────────
+-- in text, one a line: how many bytes the answers are
+abbrev pub textFor : List ℕ → List ℕ → Book → ℕ × List ℕ
+textFor t l b = (written (answersOf (modelOf b) t) l, Text.leftFor (answersOf (modelOf b) t) l)
+
+-- lookups, three words each: how many were answered
+abbrev pub wordsFor : List ℕ → List ℕ → Book → ℕ × List ℕ
+wordsFor words l b = told (answersRead b words l)

@@ -1,4 +1,7 @@
-// The library for C and Rust: the bytes of a journal go in, and its listing, its offers or its figures come out in lent buffers.
+// The library for C and Rust: the bytes of a journal go in, and its listing, its offers, its figures or answers to questions come out in
+// lent buffers.
+mod questions;
+
 use book::Book;
 use lists::Asked;
 use lists::Listed as Offers;
@@ -13,7 +16,7 @@ ghost use Rattle.lists.specs.Wanted.{wantedOf};
 ghost use Rattle.query.specs.Reads.{asked, lenderRead, totalsRead};
 ghost use Rattle.replay.specs.Text.{listingOf};
 ghost use Rattle.sheet.specs.Shown.{listedIn, shownIn};
-ghost use Rattle.solgaverna.specs.Answers.{minus, coded, ofBook, offersFor, noFour, fourSays, fourOver, written, faultOf};
+ghost use Rattle.solgaverna.specs.Answers.{minus, coded, ofBook, offersFor, noFour, fourSays, fourOver, written, lineOf, faultOf};
 ghost use Rattle.text.specs.Answers.{answered, leftFor};
 ghost use Rattle.text.specs.Text.{textOf};
 ghost use Rattle.text.specs.Journal.{journalOf};
@@ -68,6 +71,16 @@ pub extern "C" fn solgaverna_text(journal: &[u8], out: &mut [u8]) -> u64
     sized(told)
 }
 
+fn line(r: Answer) -> u64
+    ensures { λ x. ⌜ x ≡ lineOf (answered r) ⌝ }
+{
+    match r {
+        Answer::Done(_) => { 0 }
+        Answer::Malformed(k) => { k as u64 }
+        Answer::Short => { 0 }
+    }
+}
+
 // The number of the first line of a text that is no command, 0 where there is none.
 #[no_mangle]
 pub extern "C" fn solgaverna_faulty_line(lines: &[u8]) -> u64
@@ -75,11 +88,7 @@ pub extern "C" fn solgaverna_faulty_line(lines: &[u8]) -> u64
 {
     let mut out: [u8; 1] = [0; 1];
     let r = text::to_journal(lines, &mut out);
-    match r {
-        Answer::Done(_) => { 0 }
-        Answer::Malformed(k) => { k as u64 }
-        Answer::Short => { 0 }
-    }
+    line(r)
 }
 
 fn counted(r: Offers) -> u64

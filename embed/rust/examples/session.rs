@@ -24,5 +24,6 @@ fn main() -> Result<(), Refusal> {
     for offer in journal.offers(Offers::ByLender(1))? {
         println!("offer {} amount {} status {}", offer.id, offer.amount, offer.status);
     }
+    print!("{}", journal.ask("negotiation 20\nactive 1\n")?);
     Ok(())
 }

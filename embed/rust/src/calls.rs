@@ -25,6 +25,23 @@ mod raw {
             room: usize,
         ) -> i64;
         pub fn solgaverna_totals(journal: *const u8, len: usize, out: *mut u64, room: usize) -> i64;
+        pub fn solgaverna_ask(
+            journal: *const u8,
+            len: usize,
+            questions: *const u8,
+            asked: usize,
+            out: *mut u8,
+            room: usize,
+        ) -> i64;
+        pub fn solgaverna_faulty_question(questions: *const u8, len: usize) -> u64;
+        pub fn solgaverna_answers(
+            journal: *const u8,
+            len: usize,
+            questions: *const u64,
+            asked: usize,
+            out: *mut u64,
+            room: usize,
+        ) -> i64;
     }
 }
 
@@ -78,4 +95,23 @@ pub fn totals(journal: &[u8]) -> Result<[u64; 4], Refusal> {
     let mut out = [0; 4];
     let (from, to) = (journal.as_ptr(), out.as_mut_ptr());
     count(unsafe { raw::solgaverna_totals(from, journal.len(), to, out.len()) }).map(|_| out)
+}
+
+/// 13 is said of a line that is no question, and of a malformed journal: the line is told first.
+pub fn ask(journal: &[u8], questions: &str, out: &mut [u8]) -> Result<usize, Refusal> {
+    let (from, of, to) = (journal.as_ptr(), questions.as_ptr(), out.as_mut_ptr());
+    let size = unsafe { raw::solgaverna_ask(from, journal.len(), of, questions.len(), to, out.len()) };
+    match count(size) {
+        Err(Refusal::Number(13)) => match unsafe { raw::solgaverna_faulty_question(of, questions.len()) } {
+            0 => Err(Refusal::Number(13)),
+            line => Err(Refusal::Line(line)),
+        },
+        size => size,
+    }
+}
+
+pub fn answers(journal: &[u8], questions: &[[u64; 3]], out: &mut [[u64; 12]]) -> Result<usize, Refusal> {
+    let (questions, out) = (questions.as_flattened(), out.as_flattened_mut());
+    let (from, of, to) = (journal.as_ptr(), questions.as_ptr(), out.as_mut_ptr());
+    count(unsafe { raw::solgaverna_answers(from, journal.len(), of, questions.len(), to, out.len()) })
 }

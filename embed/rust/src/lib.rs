@@ -7,18 +7,22 @@
 //! journal.write("open-account 100 1\ndeposit 100 1 5000\n").unwrap();
 //! assert_eq!(journal.listing(), "1 0\n2 0\naccount 1 5000 0 0 0\ntotals 0 0 0\n");
 //! assert_eq!(journal.lender(1).unwrap().offered, 0);
+//! assert_eq!(journal.ask("account 1\ncount\n").unwrap(), "0 5000 0 0 0\n0 0\n");
 //! ```
 //!
 //! Nothing is kept between calls but the bytes of the journal: every read replays them. Give a thread that calls it 1 MiB of stack or more.
 
 mod calls;
+mod questions;
+
+pub use questions::{Answer, Question};
 
 use std::fmt;
 
 /// Why a call was refused.
 #[derive(Clone, Copy, Debug, PartialEq, Eq)]
 pub enum Refusal {
-    /// The line of a text, counted from 1, that is no command.
+    /// The line of a text, counted from 1, that is no command, or no question where those are asked.
     Line(u64),
     /// The number of the refusal.
     Number(u64),
@@ -27,7 +31,7 @@ pub enum Refusal {
 impl fmt::Display for Refusal {
     fn fmt(&self, out: &mut fmt::Formatter) -> fmt::Result {
         match self {
-            Refusal::Line(line) => write!(out, "line {line} is no command"),
+            Refusal::Line(line) => write!(out, "line {line} is malformed"),
             Refusal::Number(number) => write!(out, "refused with {number}"),
         }
     }
@@ -87,6 +91,8 @@ const HEADER: usize = 5;
 /// A table's rows, and the numbers of an offer.
 const MOST_OFFERS: usize = 64;
 const NUMBERS: usize = 10;
+/// No answer in text is longer: a count, and every offer with its numbers, each of at most twenty digits and a space.
+const MOST_ANSWER: usize = 5 + MOST_OFFERS * NUMBERS * 21;
 
 impl From<Vec<u8>> for Journal {
     fn from(bytes: Vec<u8>) -> Journal {
@@ -153,6 +159,28 @@ impl Journal {
     pub fn totals(&self) -> Result<Totals, Refusal> {
         let [offers, financed, repaid, fees] = calls::totals(&self.0)?;
         Ok(Totals { offers, financed, repaid, fees })
+    }
+
+    /// The answers to questions, one a line, as the program `ask` writes them.
+    pub fn ask(&self, questions: &str) -> Result<String, Refusal> {
+        let mut out = vec![0; MOST_ANSWER];
+        loop {
+            match calls::ask(&self.0, questions, &mut out) {
+                Err(Refusal::Number(14)) => out.resize(2 * out.len(), 0),
+                size => {
+                    out.truncate(size?);
+                    return Ok(String::from_utf8(out).expect("words, digits and spaces"));
+                }
+            }
+        }
+    }
+
+    /// The answers to lookups, in their order: the journal is replayed once for all of them.
+    pub fn answers(&self, questions: &[Question]) -> Result<Vec<Answer>, Refusal> {
+        let words: Vec<_> = questions.iter().map(|question| question.words()).collect();
+        let mut out = vec![[0; 12]; words.len()];
+        calls::answers(&self.0, &words, &mut out)?;
+        Ok(out.into_iter().map(Answer).collect())
     }
 }
 

@@ -1,0 +1,146 @@
+//! Questions asked from Rust, held to the stored answers of cases/, none of which comes from the proved book.
+
+use solgaverna::{Answer, Journal, Question, Refusal};
+use std::fs;
+use std::path::PathBuf;
+
+/// A journal, questions about its book, and the answers.
+struct Stored {
+    name: PathBuf,
+    journal: Journal,
+    questions: String,
+    answers: String,
+}
+
+fn stored(folder: &str) -> Vec<Stored> {
+    let folder = fs::read_dir(format!("../../cases/{folder}")).expect("the stored cases");
+    let names = folder.map(|file| file.expect("a file of the folder").path());
+    let asked = names.filter(|name| name.extension().is_some_and(|it| it == "questions"));
+    let text = |name: &PathBuf, kind| fs::read_to_string(name.with_extension(kind)).expect("a file of lines");
+    asked
+        .map(|name| Stored {
+            journal: Journal::from(fs::read(name.with_extension("journal")).expect("a journal")),
+            questions: text(&name, "questions"),
+            answers: text(&name, "answers"),
+            name,
+        })
+        .collect()
+}
+
+/// A line that asks for a lookup.
+fn lookup(line: &str) -> Option<Question> {
+    let mut words = line.split(' ');
+    let name = words.next()?;
+    let mut number = || words.next().expect("a number").parse().expect("a number");
+    Some(match name {
+        "offer" => Question::Offer(number()),
+        "account" => Question::Account(number()),
+        "lender" => Question::Lender(number()),
+        "schedule" => Question::Schedule(number()),
+        "negotiation-status" => Question::NegotiationStatus { offer: number(), now: number() },
+        "due" => Question::Due { offer: number(), now: number() },
+        "count" => Question::Count,
+        "window" => Question::Window,
+        "seats" => Question::Seats,
+        "threshold" => Question::Threshold,
+        "paused" => Question::Paused,
+        "totals" => Question::Totals,
+        _ => return None,
+    })
+}
+
+/// The line that `ask` has for an answer.
+fn line(question: Question, answer: &Answer) -> String {
+    let words = |values: &[u64]| values.iter().map(|value| format!(" {value}")).collect::<String>();
+    match (question, answer.values()) {
+        (Question::Schedule(_), Ok([])) => "0 none".to_string(),
+        (_, Ok(values)) => format!("0{}", words(values)),
+        (_, Err(Refusal::Number(number))) => format!("{number}"),
+        (_, Err(refusal)) => panic!("{question:?}: {refusal}"),
+    }
+}
+
+fn session() -> Journal {
+    Journal::from(fs::read("../../crates/desk/stdin").expect("the stored session"))
+}
+
+#[test]
+fn stored_questions_have_the_stored_answers() {
+    for (folder, least) in [("edition-1", 7), ("vectors", 40)] {
+        let mut told = 0;
+        for case in stored(folder) {
+            // the program `ask` answers from the book before a malformed record; the library refuses the journal
+            let whole = case.journal.text().is_ok();
+            let answers = if whole { Ok(case.answers) } else { Err(Refusal::Number(13)) };
+            assert_eq!(case.journal.ask(&case.questions), answers, "{}", case.name.display());
+            told += usize::from(whole);
+        }
+        assert!(told >= least, "{folder}: {told} journals are whole");
+    }
+}
+
+#[test]
+fn words_agree_with_text() {
+    let mut asked = 0;
+    for case in ["edition-1", "vectors"].into_iter().flat_map(stored).filter(|case| case.journal.text().is_ok()) {
+        let lines = case.questions.lines().filter(|line| lookup(line).is_some());
+        let text: String = lines.map(|line| format!("{line}\n")).collect();
+        let questions: Vec<_> = text.lines().filter_map(lookup).collect();
+        let answers = case.journal.answers(&questions).expect("a whole journal");
+        let words: String =
+            questions.iter().zip(&answers).map(|(question, answer)| line(*question, answer) + "\n").collect();
+        assert_eq!(case.journal.ask(&text), Ok(words), "{}", case.name.display());
+        asked += answers.len();
+    }
+    assert!(asked >= 700, "{asked} lookups");
+}
+
+#[test]
+fn lookups_after_the_session() {
+    let questions = [
+        Question::Offer(20),
+        Question::Offer(21),
+        Question::Schedule(20),
+        Question::Deadline(20),
+        Question::Deadline(u64::MAX),
+        Question::Totals,
+    ];
+    let answers = session().answers(&questions).expect("a whole journal");
+    let values: Vec<_> = answers.iter().map(Answer::values).collect();
+    let expected: [Result<&[u64], Refusal>; 6] = [
+        Ok(&[20, 10, 1, 900, 500, 86400, 0, 1, 100, 0]),
+        Err(Refusal::Number(4)),
+        Ok(&[]),
+        Ok(&[604900]),
+        Ok(&[0]),
+        Ok(&[1, 900, 0, 0]),
+    ];
+    assert_eq!(values, expected);
+    assert_eq!(session().answers(&[]), Ok(Vec::new()));
+}
+
+#[test]
+fn a_line_that_is_no_question_is_told() {
+    for (line, questions) in [(1, "\n"), (1, "count"), (2, "count\nofer 20\n"), (3, "count\ncount\nopen-account 100 1\n")] {
+        assert_eq!(session().ask(questions), Err(Refusal::Line(line)), "{questions:?}");
+    }
+    assert_eq!(session().ask(""), Ok(String::new()));
+}
+
+#[test]
+fn long_answers_find_room() {
+    let questions = "all-offers\nnegotiation 20\n".repeat(1000);
+    let answer = "0 1\n20 10 1 900 500 86400 0 1 100 0\n0 2 604900 3\n1 900 500 86400 100\n0 900 500 86400 100\n";
+    assert_eq!(session().ask(&questions), Ok(answer.repeat(1000)));
+}
+
+#[test]
+fn a_malformed_journal_answers_nothing() {
+    let mut bytes = session().bytes().to_vec();
+    bytes.pop();
+    let journal = Journal::from(bytes);
+    assert_eq!(journal.ask("count\n"), Err(Refusal::Number(13)));
+    assert_eq!(journal.ask(""), Err(Refusal::Number(13)));
+    assert_eq!(journal.ask("counts\n"), Err(Refusal::Line(1)));
+    assert_eq!(journal.answers(&[Question::Count]), Err(Refusal::Number(13)));
+}
