@@ -15,7 +15,7 @@ use Rattle.command.specs.declared.Command.{Command}
 use Rattle.wire.specs.Field.{numberAt, bytesOf, headOf, fieldOf, begins}
 use Rattle.refusal.specs.Placed.{placed, laid}
 use Rattle.wire.specs.NumberLaws.{length-bytesOf}
-use Rattle.wire.specs.FieldLaws.{and-right, length-field}
+use Rattle.wire.specs.FieldLaws.{and-left, and-right, length-field}
 use Rattle.refusal.specs.PlacedLaws.{laid-in}
 use Rattle.wire.specs.FieldTrip.{body-past, begins-field, number-past}
 use Rattle.journal.specs.Answers.{goodHeader, found}
@@ -28,9 +28,13 @@ use Rattle.journal.specs.Held.{Held}
 use Rattle.journal.specs.HeldLaws.{Tops, byTag, in-range, made-back}
 
 -- an edition that there is fits the header's two bytes
-listed-low : (e : ℕ) → listed e ≡ true → e < 65536
+pub listed-fits : (e : ℕ) → listed e ≡ true → e < 65536
 unfolding listed
-listed-low e k = omega (arith, leb-true e latestEdition (and-right (leb firstEdition e) (leb e latestEdition) k))
+listed-fits e k = omega (arith, leb-true e latestEdition (and-right (leb firstEdition e) (leb e latestEdition) k))
+
+pub listed-from : (e : ℕ) → listed e ≡ true → firstEdition ≤ e
+unfolding listed
+listed-from e k = leb-true firstEdition e (and-left (leb firstEdition e) (leb e latestEdition) k)
 
 -- the header
 pub header-long : (e : ℕ) → length (headerOf e) ≡ 5
@@ -43,7 +47,7 @@ header-back e r k =
     let b = fieldOf 0x10 (bytesOf 2 e) ++ r in
     let l : length (bytesOf 2 e) ≡ 2 = length-bytesOf 2 e in
     let a : begins 0x10 2 b ≡ true = rw l at (begins-field 0x10 (bytesOf 2 e) r (omega (arith, l))) in
-    let n : editionIn b ≡ e = rw (body-past 0x10 (bytesOf 2 e) r) (number-past 2 e r (listed-low e k)) in
+    let n : editionIn b ≡ e = rw (body-past 0x10 (bytesOf 2 e) r) (number-past 2 e r (listed-fits e k)) in
     rw n (pick-on _ _ (ap (λ (t : Bool). t && listed e) a ∙ k))
 
 top-most : (f : ℕ) → topOf f ≤ 18446744073709551615
