@@ -82,10 +82,6 @@ fresh-bounded : (e : ℕ) → listed e ≡ true → Bounded (freshModel e)
 unfolding keys
 fresh-bounded e l = record { sound = fresh-model e l; low = record { ids = tt } }
 
-first-listed : listed firstEdition ≡ true
-unfolding listed
-first-listed = refl
-
 low-by : (m : Model) (c : Shape) (t : Bool) → OpensLow c → Low (m .accounts) → Low (pick t (ruled m c .done) m .accounts)
 unfolding pick
 low-by m c true h k = low-ruled m c h k
@@ -123,7 +119,7 @@ module _ (s : List ℕ) (short : length s < 18446744073709551616) where
   walk-most (suc n) at k m b h l = follow-most n (walk-most n) at k m b h l (readAt (m .settings .edition) s at) (goes (m .settings .edition) s at) (weighs (m .settings .edition) s at)
 
   pub listing-most : length (listingOf s) ≤ listingRoom (length s)
-  unfolding listingOf replayOf replayFrom listingRoom pick
+  unfolding listingOf replayOf replayFrom listingRoom pick listed
   listing-most = go (eqb (openingOf s .answer) 0) refl
     where
       o : Opening
@@ -133,7 +129,7 @@ module _ (s : List ℕ) (short : length s < 18446744073709551616) where
       go true e =
           let h = opened s (ap (λ (x : ℕ). record { answer = x; edition = o .edition; first = o .first }) (eqb-true (o .answer) 0 e)) in
           omega (arith, walk-most (length s) (o .first) 0 (freshModel (o .edition)) (fresh-bounded (o .edition) (h .known)) (omega arith) (h .within))
-      go false e = rw (text-bare (freshModel firstEdition), length-append (markLine 0 0)) (omega (arith, mark-most 0 0 (omega arith) (omega arith), book-most (fresh-bounded firstEdition first-listed)))
+      go false e = rw (text-bare (freshModel firstEdition), length-append (markLine 0 0)) (omega (arith, mark-most 0 0 (omega arith) (omega arith), book-most (fresh-bounded firstEdition refl)))
 
 -- a buffer with the room for it, as the code tests that: k bytes, and past them as many as the journal has
 pub at-once : (s : List ℕ) {k : ℕ} {l n : List ℕ} {r : Pen} → Wrote true (listingOf s) l (penAt 0 false) n r → length s < 18446744073709551616 → k ≤ length l → leb (length s) (length l - k) ≡ true → extra ≤ k
