@@ -1,6 +1,6 @@
 -- Document 02 b: from a fresh book of an edition that holds the amount to the invoice's, every offer's amount is at most its invoice's, after any commands.
 use Prim.Native.Nat.{ℕ}
-use mathlib.Core.Path.{_≡_, refl, sym, ap, _∙_}
+use mathlib.Core.Path.{_≡_, refl, sym, ap, subst, _∙_}
 use mathlib.Core.Bool.{Bool, true, false, not, _&&_}
 use mathlib.Core.List.{List, [], _∷_}
 use native.Mathlib.Omega.{arith}
@@ -16,7 +16,7 @@ use Rattle.table.specs.Tables.{Found, absent, here, Table, find, adjust, insert
 use Rattle.table.specs.TableLaws.{find-adjust, find-insert}
 use Rattle.table.specs.Sound.{All, all-map, all-found, all-insert}
 use Rattle.terms.specs.declared.Terms.{Terms}
-use Rattle.invoice.specs.Invoice.{covers, financed}
+use Rattle.invoice.specs.Invoice.{covers, invoiceOf, financed, cancelOf}
 use Rattle.invoice.specs.Seen.{seenInvoice}
 use Rattle.invoice.specs.declared.Invoice.{Invoice}
 use Rattle.offer.specs.Offer.{newDeal, settledDeal, amendedDeal, counteredDeal}
@@ -32,10 +32,11 @@ use Rattle.rules.specs.Rules.{lenderOf, originatorOf, termsIn, gateChecks, offe
 use Rattle.book.specs.Stored.{modelOf, stored}
 use Rattle.book.specs.Shelving.{model-stored}
 use Rattle.soundness.specs.Sound.{ModelSound, fresh-model, put-sound}
+use Rattle.soundness.specs.Staying.{edition-stays}
 use Rattle.soundness.specs.Played.{obeyed, played, called}
 use Rattle.soundness.specs.Books.{played-sound}
 use Rattle.soundness.specs.Calls.{called-played}
-use Rattle.history.specs.Passed.{invoice-there}
+use Rattle.history.specs.Passed.{invoice-there, offer-there}
 
 -- an offer's invoice is there, and covers its amount
 pub record Within (t : Table Invoice) (d : Deal) : Type 0 where
@@ -140,8 +141,12 @@ module _ (m : Model) (c : Covered m) where
   unfolding ruled counteredDeal
   covers-ruled held (opens a) e = c
   covers-ruled held (account a u) e = c
-  covers-ruled held (registers a i x) e = all-map (Within (m .invoices)) _ _ (paper-in (m .invoices) i _ (unseen-invoice _ (passed _ _ _ (passed _ _ _ e .1) .0))) c
-  covers-ruled held (cancels a i) e = all-map (Within (m .invoices)) _ _ (paper-put (m .invoices) i _ refl) c
+  covers-ruled held (registers a i x) e =
+      let n = unseen-invoice (find (m .invoices) i) (passed _ _ _ (passed _ _ _ e .1) .0) in
+      all-map (Within (m .invoices)) (Within (insert (m .invoices) i (invoiceOf a x))) (m .offers) (paper-in (m .invoices) i (invoiceOf a x) n) c
+  covers-ruled held (cancels a i) e =
+      let x = cancelOf (invoiceIn m i) a .done in
+      all-map (Within (m .invoices)) (Within (adjust (m .invoices) i (λ old. x))) (m .offers) (paper-put (m .invoices) i x refl) c
   covers-ruled held (creates a o i t x) e = created a o i t x e
   covers-ruled held (offer o u) e = on-offer o u
   covers-ruled held (accepts now a o) e = settled m c now o
@@ -158,3 +163,24 @@ module _ (m : Model) (c : Covered m) where
       go true q = rw (pick-on (commanded m k .done) m q) (covers-ruled held (shapeOf k) (both-pass (gateChecks m (shapeOf k)) (ruled m (shapeOf k) .checks) (eqb-true _ _ q) .1))
       go false q = rw (pick-off (commanded m k .done) m q) c
 
+-- ── Any commands from a fresh book ──
+covers-played : (m : Model) → holdsAmount (m .settings .edition) ≡ true → Covered m → (cs : List Command) → Covered (played m cs)
+unfolding played
+covers-played m held c [] = c
+covers-played m held c (k ∷ cs) = covers-played (obeyed m k) (ap holdsAmount (edition-stays m k) ∙ held) (covers-after m c held k) cs
+
+-- in every edition that holds the amount
+pub never-above : (e : ℕ) → holdsAmount e ≡ true → (cs : List Command) → Covered (played (freshModel e) cs)
+never-above e held cs = covers-played (freshModel e) held tt cs
+
+-- of the code: a fresh book, then any commands by `Book::apply`
+pub calls-never-above : (e : ℕ) → listed e ≡ true → holdsAmount e ≡ true → (cs : List Command) → Covered (modelOf (called (stored (freshModel e)) cs))
+calls-never-above e l held cs =
+    let s = fresh-model e l in
+    subst (λ (b : Model). Covered b) (sym (ap (λ z. modelOf z) (called-played s cs) ∙ model-stored (played-sound s cs .fits))) (never-above e held cs)
+
+-- so of an offer that is there
+pub amount-within : (m : Model) → Covered m → (o : ℕ) → not (offerIn m o .here) ≡ false → (paperOf m o .here ≡ true) × (covers (paperOf m o .row) (termsIn m o) ≡ true)
+amount-within m c o h =
+    let w = all-found (Within (m .invoices)) (m .offers) o (offerIn m o .row) c (offer-there (find (m .offers) o) h) in
+    (ap (λ (f : Found Invoice). seenInvoice f .here) (w .there), ap (λ (f : Found Invoice). covers (seenInvoice f .row) (termsIn m o)) (w .there) ∙ w .covered)
