@@ -77,7 +77,11 @@ acceptChecks s now caller paper =
     ∷ (not (eqb (paper .row .status) invoicePending) gives invalidTransition)
     ∷ []
 
--- Amend: caller blacklisted 2; terms 3; 4; not lender 6; where the edition holds the amount (02 b), invoice 4 and amount above it 3; negotiable
+-- A round: the amount against the invoice's where the edition holds it (02 b), right after the ownership check; then negotiable
+abbrev pub roundChecks : ℕ → SeenDeal → ℕ → Terms → ℕ → SeenInvoice → List Check
+roundChecks e s now t round paper = within (holdsAmount e) paper t ∷ negotiable roundLimit (s .row .negotiation) (pending (s .row)) now round
+
+-- Amend: caller blacklisted 2; terms 3; 4; not lender 6; invoice 4, where the edition holds the amount (02 b); a round's
 abbrev pub amendChecks : ℕ → SeenDeal → ℕ → ℕ → Account → Terms → ℕ → SeenInvoice → List Check
 amendChecks e s now caller lender t round paper =
     (lender .blacklisted gives blacklisted)
@@ -85,10 +89,9 @@ amendChecks e s now caller lender t round paper =
     ∷ (not (s .here) gives notFound)
     ∷ (not (eqb (s .row .offer .lender) caller) gives unauthorized)
     ∷ (holdsAmount e && not (paper .here) gives notFound)
-    ∷ within (holdsAmount e) paper t
-    ∷ negotiable roundLimit (s .row .negotiation) (pending (s .row)) now round
+    ∷ roundChecks e s now t round paper
 
--- Counter: 2; 3; 4; invoice 4; not originator 6; where the edition holds the amount (02 b), above the invoice's 3; negotiable
+-- Counter: 2; 3; 4; invoice 4; not originator 6; a round's
 abbrev pub counterChecks : ℕ → SeenDeal → ℕ → ℕ → Account → Terms → ℕ → SeenInvoice → List Check
 counterChecks e s now caller originator t round paper =
     (originator .blacklisted gives blacklisted)
@@ -96,8 +99,7 @@ counterChecks e s now caller originator t round paper =
     ∷ (not (s .here) gives notFound)
     ∷ (not (paper .here) gives notFound)
     ∷ (not (eqb (paper .row .originator) caller) gives unauthorized)
-    ∷ within (holdsAmount e) paper t
-    ∷ negotiable roundLimit (s .row .negotiation) (pending (s .row)) now round
+    ∷ roundChecks e s now t round paper
 
 -- Agreement: invoice 4, not Pending 7; expiry 8; lender blacklisted 2; originator blacklisted 2 (each after its row 4); then settle
 abbrev pub agreementChecks : Deal → ℕ → SeenInvoice → SeenAccount → SeenAccount → List Check
