@@ -48,7 +48,7 @@ impl Book {
         Step { answer: 0, book }
     }
 
-    // The same for an edition that is known to be listed.
+    // The same without the test: in an edition that is not listed the book is unsound.
     pub fn of_edition(edition: u32) -> Book
         ensures { λ r. ⌜ r ≡ stored (freshModel edition) ⌝ }
     {

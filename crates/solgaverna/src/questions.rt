@@ -32,7 +32,7 @@ pub extern "C" fn solgaverna_faulty_question(questions: &[u8]) -> u64
     ensures { λ r. ⌜ r ≡ faultLine 0 (questionsIn (now (questions .entry))) ⌝ }
 {
     let mut out: [u8; 1] = [0; 1];
-    let book = Book::fresh();
+    let book = Book::of_edition(edition::FIRST);
     let r = asking::answers_sound(book, questions, &mut out);
     line(r)
 }
