@@ -1,7 +1,6 @@
 -- What the code that answers questions goes by. Assumes nothing.
 use Prim.Native.Nat.{ℕ, zero, suc, _+_, _-_, _≤_, _<_}
 use native.Mathlib.Omega.{arith}
-use native.Mathlib.Numerals.{add-one}
 use mathlib.Core.Path.{_≡_, refl, sym, ap, _∙_}
 use mathlib.Core.Bool.{Bool, true, false}
 use mathlib.Core.List.{List, [], _∷_, _++_}
@@ -112,7 +111,7 @@ module _ {ink : Bool} (m : Model) (t : List ℕ) {l n : List ℕ} {p r : Pen} wh
   pub asked-bad : {at k : ℕ} → Ended ink (length t) (questionAt t) (answerTo m) (questionsIn t) l p true at k n r
       → Wrote ink (allOf (answerTo m) (questionsIn t .items)) l p n r × ((true ≡ questionsIn t .bad) × (k + 1 ≡ faultLine 0 (questionsIn t)))
   unfolding faultLine
-  asked-bad {k = k} e = (e .all-written, (e .bad, on _ (sym (e .bad)) (add-one k ∙ ap suc (e .count))))
+  asked-bad {k = k} e = (e .all-written, (e .bad, on _ (sym (e .bad)) (omega (arith, e .count))))
 
   pub asked-end : {at k : ℕ} → Ended ink (length t) (questionAt t) (answerTo m) (questionsIn t) l p false at k n r
       → Wrote ink (allOf (answerTo m) (questionsIn t .items)) l p n r × ((false ≡ questionsIn t .bad) × (0 ≡ faultLine 0 (questionsIn t)))
