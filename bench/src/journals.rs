@@ -5,7 +5,8 @@ use harness::generate::{Generator, Plan};
 use harness::pair::{Pair, Start};
 use plain::Plain;
 
-const HEADER: [u8; 5] = [0x10, 0, 2, 0, 1];
+/// The original's edition, which both sides have.
+const EDITION: u64 = layer::EDITION;
 
 /// Writes so many journals one after the other, each after its length in eight bytes.
 pub fn write(file: &str, journals: u64, commands: usize) {
@@ -35,12 +36,12 @@ fn one(seed: u64, commands: usize) -> Vec<u8> {
     let plan = Plan::new(&mut chance);
     let mut generator = Generator::new(Chance::new(chance.number()), plan);
     let mut plain = Plain::with_slip(None);
-    let mut pair = Pair::start(&mut plain, &Start::Fresh);
-    let mut bytes = HEADER.to_vec();
+    let mut pair = Pair::start(&mut plain, &Start::Fresh(EDITION));
+    let mut bytes = journal::journal(EDITION, &[]);
     for _ in 0..commands {
         let command = generator.next(&pair.book);
         pair.step(&command).expect("the plain model agrees");
-        journal::write(&command, &mut bytes);
+        journal::write(EDITION, &command, &mut bytes);
     }
     bytes
 }

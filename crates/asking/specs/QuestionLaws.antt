@@ -1,7 +1,6 @@
 -- What the code that answers questions goes by. Assumes nothing.
 use Prim.Native.Nat.{ℕ, zero, suc, _+_, _-_, _≤_, _<_}
 use native.Mathlib.Omega.{arith}
-use native.Mathlib.Numerals.{add-one}
 use mathlib.Core.Path.{_≡_, refl, sym, ap, _∙_}
 use mathlib.Core.Bool.{Bool, true, false}
 use mathlib.Core.List.{List, [], _∷_, _++_}
@@ -110,17 +109,17 @@ question-is m h =
 
 module _ {ink : Bool} (m : Model) (t : List ℕ) {l n : List ℕ} {p r : Pen} where
   pub asked-bad : {at k : ℕ} → Ended ink (length t) (questionAt t) (answerTo m) (questionsIn t) l p true at k n r
-      → Wrote ink (allOf (answerTo m) (questionsIn t .items)) l p n r × ((true ≡ questionsIn t .bad) × (k + 1 ≡ faultLine (questionsIn t)))
+      → Wrote ink (allOf (answerTo m) (questionsIn t .items)) l p n r × ((true ≡ questionsIn t .bad) × (k + 1 ≡ faultLine 0 (questionsIn t)))
   unfolding faultLine
-  asked-bad {k = k} e = (e .all-written, (e .bad, on _ (sym (e .bad)) (add-one k ∙ ap suc (e .count))))
+  asked-bad {k = k} e = (e .all-written, (e .bad, on _ (sym (e .bad)) (omega (arith, e .count))))
 
   pub asked-end : {at k : ℕ} → Ended ink (length t) (questionAt t) (answerTo m) (questionsIn t) l p false at k n r
-      → Wrote ink (allOf (answerTo m) (questionsIn t .items)) l p n r × ((false ≡ questionsIn t .bad) × (0 ≡ faultLine (questionsIn t)))
+      → Wrote ink (allOf (answerTo m) (questionsIn t .items)) l p n r × ((false ≡ questionsIn t .bad) × (0 ≡ faultLine 0 (questionsIn t)))
   unfolding faultLine
   asked-end e = (e .all-written, (e .bad, off _ (sym (e .bad)) refl))
 
 -- the outcome
-pub answers-faulty : (m : Model) (t : List ℕ) → questionsIn t .bad ≡ true → answersOf m t ≡ faulty (faultLine (questionsIn t))
+pub answers-faulty : (m : Model) (t : List ℕ) → questionsIn t .bad ≡ true → answersOf m t ≡ faulty (faultLine 0 (questionsIn t))
 unfolding answersOf
 answers-faulty m t e = pick-on _ _ e
 

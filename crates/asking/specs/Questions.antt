@@ -61,7 +61,7 @@ answerTo m q = answerText m (q .0) (getD (q .1) 0 0) (getD (q .1) 1 0)
 
 -- the answers in their order, or the number of the first line that is no question
 unfoldable pub answersOf : Model → List ℕ → Outcome
-answersOf m t = pick (questionsIn t .bad) (faulty (faultLine (questionsIn t))) (whole (allOf (answerTo m) (questionsIn t .items)))
+answersOf m t = pick (questionsIn t .bad) (faulty (faultLine 0 (questionsIn t))) (whole (allOf (answerTo m) (questionsIn t .items)))
 
 abbrev pub toldSays : Told → ℕ × ℕ
 toldSays (Answers n) = (0, n)

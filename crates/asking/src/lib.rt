@@ -113,7 +113,7 @@ struct Walked {
 fn tell(book: Book, s: &[u8], out: &mut [u8], ink: bool) -> Walked
     requires shelved { ⌜ Shelved book ⌝ }
     requires tested { ⌜ bookTest book ≡ true ⌝ }
-    ensures { λ r. ⌜ Wrote ink (allOf (answerTo (modelOf book)) (questionsIn (now (s .entry)) .items)) (now (out .entry)) (penAt 0 false) (now (out .exit)) (r .pen) × ((r .bad ≡ questionsIn (now (s .entry)) .bad) × (r .line ≡ faultLine (questionsIn (now (s .entry))))) ⌝ }
+    ensures { λ r. ⌜ Wrote ink (allOf (answerTo (modelOf book)) (questionsIn (now (s .entry)) .items)) (now (out .entry)) (penAt 0 false) (now (out .exit)) (r .pen) × ((r .bad ≡ questionsIn (now (s .entry)) .bad) × (r .line ≡ faultLine 0 (questionsIn (now (s .entry))))) ⌝ }
 {
     let mut pen = Pen {
         at: 0,
@@ -122,7 +122,7 @@ fn tell(book: Book, s: &[u8], out: &mut [u8], ink: bool) -> Walked
     let mut at: usize = 0;
     let mut k: usize = 0;
     while at < s.len() {
-        let x = text::reading::line_at(s, at, FIRST, PAST);
+        let x = text::reading::line_at(edition::FIRST, s, at, FIRST, PAST);
         if !x.ok {
             return Walked {
                 pen,

@@ -2,8 +2,9 @@
 use Prim.Native.Nat.{ℕ}
 use mathlib.Core.Bool.{Bool, _&&_}
 use Rattle.refusal.specs.Choice.{pick}
-use Rattle.refusal.specs.Refusal.{number, bookUnsound}
+use Rattle.refusal.specs.Refusal.{number, journalMalformed, bookUnsound}
 use Rattle.refusal.specs.Rule.{answered}
+use Rattle.edition.specs.Edition.{firstEdition, listed}
 use Rattle.settings.specs.Settings.{settingsSound}
 use Rattle.totals.specs.Totals.{totalsSound}
 use Rattle.shelves.specs.Accounts.{accountsOf, storedAccounts, AccountShelf, accountsTest}
@@ -12,7 +13,7 @@ use Rattle.shelves.specs.Offers.{dealsOf, storedDeals, DealShelf, dealsTest}
 use Rattle.command.specs.declared.Command.{Command}
 use Rattle.book.specs.declared.Book.{Book}
 use Rattle.book.specs.declared.Step.{Step}
-use Rattle.rules.specs.Model.{Model}
+use Rattle.rules.specs.Model.{Model, freshModel}
 use Rattle.rules.specs.Rules.{commanded}
 
 abbrev pub modelOf : Book → Model
@@ -33,6 +34,10 @@ pub record Shelved (b : Book) : Type 0 where
 -- Document 01's paragraph: "A book is sound when .."
 unfoldable pub bookTest : Book → Bool
 bookTest b = (((accountsTest (b .accounts) && invoicesTest (b .invoices)) && dealsTest (b .offers)) && totalsSound (b .totals)) && settingsSound (b .settings)
+
+-- a fresh book of an edition; 13, and the first edition's, where it is not listed
+unfoldable pub freshBook : ℕ → Step
+freshBook e = pick (listed e) (stepOf 0 (freshModel e)) (stepOf (number journalMalformed) (freshModel firstEdition))
 
 -- what a command answers and leaves: 15 and the book as it was where it is not sound
 unfoldable pub answers : Book → Command → Step

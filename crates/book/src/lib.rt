@@ -15,7 +15,7 @@ ghost use Rattle.refusal.specs.Rule.{answered};
 ghost use Rattle.command.specs.declared.Command.the-variants.{OpenAccount, Deposit, Payout, Approve, RegisterInvoice, CancelInvoice, CreateOffer, WithdrawOffer, AcceptOffer, RejectOffer, AmendOffer, CounterOffer, CloseNegotiation, ScheduleRepayment, UpdateStatus, UpdateRepaid, UpdateLenderRepaid, UpdateTotalsRepaid, Pause, Unpause, SetWindow, SetRepaymentAccount, SetBlacklisted, SetSeats};
 ghost use Rattle.rules.specs.Model.{freshModel};
 ghost use Rattle.rules.specs.Rules.{commanded};
-ghost use Rattle.book.specs.Stored.{modelOf, stored, stepOf, Shelved, bookTest, answers};
+ghost use Rattle.book.specs.Stored.{modelOf, stored, stepOf, Shelved, bookTest, freshBook, answers};
 
 // The whole book: it goes into a command by value and comes back with the answer.
 pub struct Book {
@@ -33,15 +33,30 @@ pub struct Step {
 }
 
 impl Book {
-    // A book with no rows, zero totals and the first settings.
-    pub fn fresh() -> Book
-        ensures { λ r. ⌜ r ≡ stored freshModel ⌝ }
+    // A book with no rows, zero totals and the first settings, in an edition; 13, and the first edition's, where that is not listed.
+    pub fn fresh(edition: u32) -> Step
+        ensures { λ r. ⌜ r ≡ freshBook edition ⌝ }
+    {
+        if !edition::is_listed(edition) {
+            let book = Book::of_edition(edition::FIRST);
+            return Step {
+                answer: refusal::JOURNAL_MALFORMED,
+                book,
+            };
+        }
+        let book = Book::of_edition(edition);
+        Step { answer: 0, book }
+    }
+
+    // The same without the test: in an edition that is not listed the book is unsound.
+    pub fn of_edition(edition: u32) -> Book
+        ensures { λ r. ⌜ r ≡ stored (freshModel edition) ⌝ }
     {
         let accounts = Accounts::none();
         let invoices = Invoices::none();
         let offers = Offers::none();
         let totals = Totals::none();
-        let settings = Settings::fresh();
+        let settings = Settings::fresh(edition);
         Book {
             accounts,
             invoices,

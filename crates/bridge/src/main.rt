@@ -43,9 +43,10 @@ fn malformed(book: Book) -> Step
 
 // One whole record, and nothing after it, is applied; any other bytes are malformed.
 fn apply(book: Book, s: &[u8]) -> Step
-    ensures { λ r. ⌜ r ≡ wholeRecord book (readAt (now (s .entry)) 0) (length (now (s .entry))) ⌝ }
+    ensures { λ r. ⌜ r ≡ wholeRecord book (readAt (book .settings .edition) (now (s .entry)) 0) (length (now (s .entry))) ⌝ }
 {
-    let d = journal::decode(s, 0);
+    let settings = book.settings;
+    let d = journal::decode(settings.edition, s, 0);
     match d {
         Decoded::Command(c, next) => {
             if next != s.len() {
@@ -164,10 +165,15 @@ fn listing(frame: [u8; 128]) {
     send(&out, k);
 }
 
+fn fresh(edition: u64) -> Book {
+    let opened = Book::fresh(bridge_words::half(edition));
+    opened.book
+}
+
 fn served(book: Book, frame: [u8; 128]) -> Book {
     let what = wire::number(&frame, 0);
     if what == FRESH {
-        return Book::fresh();
+        return fresh(wire::number(&frame, 8));
     }
     if what == LOAD {
         return loaded();
@@ -204,7 +210,7 @@ fn take_turn(book: Book) -> Turn {
 }
 
 fn main() {
-    let mut book = Book::fresh();
+    let mut book = Book::of_edition(edition::FIRST);
     let mut left: u64 = 18446744073709551615;
     while left > 0 {
         let s = take_turn(book);

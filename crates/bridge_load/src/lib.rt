@@ -33,21 +33,22 @@ struct NegotiationRead {
 
 fn settings(s: &[u8; 65536]) -> Settings {
     Settings {
-        window: bridge_words::get(s, 0, 1),
-        repayer: bridge_words::get(s, 0, 5),
-        seats: bridge_words::half(bridge_words::get(s, 0, 2)),
-        threshold: bridge_words::half(bridge_words::get(s, 0, 3)),
-        appointed: bridge_words::get(s, 0, 4) == 1,
-        paused: bridge_words::get(s, 0, 0) == 1,
+        window: bridge_words::get(s, 0, 2),
+        repayer: bridge_words::get(s, 0, 6),
+        seats: bridge_words::half(bridge_words::get(s, 0, 3)),
+        threshold: bridge_words::half(bridge_words::get(s, 0, 4)),
+        edition: bridge_words::half(bridge_words::get(s, 0, 0)),
+        appointed: bridge_words::get(s, 0, 5) == 1,
+        paused: bridge_words::get(s, 0, 1) == 1,
     }
 }
 
 fn totals(s: &[u8; 65536]) -> Totals {
     Totals {
-        financed: of_bits(bridge_words::get(s, 0, 7)),
-        repaid: of_bits(bridge_words::get(s, 0, 8)),
-        fees: of_bits(bridge_words::get(s, 0, 9)),
-        offers: bridge_words::half(bridge_words::get(s, 0, 6)),
+        financed: of_bits(bridge_words::get(s, 0, 8)),
+        repaid: of_bits(bridge_words::get(s, 0, 9)),
+        fees: of_bits(bridge_words::get(s, 0, 10)),
+        offers: bridge_words::half(bridge_words::get(s, 0, 7)),
     }
 }
 
@@ -222,7 +223,7 @@ fn offers(s: &[u8; 65536], at: usize) -> Offers {
 pub fn book(s: &[u8; 65536]) -> Book {
     let settings = settings(s);
     let totals = totals(s);
-    let a = accounts(s, 80);
+    let a = accounts(s, 88);
     let i = invoices(s, a.at);
     let offers = offers(s, i.at);
     let accounts = a.table;

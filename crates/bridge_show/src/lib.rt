@@ -12,7 +12,8 @@ use terms::Schedule;
 use totals::Totals;
 
 fn settings(out: &mut [u8; 65536], at: usize, s: Settings) -> usize {
-    let mut p = bridge_words::put(out, at, bridge_words::flag(s.paused));
+    let mut p = bridge_words::put(out, at, s.edition as u64);
+    p = bridge_words::put(out, p, bridge_words::flag(s.paused));
     p = bridge_words::put(out, p, s.window);
     p = bridge_words::put(out, p, s.seats as u64);
     p = bridge_words::put(out, p, s.threshold as u64);

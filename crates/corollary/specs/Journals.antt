@@ -1,37 +1,41 @@
--- The commands that a journal holds, and the journal of commands: its header, then the record of each.
+-- The edition and the commands that a journal holds, and the journal of commands in an edition: its header, then the record of each.
 use mathlib.Core.List.{List, [], _∷_, _++_}
 use Prim.Native.Nat.{ℕ, zero, suc, _+_}
 use lib.Dec.{eqb}
 use lib.ListN.{length}
 use Rattle.refusal.specs.Choice.{pick}
+use Rattle.edition.specs.Edition.{firstEdition}
 use Rattle.command.specs.declared.Command.{Command}
 use Rattle.journal.specs.Answers.{Reading, found, refused, ended}
 use Rattle.journal.specs.Format.{headerOf, openingOf, readAt, bytesFor}
 use Rattle.journal.specs.Held.{Held}
 
--- those up to the end, or up to a malformed record; at most n
+-- those up to the end, or up to a malformed record; at most n, in an edition
 abbrev pub taking : (ℕ → List Command) → Reading → List Command
 taking rest (found c next) = c ∷ rest next
 taking rest (refused n at) = []
 taking rest ended = []
 
-unfoldable pub commandsBy : ℕ → List ℕ → ℕ → List Command
-commandsBy zero s at = []
-commandsBy (suc n) s at = taking (commandsBy n s) (readAt s at)
+unfoldable pub commandsBy : ℕ → ℕ → List ℕ → ℕ → List Command
+commandsBy e zero s at = []
+commandsBy e (suc n) s at = taking (commandsBy e n s) (readAt e s at)
 
--- a journal without its header holds none
+-- a journal without its header holds none, in the first edition
+unfoldable pub editionOf : List ℕ → ℕ
+editionOf s = pick (eqb (openingOf s .answer) 0) (openingOf s .edition) firstEdition
+
 unfoldable pub commandsIn : List ℕ → List Command
-commandsIn s = pick (eqb (openingOf s .0) 0) (commandsBy (length s) s (openingOf s .1)) []
+commandsIn s = pick (eqb (openingOf s .answer) 0) (commandsBy (openingOf s .edition) (length s) s (openingOf s .first)) []
 
 -- the journal of commands
-unfoldable pub recordsOf : List Command → List ℕ
-recordsOf [] = []
-recordsOf (c ∷ cs) = bytesFor c ++ recordsOf cs
+unfoldable pub recordsOf : ℕ → List Command → List ℕ
+recordsOf e [] = []
+recordsOf e (c ∷ cs) = bytesFor e c ++ recordsOf e cs
 
-unfoldable pub journalOf : List Command → List ℕ
-journalOf cs = headerOf ++ recordsOf cs
+unfoldable pub journalOf : ℕ → List Command → List ℕ
+journalOf e cs = headerOf e ++ recordsOf e cs
 
 -- each of them fits its type, as every command of the code does
-unfoldable pub AllHeld : List Command → Type 0
-AllHeld [] = Unit {0}
-AllHeld (c ∷ cs) = Held c × AllHeld cs
+unfoldable pub AllHeld : ℕ → List Command → Type 0
+AllHeld e [] = Unit {0}
+AllHeld e (c ∷ cs) = Held e c × AllHeld e cs

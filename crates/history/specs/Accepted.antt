@@ -11,11 +11,10 @@ use Rattle.table.specs.Tables.{find}
 use Rattle.table.specs.Sums.{count}
 use Rattle.terms.specs.Terms.{sameTerms}
 use Rattle.terms.specs.declared.Terms.{Terms}
-use Rattle.offer.specs.Rules.{counterChecks}
 use Rattle.command.specs.Names.{namesFor}
 use Rattle.command.specs.Shape as Shape
 use Rattle.rules.specs.Model.{Model, accountIn, offerIn, paperOf}
-use Rattle.rules.specs.Rules.{termsIn, settling, concluding, agreeing, counteredIn, ruled, shaped}
+use Rattle.rules.specs.Rules.{termsIn, settling, concluding, agreeing, counteredIn, ruled, shaped, countersIn}
 use Rattle.rules.specs.Rules as Rules
 use Rattle.seats.specs.Seats.{bit}
 use Rattle.history.specs.History.{counters, accountEntry, entryFor, lenderSaid, settles, Said, deedsOn, accepted}
@@ -53,7 +52,7 @@ module _ {b l : Ledger} {r : Said} {m : Model} (A : Agrees l m) (R : Reads b l r
   counter-lender now a o t n p g =
       let k : Model = counteredIn m now o t in
       let q : Passes (agreeing (sameTerms (termsIn m o) t) now o k .checks) =
-      passes-right (counterChecks (offerIn m o) now a (accountIn m a .row) t n (paperOf m o)) (agreeing (sameTerms (termsIn m o) t) now o k .checks) (p .1 .1) in
+      passes-right (countersIn m now a o t n) (agreeing (sameTerms (termsIn m o) t) now o k .checks) (p .1 .1) in
       let s : Passes (concluding now o k .checks) = subst (λ (b : Bool). Passes (agreeing b now o k .checks)) g q in
       (search)
 

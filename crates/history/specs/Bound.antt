@@ -13,6 +13,7 @@ use Rattle.terms.specs.declared.Terms.{Terms}
 use Rattle.negotiation.specs.Latest.{matches-is}
 use Rattle.command.specs.declared.Command.{Command}
 use Rattle.command.specs.declared.Command.the-variants.{AmendOffer, CounterOffer}
+use Rattle.edition.specs.Edition.{listed}
 use Rattle.rules.specs.Model.{Model, freshModel, offerIn, paperOf}
 use Rattle.command.specs.Shape.{shapeOf}
 use Rattle.rules.specs.Rules.{ruled, commanded}
@@ -59,29 +60,29 @@ bound r l d s e = go (settles (termsSaid l) (counterOf l) d) refl e
 
 -- ── Who put them down ─────────────────────────────────────────────
 -- of every offer the book and the history know the same lender, invoice, terms and latest counter
-pub book-knows : (cs : List Command) (o : ℕ) → bargainOf (find (from freshModel cs .model .offers) o) ≡ bargainIn (deedsOn o (read (from freshModel cs .history) .deeds))
-book-knows cs o = let H = holds cs in H .agrees .bargains .shown o ∙ H .reads .bargains o
+pub book-knows : (e : ℕ) → listed e ≡ true → (cs : List Command) (o : ℕ) → bargainOf (find (from (freshModel e) cs .model .offers) o) ≡ bargainIn (deedsOn o (read (from (freshModel e) cs .history) .deeds))
+book-knows e l cs o = let H = holds e l cs in H .agrees .bargains .shown o ∙ H .reads .bargains o
 
-module _ (cs : List Command) (now a o : ℕ) (t : Terms) (n : ℕ) where
+module _ (edition : ℕ) (l : listed edition ≡ true) (cs : List Command) (now a o : ℕ) (t : Terms) (n : ℕ) where
   abbrev after : Model
-  after = from freshModel cs .model
+  after = from (freshModel edition) cs .model
 
   abbrev told-so-far : Said
-  told-so-far = read (from freshModel cs .history)
+  told-so-far = read (from (freshModel edition) cs .history)
 
   pub amended-by-lender : answerTo after (AmendOffer now a o t n) ≡ 0 → lenderSaid (deedsOn o (told-so-far .deeds)) ≡ a
   unfolding shapeOf ruled
   amended-by-lender e =
       let p : Passes (commanded after (AmendOffer now a o t n) .checks) = all-pass (commanded after (AmendOffer now a o t n) .checks) e in
-      sym (ap (λ (z : Bargain). z .lender) (book-knows cs o)) ∙ eqb-true (offerIn after o .row .offer .lender) a (not-false (eqb (offerIn after o .row .offer .lender) a) (search))
+      sym (ap (λ (z : Bargain). z .lender) (book-knows edition l cs o)) ∙ eqb-true (offerIn after o .row .offer .lender) a (not-false (eqb (offerIn after o .row .offer .lender) a) (search))
 
   pub countered-by-originator : answerTo after (CounterOffer now a o t n) ≡ 0 → row 0 (find (told-so-far .originators) (invoiceOf (deedsOn o (told-so-far .deeds)))) ≡ a
   unfolding shapeOf ruled
   countered-by-originator e =
-      let H = holds cs in
+      let H = holds edition l cs in
       let p : Passes (commanded after (CounterOffer now a o t n) .checks) = all-pass (commanded after (CounterOffer now a o t n) .checks) e in
       let i : ℕ = offerIn after o .row .offer .invoice in
-      ap (λ (z : Bargain). row 0 (find (told-so-far .originators) (z .invoice))) (sym (book-knows cs o))
+      ap (λ (z : Bargain). row 0 (find (told-so-far .originators) (z .invoice))) (sym (book-knows edition l cs o))
       ∙ sym (H .agrees .papers .originators i ∙ H .reads .originators i)
       ∙ eqb-true (paperOf after o .row .originator) a (not-false (eqb (paperOf after o .row .originator) a) (search))
 
@@ -100,15 +101,15 @@ sales-post {b} {l} {r} R h (deals o d) i = either-way R o d (λ k s. k .papers .
     (λ e. ap (λ z. z + hit (noted o d l .bargains o .invoice) i 1) (h i) ∙ ap (λ (z : Bargain). times i (r .settlements) + hit (z .invoice) i 1) (at-offer R o d)) (h i)
 sales-post R h nothing i = h i
 
-all-read : (h : List Command) → Reads (base freshModel) (ledger fresh h) (read h)
+all-read : (e : ℕ) (h : List Command) → Reads (base (freshModel e)) (ledger (fresh e) h) (read h)
 unfolding ledger readAfter
-all-read [] = subst (λ (z : Said). Reads (base freshModel) fresh z) none-before (reads-before freshModel)
-all-read (c ∷ h) = reads-post (all-read h) (entryOf c)
+all-read e [] = subst (λ (z : Said). Reads (base (freshModel e)) (fresh e) z) (none-before e) (reads-before (freshModel e))
+all-read e (c ∷ h) = reads-post (all-read e h) (entryOf c)
 
-all-sold : (h : List Command) (i : ℕ) → ledger fresh h .papers .sales i ≡ times i (read h .settlements)
+all-sold : (e : ℕ) (h : List Command) (i : ℕ) → ledger (fresh e) h .papers .sales i ≡ times i (read h .settlements)
 unfolding ledger readAfter times shut pick find
-all-sold [] i = refl
-all-sold (c ∷ h) i = sales-post (all-read h) (all-sold h) (entryOf c) i
+all-sold e [] i = refl
+all-sold e (c ∷ h) i = sales-post (all-read e h) (all-sold e h) (entryOf c) i
 
-pub never-twice : (cs : List Command) (i : ℕ) → times i (read (from freshModel cs .history) .settlements) ≤ 1
-never-twice cs i = omega (arith, all-sold (from freshModel cs .history) i, holds cs .agrees .papers .once i, shut-most (find (from freshModel cs .model .invoices) i))
+pub never-twice : (e : ℕ) → listed e ≡ true → (cs : List Command) (i : ℕ) → times i (read (from (freshModel e) cs .history) .settlements) ≤ 1
+never-twice e l cs i = omega (arith, all-sold e (from (freshModel e) cs .history) i, holds e l cs .agrees .papers .once i, shut-most (find (from (freshModel e) cs .model .invoices) i))

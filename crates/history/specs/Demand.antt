@@ -1,6 +1,8 @@
 -- Demand 3: from a fresh book, after any commands, every figure of the book is the history's. From any sound book: its figures, and the sums over what is accepted after it.
+use Prim.Native.Nat.{ℕ}
 use native.Mathlib.Omega.{arith}
 use mathlib.Core.Path.{_≡_, refl, sym, subst, _∙_}
+use mathlib.Core.Bool.{true}
 use mathlib.Core.List.{List, [], _∷_}
 use lib.IntN.{pos, _+ℤ_, +ℤ-idl}
 use Rattle.table.specs.Tables.{Found, absent, here, Table, find, keys}
@@ -13,6 +15,7 @@ use Rattle.offer.specs.Laws.{DealKept}
 use Rattle.offer.specs.declared.Deal.{Deal}
 use Rattle.account.specs.declared.Account.{Account}
 use Rattle.command.specs.declared.Command.{Command}
+use Rattle.edition.specs.Edition.{listed}
 use Rattle.rules.specs.Model.{Model, freshModel}
 use Rattle.rules.specs.Rules.{commanded}
 use Rattle.command.specs.Shape.{shapeOf}
@@ -95,20 +98,20 @@ since s y cs =
       financed-total = H .agrees .financed ∙ H .sums .financed;
     }
 
--- ── Demand 3: its case at a fresh book, before which nothing was said ──
-abbrev pub fresh : Ledger
-fresh = start freshModel
+-- ── Demand 3: its case at a fresh book of any edition, before which nothing was said ──
+abbrev pub fresh : ℕ → Ledger
+fresh e = start (freshModel e)
 
-pub none-before : saidBefore freshModel ≡ silence
+pub none-before : (e : ℕ) → saidBefore (freshModel e) ≡ silence
 unfolding keys deedsBefore originatorsBefore
-none-before = refl
+none-before e = refl
 
-pub holds : (cs : List Command) → Holds freshModel (from freshModel cs .history) (read (from freshModel cs .history)) (from freshModel cs .model)
-holds cs = subst (λ (z : Said). Holds freshModel (from freshModel cs .history) (readAfter z (from freshModel cs .history)) (from freshModel cs .model)) none-before (holds-since freshModel fresh-model cs)
+pub holds : (e : ℕ) → listed e ≡ true → (cs : List Command) → Holds (freshModel e) (from (freshModel e) cs .history) (read (from (freshModel e) cs .history)) (from (freshModel e) cs .model)
+holds e l cs = subst (λ (z : Said). Holds (freshModel e) (from (freshModel e) cs .history) (readAfter z (from (freshModel e) cs .history)) (from (freshModel e) cs .model)) (none-before e) (holds-since (freshModel e) (fresh-model e l) cs)
 
-fresh-meets : {h : List Command} {m : Model} → MeetsSince freshModel h m → Meets h m
+fresh-meets : (e : ℕ) {h : List Command} {m : Model} → MeetsSince (freshModel e) h m → Meets h m
 unfolding keys deedsBefore originatorsBefore find sum offered
-fresh-meets {h} F = record {
+fresh-meets e {h} F = record {
   offereds = λ a. F .offereds a ∙ +ℤ-idl (offered (read h) a);
   accepteds = λ a. F .accepteds a ∙ +ℤ-idl (accepted (read h) a);
   balances = λ a. F .balances a ∙ +ℤ-idl (balance (read h) a);
@@ -116,5 +119,5 @@ fresh-meets {h} F = record {
   financed-total = F .financed-total ∙ +ℤ-idl (financed (read h));
 }
 
-pub demand-3 : (cs : List Command) → Meets (from freshModel cs .history) (from freshModel cs .model)
-demand-3 cs = fresh-meets (since freshModel fresh-model cs)
+pub demand-3 : (e : ℕ) → listed e ≡ true → (cs : List Command) → Meets (from (freshModel e) cs .history) (from (freshModel e) cs .model)
+demand-3 e l cs = fresh-meets e (since (freshModel e) (fresh-model e l) cs)

@@ -16,12 +16,12 @@ use Rattle.account.specs.declared.Account.{Account}
 use Rattle.account.specs.Account.{offers}
 use Rattle.account.specs.Rules.{reofferOf}
 use Rattle.offer.specs.declared.Deal.{Deal}
-use Rattle.offer.specs.Rules.{acceptChecks, amendChecks, counterChecks}
+use Rattle.offer.specs.Rules.{acceptChecks}
 use Rattle.invoice.specs.Invoice.{invoiceOf}
 use Rattle.command.specs.Names.{accountNames, namesFor}
 use Rattle.command.specs.Shape as Shape
 use Rattle.rules.specs.Model.{Model, accountIn, offerIn, paperOf, withAccounts, withOffers}
-use Rattle.rules.specs.Rules.{lenderOf, termsIn, settling, agreeing, amendedIn, counteredIn, accountRule, offerRule, ruled, shaped}
+use Rattle.rules.specs.Rules.{lenderOf, termsIn, settling, agreeing, amendedIn, counteredIn, accountRule, offerRule, ruled, shaped, amendsIn, countersIn}
 use Rattle.history.specs.History.{amends, counters, deals, accountEntry, entryFor, settles}
 use Rattle.history.specs.Figures.{put}
 use Rattle.rules.specs.Rooms.{unseen-account, unseen-invoice, unseen-deal}
@@ -53,7 +53,7 @@ module _ {l : Ledger} {m : Model} (A : Agrees l m) where
       let B : Agrees (noted o (amends t) l) (amendedIn m now a o t) =
       noted-amend A now o t (offer-there (find (m .offers) o) (search)) (search) a (account-there (find (m .accounts) a) (search)) (sym e) in
       let q : Passes (agreeing g now o (amendedIn m now a o t) .checks) =
-      passes-right (amendChecks (offerIn m o) now a (accountIn m a .row) t n ++ reofferOf (accountIn m a .row) (termsIn m o) t .checks) (agreeing g now o (amendedIn m now a o t) .checks) (p .1 .1) in
+      passes-right (amendsIn m now a o t n ++ reofferOf (accountIn m a .row) (termsIn m o) t .checks) (agreeing g now o (amendedIn m now a o t) .checks) (p .1 .1) in
       subst (λ (k : Bargain). Agrees (pick (matches t (k .counter)) (sold o (noted o (amends t) l)) (noted o (amends t) l)) (agreeing g now o (amendedIn m now a o t) .done)) (A .bargains .shown o)
       (agreed B now o g q)
 
@@ -63,7 +63,7 @@ module _ {l : Ledger} {m : Model} (A : Agrees l m) where
       let g : Bool = sameTerms (termsIn m o) t in
       let B : Agrees (noted o (counters t) l) (counteredIn m now o t) = noted-counter A now o t (offer-there (find (m .offers) o) (search)) (search) in
       let q : Passes (agreeing g now o (counteredIn m now o t) .checks) =
-      passes-right (counterChecks (offerIn m o) now a (accountIn m a .row) t n (paperOf m o)) (agreeing g now o (counteredIn m now o t) .checks) (p .1 .1) in
+      passes-right (countersIn m now a o t n) (agreeing g now o (counteredIn m now o t) .checks) (p .1 .1) in
       subst (λ (k : Bargain). Agrees (pick (sameTerms (k .terms) t) (sold o (noted o (counters t) l)) (noted o (counters t) l)) (agreeing g now o (counteredIn m now o t) .done)) (A .bargains .shown o)
       (agreed B now o g q)
 

@@ -22,3 +22,4 @@ pub mod Demand
 pub mod Pending
 pub mod Stored
 pub mod Bound
+pub mod Covered

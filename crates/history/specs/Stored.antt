@@ -4,6 +4,7 @@ use mathlib.Core.Path.{_≡_, sym, ap, subst, _∙_}
 use mathlib.Core.Bool.{true}
 use mathlib.Core.List.{List, []}
 use Rattle.command.specs.declared.Command.{Command}
+use Rattle.edition.specs.Edition.{listed}
 use Rattle.rules.specs.Model.{Model, freshModel, invoiceIn}
 use Rattle.invoice.specs.Invoice.{invoicePending}
 use Rattle.book.specs.declared.Book.{Book}
@@ -22,16 +23,18 @@ use Rattle.history.specs.Demand.{since, demand-3}
 use Rattle.history.specs.Pending.{never-pending}
 
 -- the book that any commands leave of a fresh one
-pub stored-meets : (cs : List Command) (b : Book) → b ≡ stored (played freshModel cs) → Meets (from freshModel cs .history) (modelOf b)
-stored-meets cs b e =
-    subst (λ (m : Model). Meets (from freshModel cs .history) m)
-    (run-played (record { history = []; model = freshModel }) cs ∙ sym (ap (λ z. modelOf z) e ∙ model-stored (played-sound fresh-model cs .fits)))
-    (demand-3 cs)
+pub stored-meets : (edition : ℕ) → listed edition ≡ true → (cs : List Command) (b : Book) → b ≡ stored (played (freshModel edition) cs) → Meets (from (freshModel edition) cs .history) (modelOf b)
+stored-meets edition l cs b e =
+    subst (λ (m : Model). Meets (from (freshModel edition) cs .history) m)
+    (run-played (record { history = []; model = freshModel edition }) cs ∙ sym (ap (λ z. modelOf z) e ∙ model-stored (played-sound (fresh-model edition l) cs .fits)))
+    (demand-3 edition l cs)
 
 -- demand 3 of calls: a fresh book, then any commands by `Book::apply`, each on the book that the one before gave back; accepted are those that
 -- these calls answered by 0
-pub calls-meet : (cs : List Command) → Meets (acceptedBy [] (stored freshModel) cs) (modelOf (called (stored freshModel) cs))
-calls-meet cs = subst (λ h. Meets h (modelOf (called (stored freshModel) cs))) (run-accepted fresh-model [] cs) (stored-meets cs (called (stored freshModel) cs) (called-played fresh-model cs))
+pub calls-meet : (e : ℕ) → listed e ≡ true → (cs : List Command) → Meets (acceptedBy [] (stored (freshModel e)) cs) (modelOf (called (stored (freshModel e)) cs))
+calls-meet e l cs =
+    subst (λ h. Meets h (modelOf (called (stored (freshModel e)) cs))) (run-accepted (fresh-model e l) [] cs)
+    (stored-meets e l cs (called (stored (freshModel e)) cs) (called-played (fresh-model e l) cs))
 
 -- ── From any sound book ───────────────────────────────────────────
 module _ (b : Book) (y : Typed b) (e : bookTest b ≡ true) (cs : List Command) where

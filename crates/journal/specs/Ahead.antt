@@ -26,15 +26,15 @@ unfolding madeIn Goes
 made-goes [] s at t f next h k = (refl, (refl, omega arith))
 made-goes (r ∷ rs) s at t f next h k = either (Goes s at) (eqb t (r .tag)) (found (r .make f) next) (madeIn rs t f at next) (λ e. (h, k)) (λ e. made-goes rs s at t f next h k)
 
-record-goes : (t : ℕ) (fs s : List ℕ) (at : ℕ) → at < length s → Goes s at (recordAt t fs (drop at s) at)
+record-goes : (e t : ℕ) (fs s : List ℕ) (at : ℕ) → at < length s → Goes s at (recordAt e t fs (drop at s) at)
 unfolding recordAt made Goes
-record-goes t fs s at h =
-    either (Goes s at) (begins t (11 * length fs) (drop at s) && wellIn fs (drop 3 (drop at s))) (made t (named (numbersIn zeros fs (drop 3 (drop at s)))) at (at + (3 + 11 * length fs))) (malformed at)
-    (λ e. made-goes rows s at t (named (numbersIn zeros fs (drop 3 (drop at s)))) (at + (3 + 11 * length fs)) (omega arith) (begins-room t (11 * length fs) at s (and-left (begins t (11 * length fs) (drop at s)) _ e)))
-    (λ e. (refl, (refl, h)))
+record-goes e t fs s at h =
+    either (Goes s at) (begins t (11 * length fs) (drop at s) && wellIn fs (drop 3 (drop at s))) (made e t (named (numbersIn zeros fs (drop 3 (drop at s)))) at (at + (3 + 11 * length fs))) (malformed at)
+    (λ q. made-goes (rows e) s at t (named (numbersIn zeros fs (drop 3 (drop at s)))) (at + (3 + 11 * length fs)) (omega arith) (begins-room t (11 * length fs) at s (and-left (begins t (11 * length fs) (drop at s)) _ q)))
+    (λ q. (refl, (refl, h)))
 
-pub goes : (s : List ℕ) (at : ℕ) → Goes s at (readAt s at)
+pub goes : (e : ℕ) (s : List ℕ) (at : ℕ) → Goes s at (readAt e s at)
 unfolding readAt Goes
-goes s at =
-    either (Goes s at) (leb (length s) at) ended (recordAt (getD s at 0) (fieldsOf (getD s at 0)) (drop at s) at) (λ e. leb-true (length s) at e)
-    (λ e. record-goes (getD s at 0) (fieldsOf (getD s at 0)) s at (leb-false (length s) at e))
+goes e s at =
+    either (Goes s at) (leb (length s) at) ended (recordAt e (getD s at 0) (fieldsOf e (getD s at 0)) (drop at s) at) (λ q. leb-true (length s) at q)
+    (λ q. record-goes e (getD s at 0) (fieldsOf e (getD s at 0)) s at (leb-false (length s) at q))

@@ -9,10 +9,21 @@ use Rattle.journal.specs.declared.Decoded.the-variants.{Command as Read,
 use Rattle.journal.specs.declared.Encoded.{Encoded}
 use Rattle.journal.specs.declared.Encoded.the-variants.{Bytes, Short}
 
--- a number and an offset: 0 and the first record's, or 13 and that of the fault
-abbrev pub opening : Opened → ℕ × ℕ
-opening (Records at) = (0, at)
-opening (BadHeader at) = (number journalMalformed, at)
+-- what a header gives: 0, the edition and the first record's offset; or 13, no edition and the fault's offset
+pub record Opening : Type 0 where
+  pub answer : ℕ
+  pub edition : ℕ
+  pub first : ℕ
+
+abbrev pub goodHeader : ℕ → ℕ → Opening
+goodHeader e at = record { answer = 0; edition = e; first = at }
+
+abbrev pub badHeader : ℕ → Opening
+badHeader at = record { answer = number journalMalformed; edition = 0; first = at }
+
+abbrev pub opening : Opened → Opening
+opening (Records e at) = goodHeader e at
+opening (BadHeader at) = badHeader at
 
 -- a command and the offset past it; a refusal's number and its offset; or the end
 pub data Reading : Type 0 where

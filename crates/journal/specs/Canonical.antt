@@ -6,18 +6,18 @@ use Prim.Native.Nat.{ℕ, zero, suc, _+_, _*_, _^_, _≤_, _<_}
 use native.Mathlib.Omega.{arith}
 use lib.ListN.{length, getD, take, drop, set, length-drop}
 use lib.Seq.{take-add}
-use lib.Dec.{eqb, leb}
-use borrow.Author.Tests.{eqb-true, leb-true}
+use lib.Dec.{leb}
+use borrow.Author.Tests.{leb-true}
 use Rattle.refusal.specs.Choice.{pick}
-use Rattle.refusal.specs.Refusal.{number, journalMalformed}
+use Rattle.edition.specs.Edition.{listed}
 use Rattle.command.specs.declared.Command.{Command}
 use Rattle.wire.specs.Field.{numberAt, bytesOf, fieldOf, begins}
 use Rattle.wire.specs.NumberLaws.{Bytes}
 use Rattle.wire.specs.FieldLaws.{and-left, and-right, begins-room}
 use Rattle.wire.specs.FieldTrip.{bytes-drop, field-bytes, number-whole, number-small}
-use Rattle.journal.specs.Answers.{found, ended, malformed}
+use Rattle.journal.specs.Answers.{Opening, goodHeader, badHeader, found, ended, malformed}
 use Rattle.journal.specs.Table.{topOf, named, fieldsOf, made, partsOf}
-use Rattle.journal.specs.Format.{headerOf, openingOf, fieldIn, wellIn, numbersIn, zeros, recordAt, readAt, fieldsOut, bytesFor}
+use Rattle.journal.specs.Format.{headerOf, editionIn, openingOf, fieldIn, wellIn, numbersIn, zeros, recordAt, readAt, fieldsOut, bytesFor}
 use Rattle.journal.specs.WriteLaws.{length-for}
 use Rattle.journal.specs.HeldLaws.{Tops, byTag}
 use Rattle.journal.specs.Faithful.{made-of}
@@ -35,7 +35,7 @@ length-values (suc n) b = ap suc (length-values n (drop 11 b))
 values-small : (n : ℕ) (b : List ℕ) → Bytes b → (k : ℕ) → getD (valuesIn n b) k 0 < 2 ^ 64
 unfolding valuesIn
 values-small zero b h k = omega arith
-values-small (suc n) b h zero = number-small (drop 3 b) (bytes-drop 3 b h)
+values-small (suc n) b h zero = number-small 8 (drop 3 b) (bytes-drop 3 b h)
 values-small (suc n) b h (suc k) = values-small n (drop 11 b) (bytes-drop 11 b h) k
 
 -- each in its field's range
@@ -77,20 +77,20 @@ record-bytes t fs b k e =
     field-bytes t (11 * length fs) b k (and-left (begins t (11 * length fs) b) _ e) ∙ ap (λ (w : List ℕ). fieldOf t w) (fields-bytes fs (drop 3 b) (bytes-drop 3 b k) (and-right (begins t (11 * length fs) b) _ e))
 
 -- what stands at a place
-pub record Stands (s : List ℕ) (at : ℕ) (c : Command) (n : ℕ) : Type 0 where
-  pub past : n ≡ at + length (bytesFor c)
-  pub bytes : take (length (bytesFor c)) (drop at s) ≡ bytesFor c
-  pub range : Tops (fieldsOf (partsOf c .0)) (partsOf c .1)
+pub record Stands (e : ℕ) (s : List ℕ) (at : ℕ) (c : Command) (n : ℕ) : Type 0 where
+  pub past : n ≡ at + length (bytesFor e c)
+  pub bytes : take (length (bytesFor e c)) (drop at s) ≡ bytesFor e c
+  pub range : Tops (fieldsOf e (partsOf e c .0)) (partsOf e c .1)
 
-by-record : (t : ℕ) (s : List ℕ) (at : ℕ) (c : Command) (n : ℕ) → Bytes s → recordAt t (fieldsOf t) (drop at s) at ≡ found c n → Stands s at c n
+by-record : (e t : ℕ) (s : List ℕ) (at : ℕ) (c : Command) (n : ℕ) → Bytes s → recordAt e t (fieldsOf e t) (drop at s) at ≡ found c n → Stands e s at c n
 unfolding recordAt pick bytesFor
-by-record t s at c n k e = go (begins t (11 * length fs) b && wellIn fs (drop 3 b)) refl e
+by-record e t s at c n k r = go (begins t (11 * length fs) b && wellIn fs (drop 3 b)) refl r
   where
     b : List ℕ
     b = drop at s
 
     fs : List ℕ
-    fs = fieldsOf t
+    fs = fieldsOf e t
 
     vs : List ℕ
     vs = valuesIn (length fs) (drop 3 b)
@@ -98,32 +98,43 @@ by-record t s at c n k e = go (begins t (11 * length fs) b && wellIn fs (drop 3 
     kb : Bytes b
     kb = bytes-drop at s k
 
-    go : (w : Bool) → begins t (11 * length fs) b && wellIn fs (drop 3 b) ≡ w → pick w (made t (named (numbersIn zeros fs (drop 3 b))) at (at + (3 + 11 * length fs))) (malformed at) ≡ found c n → Stands s at c n
-    go true q e =
-        let m = made-of t at (at + (3 + 11 * length fs)) n vs c (length-values (length fs) (drop 3 b)) (values-small (length fs) (drop 3 b) (bytes-drop 3 b kb)) (rw (by-tag zeros fs (drop 3 b)) at e) in
-        let i : bytesFor c ≡ fieldOf t (fieldsOut fs vs) = ap (λ (p : ℕ × List ℕ). fieldOf (p .0) (fieldsOut (fieldsOf (p .0)) (p .1))) (m .1) in
-        let l : length (bytesFor c) ≡ 3 + 11 * length fs = length-for c ∙ ap (λ (p : ℕ × List ℕ). 3 + 11 * length (fieldsOf (p .0))) (m .1) in
+    go : (w : Bool) → begins t (11 * length fs) b && wellIn fs (drop 3 b) ≡ w → pick w (made e t (named (numbersIn zeros fs (drop 3 b))) at (at + (3 + 11 * length fs))) (malformed at) ≡ found c n → Stands e s at c n
+    go true q r =
+        let m = made-of e t at (at + (3 + 11 * length fs)) n vs c (length-values (length fs) (drop 3 b)) (values-small (length fs) (drop 3 b) (bytes-drop 3 b kb)) (rw (by-tag zeros fs (drop 3 b)) at r) in
+        let i : bytesFor e c ≡ fieldOf t (fieldsOut fs vs) = ap (λ (p : ℕ × List ℕ). fieldOf (p .0) (fieldsOut (fieldsOf e (p .0)) (p .1))) (m .1) in
+        let l : length (bytesFor e c) ≡ 3 + 11 * length fs = length-for e c ∙ ap (λ (p : ℕ × List ℕ). 3 + 11 * length (fieldsOf e (p .0))) (m .1) in
         record { past = sym (m .0) ∙ ap (λ (j : ℕ). at + j) (sym l); bytes = rw l (record-bytes t fs b kb q ∙ sym i); range = rw (m .1) (values-range fs (drop 3 b) (and-right (begins t (11 * length fs) b) _ q)) }
-    go false q e = let z : _≡_ {A = ℕ} 0 1 = cc in absurd (omega arith)
+    go false q r = let z : _≡_ {A = ℕ} 0 1 = cc in absurd (omega arith)
 
 -- READING THEN WRITING
-pub canonical : (s : List ℕ) (at : ℕ) (c : Command) (n : ℕ) → Bytes s → readAt s at ≡ found c n → Stands s at c n
+pub canonical : (e : ℕ) (s : List ℕ) (at : ℕ) (c : Command) (n : ℕ) → Bytes s → readAt e s at ≡ found c n → Stands e s at c n
 unfolding readAt pick
-canonical s at c n k e = go (leb (length s) at) e
+canonical e s at c n k r = go (leb (length s) at) r
   where
-    go : (w : Bool) → pick w ended (recordAt (getD s at 0) (fieldsOf (getD s at 0)) (drop at s) at) ≡ found c n → Stands s at c n
-    go true e = let z : _≡_ {A = ℕ} 0 1 = cc in absurd (omega arith)
-    go false e = by-record (getD s at 0) s at c n k e
+    go : (w : Bool) → pick w ended (recordAt e (getD s at 0) (fieldsOf e (getD s at 0)) (drop at s) at) ≡ found c n → Stands e s at c n
+    go true r = let z : _≡_ {A = ℕ} 0 1 = cc in absurd (omega arith)
+    go false r = by-record e (getD s at 0) s at c n k r
 
--- and a journal that opens begins with exactly the header
-pub header-canonical : (s : List ℕ) → Bytes s → openingOf s ≡ (0, 5) → take 5 s ≡ headerOf
+-- and a journal that opens begins with exactly the header of its edition
+pub record Headed (s : List ℕ) (e at : ℕ) : Type 0 where
+  pub known : listed e ≡ true
+  pub first : at ≡ 5
+  pub room : 5 ≤ length s
+  pub bytes : take 5 s ≡ headerOf e
+
+pub header-canonical : (s : List ℕ) (e at : ℕ) → Bytes s → openingOf s ≡ goodHeader e at → Headed s e at
 unfolding openingOf headerOf pick
-header-canonical s k e = go (begins 0x10 2 s && eqb (numberAt 2 (drop 3 s)) 1) refl e
+header-canonical s e at k o = go (begins 0x10 2 s && listed (editionIn s)) refl o
   where
-    go : (w : Bool) → begins 0x10 2 s && eqb (numberAt 2 (drop 3 s)) 1 ≡ w → _≡_ {A = ℕ × ℕ} (pick w (0, 5) (number journalMalformed, 0)) (0, 5) → take 5 s ≡ fieldOf 0x10 (bytesOf 2 1)
-    go true q e =
+    go : (w : Bool) → begins 0x10 2 s && listed (editionIn s) ≡ w → pick w (goodHeader (editionIn s) 5) (badHeader 0) ≡ goodHeader e at → Headed s e at
+    go true q o =
         let g : begins 0x10 2 s ≡ true = and-left (begins 0x10 2 s) _ q in
-        let n : numberAt 2 (drop 3 s) ≡ 1 = eqb-true (numberAt 2 (drop 3 s)) 1 (and-right (begins 0x10 2 s) _ q) in
+        let i : editionIn s ≡ e = ap (λ (h : Opening). h .edition) o in
         let l : 5 ≤ length s = omega (arith, begins-room 0x10 2 0 s g) in
-        field-bytes 0x10 2 s k g ∙ ap (λ (w : List ℕ). fieldOf 0x10 w) (number-whole 2 (drop 3 s) (bytes-drop 3 s k) (rw length-drop (omega arith)) ∙ ap (bytesOf 2) n)
-    go false q e = let z : _≡_ {A = ℕ} 13 0 = ap (λ (p : ℕ × ℕ). p .0) e in absurd (omega arith)
+        record {
+          known = rw i at (and-right (begins 0x10 2 s) _ q);
+          first = sym (ap (λ (h : Opening). h .first) o);
+          room = l;
+          bytes = field-bytes 0x10 2 s k g ∙ ap (λ (w : List ℕ). fieldOf 0x10 w) (number-whole 2 (drop 3 s) (bytes-drop 3 s k) (rw length-drop (omega arith)) ∙ ap (bytesOf 2) i);
+        }
+    go false q o = let z : _≡_ {A = ℕ} 13 0 = ap (λ (h : Opening). h .answer) o in absurd (omega arith)

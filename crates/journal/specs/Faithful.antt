@@ -30,21 +30,21 @@ tabulated (x ∷ l) = ap (λ (r : List ℕ). x ∷ r) (tabulated l)
 abbrev valuesAt : List ℕ → (ℕ → ℕ) → Values
 valuesAt fs v = named (byTag zeros fs (tabulate (length fs) v))
 
-abbrev Faithful : Row → Type 0
-Faithful r = (v : ℕ → ℕ) → ((k : ℕ) → v k < 2 ^ 64) → partsOf (r .make (valuesAt (r .fields) v)) ≡ (r .tag, tabulate (length (r .fields)) v)
+abbrev Faithful : ℕ → Row → Type 0
+Faithful e r = (v : ℕ → ℕ) → ((k : ℕ) → v k < 2 ^ 64) → partsOf e (r .make (valuesAt (r .fields) v)) ≡ (r .tag, tabulate (length (r .fields)) v)
 
 infixr 5 _▸_
-data Each : List Row → Type 0 where
-  none : Each []
-  _▸_ : {r : Row} {rs : List Row} → Faithful r → Each rs → Each (r ∷ rs)
+data Each (e : ℕ) : List Row → Type 0 where
+  none : Each e []
+  _▸_ : {r : Row} {rs : List Row} → Faithful e r → Each e rs → Each e (r ∷ rs)
 
 -- an amount among the numbers comes back from its bits
 amount : (t : ℕ) (g : ℕ → List ℕ) (x : ℕ) → x < 2 ^ 64 → _≡_ {A = ℕ × List ℕ} (t, g (bitsOf (ofBits x))) (t, g x)
 amount t g x h = ap (λ (n : ℕ). (t, g n)) (bits-of-bits x h)
 
-all-rows : Each rows
+all-rows : (e : ℕ) → Each e (rows e)
 unfolding partsOf named byTag
-all-rows =
+all-rows e =
     (λ v h. refl)
     ▸ (λ v h. amount 0x22 (λ x. v 0 ∷ v 1 ∷ x ∷ []) (v 2) (h 2))
     ▸ (λ v h. amount 0x23 (λ x. v 0 ∷ v 1 ∷ x ∷ []) (v 2) (h 2))
@@ -72,31 +72,31 @@ all-rows =
     ▸ none
 
 -- what a row makes of numbers
-pub record Made (t m n : ℕ) (fs : List ℕ) (v : ℕ → ℕ) (c : Command) : Type 0 where
+pub record Made (e t m n : ℕ) (fs : List ℕ) (v : ℕ → ℕ) (c : Command) : Type 0 where
   pub next : m ≡ n
-  pub parts : partsOf c ≡ (t, tabulate (length fs) v)
+  pub parts : partsOf e c ≡ (t, tabulate (length fs) v)
 
-made-in : (rs : List Row) (t : ℕ) (v : ℕ → ℕ) (at m n : ℕ) (c : Command) → Each rs → ((k : ℕ) → v k < 2 ^ 64) → madeIn rs t (valuesAt (fieldsIn rs t) v) at m ≡ found c n → Made t m n (fieldsIn rs t) v c
+made-in : (e : ℕ) (rs : List Row) (t : ℕ) (v : ℕ → ℕ) (at m n : ℕ) (c : Command) → Each e rs → ((k : ℕ) → v k < 2 ^ 64) → madeIn rs t (valuesAt (fieldsIn rs t) v) at m ≡ found c n → Made e t m n (fieldsIn rs t) v c
 unfolding madeIn fieldsIn pick
-made-in [] t v at m n c a h e = absurd (no e)
+made-in e [] t v at m n c a h q = absurd (no q)
   where
     no : malformed at ≡ found c n → ⊥
-    no e = let z : _≡_ {A = ℕ} 0 1 = cc in omega arith
-made-in (r ∷ rs) t v at m n c (a ▸ l) h e = go (λ x. made-in rs t v at m n c l h x) (eqb t (r .tag)) refl e
+    no q = let z : _≡_ {A = ℕ} 0 1 = cc in omega arith
+made-in e (r ∷ rs) t v at m n c (a ▸ l) h q = go (λ x. made-in e rs t v at m n c l h x) (eqb t (r .tag)) refl q
   where
-    go : (madeIn rs t (valuesAt (fieldsIn rs t) v) at m ≡ found c n → Made t m n (fieldsIn rs t) v c) → (b : Bool) → eqb t (r .tag) ≡ b
+    go : (madeIn rs t (valuesAt (fieldsIn rs t) v) at m ≡ found c n → Made e t m n (fieldsIn rs t) v c) → (b : Bool) → eqb t (r .tag) ≡ b
         → pick b (found (r .make (valuesAt (pick b (r .fields) (fieldsIn rs t)) v)) m) (madeIn rs t (valuesAt (pick b (r .fields) (fieldsIn rs t)) v) at m) ≡ found c n
-        → Made t m n (pick b (r .fields) (fieldsIn rs t)) v c
-    go w true q e =
-        let i : r .make (valuesAt (r .fields) v) ≡ c = cc in
+        → Made e t m n (pick b (r .fields) (fieldsIn rs t)) v c
+    go w true i q =
+        let d : r .make (valuesAt (r .fields) v) ≡ c = cc in
         let j : m ≡ n = cc in
-        record { next = j; parts = ap partsOf (sym i) ∙ a v h ∙ ap (λ (k : ℕ). (k, tabulate (length (r .fields)) v)) (sym (eqb-true t (r .tag) q)) }
-    go w false q e = w e
+        record { next = j; parts = ap (partsOf e) (sym d) ∙ a v h ∙ ap (λ (k : ℕ). (k, tabulate (length (r .fields)) v)) (sym (eqb-true t (r .tag) i)) }
+    go w false i q = w q
 
 -- a record of tag t whose fields hold the numbers vs
-pub made-of : (t at m n : ℕ) (vs : List ℕ) (c : Command) → length vs ≡ length (fieldsOf t) → ((k : ℕ) → getD vs k 0 < 2 ^ 64) → made t (named (byTag zeros (fieldsOf t) vs)) at m ≡ found c n → (m ≡ n) × (partsOf c ≡ (t, vs))
+pub made-of : (e t at m n : ℕ) (vs : List ℕ) (c : Command) → length vs ≡ length (fieldsOf e t) → ((k : ℕ) → getD vs k 0 < 2 ^ 64) → made e t (named (byTag zeros (fieldsOf e t) vs)) at m ≡ found c n → (m ≡ n) × (partsOf e c ≡ (t, vs))
 unfolding made fieldsOf
-made-of t at m n vs c l h e =
-    let k : tabulate (length (fieldsIn rows t)) (λ (k : ℕ). getD vs k 0) ≡ vs = ap (λ (n : ℕ). tabulate n (λ (k : ℕ). getD vs k 0)) (sym l) ∙ tabulated vs in
-    let r = made-in rows t (λ (k : ℕ). getD vs k 0) at m n c all-rows h (rw k e) in
+made-of e t at m n vs c l h q =
+    let k : tabulate (length (fieldsIn (rows e) t)) (λ (k : ℕ). getD vs k 0) ≡ vs = ap (λ (n : ℕ). tabulate n (λ (k : ℕ). getD vs k 0)) (sym l) ∙ tabulated vs in
+    let r = made-in e (rows e) t (λ (k : ℕ). getD vs k 0) at m n c (all-rows e) h (rw k q) in
     (r .next, r .parts ∙ ap (λ (x : List ℕ). (t, x)) k)

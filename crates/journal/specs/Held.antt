@@ -1,5 +1,6 @@
--- The commands that the code's type holds.
+-- The commands that a journal of an edition holds.
 use mathlib.Core.List.{List}
+use Prim.Native.Nat.{ℕ}
 use mir.Val.{Val}
 use denote.Laws.{Is}
 use denote.Enum.Declared.{row, variants}
@@ -8,11 +9,11 @@ use Rattle.command.specs.declared.Command.{Command}
 use Rattle.command.proofs.Command as type
 use Rattle.command.proofs.Command.Laws as laws
 
--- each field of the command is in the range of its type: a u64 is below 2^64, a u32 below 2^32, an i64 has 64 bits
-unfoldable pub Held : Command → Type 0
-Held c = Fields (variants type.the-type) (spellss (type.the-type .parts) laws.the-laws) (type.the-type .to c)
+-- each field of the command is in the range of its type: a u64 is below 2^64, a u32 below 2^32, an i64 has 64 bits. (Every edition so far has each field of a command in its record.)
+unfoldable pub Held : ℕ → Command → Type 0
+Held e c = Fields (variants type.the-type) (spellss (type.the-type .parts) laws.the-laws) (type.the-type .to c)
 
 -- so is each field of every command in the code: what a function is handed of its argument c is `Is (row type.the-type) c vs`
-pub every : (c : Command) (vs : List Val) → Is (row type.the-type) c vs → Held c
+pub every : (e : ℕ) (c : Command) (vs : List Val) → Is (row type.the-type) c vs → Held e c
 unfolding Held
-every c vs p = owed type.the-type laws.the-laws c vs p
+every e c vs p = owed type.the-type laws.the-laws c vs p

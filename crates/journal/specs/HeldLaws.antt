@@ -51,56 +51,56 @@ ruleset ranges = (wide, thin, bits-wide)
 terms-in : (m : Terms) (vs : List Val) → Is (row-struct terms.the-type) m vs → (mag (m .amount) < 2 ^ 63) × ((m .rate < 4294967296) × (m .duration < 18446744073709551616))
 terms-in m vs p = let f = owed-struct terms.the-type terms-laws.the-laws m vs p in (f .0 .1, (f .1 .0 .1, f .1 .1 .0 .1))
 
-pub in-range : (c : Command) → Held c → Tops (fieldsOf (partsOf c .0)) (partsOf c .1)
+pub in-range : (e : ℕ) (c : Command) → Held e c → Tops (fieldsOf e (partsOf e c .0)) (partsOf e c .1)
 unfolding Held fieldsOf fieldsIn partsOf topOf pick
-in-range (OpenAccount t c) h = search ranges
-in-range (Deposit t c a) h = search ranges
-in-range (Payout t c a) h = search ranges
-in-range (Approve t c a) h = search ranges
-in-range (RegisterInvoice t c i a) h = search ranges
-in-range (CancelInvoice t c i) h = search ranges
-in-range (CreateOffer t c i v m e) h = let k = terms-in m _ (h .1 .1 .1 .1 .0) in search ranges
-in-range (WithdrawOffer t c i) h = search ranges
-in-range (AcceptOffer t c i) h = search ranges
-in-range (RejectOffer t c i) h = search ranges
-in-range (AmendOffer t c i m r) h = let k = terms-in m _ (h .1 .1 .1 .0) in search ranges
-in-range (CounterOffer t c i m r) h = let k = terms-in m _ (h .1 .1 .1 .0) in search ranges
-in-range (CloseNegotiation t c i) h = search ranges
-in-range (ScheduleRepayment t c i n k f) h = search ranges
-in-range (UpdateStatus t c i k) h = search ranges
-in-range (UpdateRepaid t c i a) h = search ranges
-in-range (UpdateLenderRepaid t c i k) h = search ranges
-in-range (UpdateTotalsRepaid t c a b) h = search ranges
-in-range (Pause t s) h = search ranges
-in-range (Unpause t s) h = search ranges
-in-range (SetWindow t s w) h = search ranges
-in-range (SetRepaymentAccount t i s) h = search ranges
-in-range (SetBlacklisted t i k s) h = search ranges
-in-range (SetSeats t s q x) h = search ranges
+in-range e (OpenAccount t c) h = search ranges
+in-range e (Deposit t c a) h = search ranges
+in-range e (Payout t c a) h = search ranges
+in-range e (Approve t c a) h = search ranges
+in-range e (RegisterInvoice t c i a) h = search ranges
+in-range e (CancelInvoice t c i) h = search ranges
+in-range e (CreateOffer t c i v m x) h = let k = terms-in m _ (h .1 .1 .1 .1 .0) in search ranges
+in-range e (WithdrawOffer t c i) h = search ranges
+in-range e (AcceptOffer t c i) h = search ranges
+in-range e (RejectOffer t c i) h = search ranges
+in-range e (AmendOffer t c i m r) h = let k = terms-in m _ (h .1 .1 .1 .0) in search ranges
+in-range e (CounterOffer t c i m r) h = let k = terms-in m _ (h .1 .1 .1 .0) in search ranges
+in-range e (CloseNegotiation t c i) h = search ranges
+in-range e (ScheduleRepayment t c i n k f) h = search ranges
+in-range e (UpdateStatus t c i k) h = search ranges
+in-range e (UpdateRepaid t c i a) h = search ranges
+in-range e (UpdateLenderRepaid t c i k) h = search ranges
+in-range e (UpdateTotalsRepaid t c a b) h = search ranges
+in-range e (Pause t s) h = search ranges
+in-range e (Unpause t s) h = search ranges
+in-range e (SetWindow t s w) h = search ranges
+in-range e (SetRepaymentAccount t i s) h = search ranges
+in-range e (SetBlacklisted t i k s) h = search ranges
+in-range e (SetSeats t s q x) h = search ranges
 
-pub made-back : (c : Command) (at next : ℕ) → Held c → made (partsOf c .0) (named (byTag zeros (fieldsOf (partsOf c .0)) (partsOf c .1))) at next ≡ found c next
+pub made-back : (e : ℕ) (c : Command) (at next : ℕ) → Held e c → made e (partsOf e c .0) (named (byTag zeros (fieldsOf e (partsOf e c .0)) (partsOf e c .1))) at next ≡ found c next
 unfolding Held fieldsOf fieldsIn made madeIn named partsOf byTag pick
-made-back (OpenAccount t c) at next h = refl
-made-back (Deposit t c a) at next h = ap (λ (z : ℤ). found (Deposit t c z) next) (back a (h .1 .1 .0 .1))
-made-back (Payout t c a) at next h = ap (λ (z : ℤ). found (Payout t c z) next) (back a (h .1 .1 .0 .1))
-made-back (Approve t c a) at next h = ap (λ (z : ℤ). found (Approve t c z) next) (back a (h .1 .1 .0 .1))
-made-back (RegisterInvoice t c i a) at next h = ap (λ (z : ℤ). found (RegisterInvoice t c i z) next) (back a (h .1 .1 .1 .0 .1))
-made-back (CancelInvoice t c i) at next h = refl
-made-back (CreateOffer t c i v m e) at next h = ap (λ (z : ℤ). found (CreateOffer t c i v (record { amount = z; rate = m .rate; duration = m .duration }) e) next) (back (m .amount) (terms-in m _ (h .1 .1 .1 .1 .0) .0))
-made-back (WithdrawOffer t c i) at next h = refl
-made-back (AcceptOffer t c i) at next h = refl
-made-back (RejectOffer t c i) at next h = refl
-made-back (AmendOffer t c i m r) at next h = ap (λ (z : ℤ). found (AmendOffer t c i (record { amount = z; rate = m .rate; duration = m .duration }) r) next) (back (m .amount) (terms-in m _ (h .1 .1 .1 .0) .0))
-made-back (CounterOffer t c i m r) at next h = ap (λ (z : ℤ). found (CounterOffer t c i (record { amount = z; rate = m .rate; duration = m .duration }) r) next) (back (m .amount) (terms-in m _ (h .1 .1 .1 .0) .0))
-made-back (CloseNegotiation t c i) at next h = refl
-made-back (ScheduleRepayment t c i n k f) at next h = refl
-made-back (UpdateStatus t c i k) at next h = refl
-made-back (UpdateRepaid t c i a) at next h = ap (λ (z : ℤ). found (UpdateRepaid t c i z) next) (back a (h .1 .1 .1 .0 .1))
-made-back (UpdateLenderRepaid t c i k) at next h = refl
-made-back (UpdateTotalsRepaid t c a b) at next h = ap (λ (z : ℤ). found (UpdateTotalsRepaid t c z (ofBits (bitsOf b))) next) (back a (h .1 .1 .0 .1)) ∙ ap (λ (z : ℤ). found (UpdateTotalsRepaid t c a z) next) (back b (h .1 .1 .1 .0 .1))
-made-back (Pause t s) at next h = refl
-made-back (Unpause t s) at next h = refl
-made-back (SetWindow t s w) at next h = refl
-made-back (SetRepaymentAccount t i s) at next h = refl
-made-back (SetBlacklisted t i k s) at next h = refl
-made-back (SetSeats t s q x) at next h = refl
+made-back e (OpenAccount t c) at next h = refl
+made-back e (Deposit t c a) at next h = ap (λ (z : ℤ). found (Deposit t c z) next) (back a (h .1 .1 .0 .1))
+made-back e (Payout t c a) at next h = ap (λ (z : ℤ). found (Payout t c z) next) (back a (h .1 .1 .0 .1))
+made-back e (Approve t c a) at next h = ap (λ (z : ℤ). found (Approve t c z) next) (back a (h .1 .1 .0 .1))
+made-back e (RegisterInvoice t c i a) at next h = ap (λ (z : ℤ). found (RegisterInvoice t c i z) next) (back a (h .1 .1 .1 .0 .1))
+made-back e (CancelInvoice t c i) at next h = refl
+made-back e (CreateOffer t c i v m x) at next h = ap (λ (z : ℤ). found (CreateOffer t c i v (record { amount = z; rate = m .rate; duration = m .duration }) x) next) (back (m .amount) (terms-in m _ (h .1 .1 .1 .1 .0) .0))
+made-back e (WithdrawOffer t c i) at next h = refl
+made-back e (AcceptOffer t c i) at next h = refl
+made-back e (RejectOffer t c i) at next h = refl
+made-back e (AmendOffer t c i m r) at next h = ap (λ (z : ℤ). found (AmendOffer t c i (record { amount = z; rate = m .rate; duration = m .duration }) r) next) (back (m .amount) (terms-in m _ (h .1 .1 .1 .0) .0))
+made-back e (CounterOffer t c i m r) at next h = ap (λ (z : ℤ). found (CounterOffer t c i (record { amount = z; rate = m .rate; duration = m .duration }) r) next) (back (m .amount) (terms-in m _ (h .1 .1 .1 .0) .0))
+made-back e (CloseNegotiation t c i) at next h = refl
+made-back e (ScheduleRepayment t c i n k f) at next h = refl
+made-back e (UpdateStatus t c i k) at next h = refl
+made-back e (UpdateRepaid t c i a) at next h = ap (λ (z : ℤ). found (UpdateRepaid t c i z) next) (back a (h .1 .1 .1 .0 .1))
+made-back e (UpdateLenderRepaid t c i k) at next h = refl
+made-back e (UpdateTotalsRepaid t c a b) at next h = ap (λ (z : ℤ). found (UpdateTotalsRepaid t c z (ofBits (bitsOf b))) next) (back a (h .1 .1 .0 .1)) ∙ ap (λ (z : ℤ). found (UpdateTotalsRepaid t c a z) next) (back b (h .1 .1 .1 .0 .1))
+made-back e (Pause t s) at next h = refl
+made-back e (Unpause t s) at next h = refl
+made-back e (SetWindow t s w) at next h = refl
+made-back e (SetRepaymentAccount t i s) at next h = refl
+made-back e (SetBlacklisted t i k s) at next h = refl
+made-back e (SetSeats t s q x) at next h = refl

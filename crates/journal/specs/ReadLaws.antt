@@ -19,13 +19,13 @@ use Rattle.journal.specs.Format.{fieldIn, wellIn, numbersIn, zeros, gath
 use Rattle.journal.specs.FieldLaws.{and-off}
 use Rattle.journal.specs.declared.reading.Gathered.{Gathered}
 
-pub at-end : (s : List ℕ) (at : ℕ) → length s ≤ at → ended ≡ readAt s at
+pub at-end : (e : ℕ) (s : List ℕ) (at : ℕ) → length s ≤ at → ended ≡ readAt e s at
 unfolding readAt
-at-end s at h = sym (pick-on _ _ (le-leb (length s) at h))
+at-end e s at h = sym (pick-on _ _ (le-leb (length s) at h))
 
-pub at-record : (s : List ℕ) (at : ℕ) → at < length s → {r : Reading} → r ≡ recordAt (getD s at 0) (fieldsOf (getD s at 0)) (drop at s) at → r ≡ readAt s at
+pub at-record : (e : ℕ) (s : List ℕ) (at : ℕ) → at < length s → {r : Reading} → r ≡ recordAt e (getD s at 0) (fieldsOf e (getD s at 0)) (drop at s) at → r ≡ readAt e s at
 unfolding readAt
-at-record s at h e = e ∙ sym (pick-off _ _ (lt-leb (length s) at h))
+at-record e s at h q = q ∙ sym (pick-off _ _ (lt-leb (length s) at h))
 
 well-is : (fs b : List ℕ) → gatheredIn fs b .0 ≡ wellIn fs b
 unfolding gatheredIn pick
@@ -39,22 +39,22 @@ numbers-are : (fs b : List ℕ) → wellIn fs b ≡ true → gatheredIn fs b .1 
 unfolding gatheredIn
 numbers-are fs b e = ap (λ (g : Gathered). g .1) (pick-on _ _ e)
 
-module _ (t : ℕ) (fs s : List ℕ) (at : ℕ) where
-  pub no-head : begins t (11 * length fs) (drop at s) ≡ false → malformed at ≡ recordAt t fs (drop at s) at
+module _ (e t : ℕ) (fs s : List ℕ) (at : ℕ) where
+  pub no-head : begins t (11 * length fs) (drop at s) ≡ false → malformed at ≡ recordAt e t fs (drop at s) at
   unfolding recordAt
-  no-head e = sym (pick-off _ _ (ap (λ (x : Bool). x && wellIn fs (drop 3 (drop at s))) e))
+  no-head q = sym (pick-off _ _ (ap (λ (x : Bool). x && wellIn fs (drop 3 (drop at s))) q))
 
-  pub not-well : gatheredIn fs (drop (at + 3) s) .0 ≡ false → malformed at ≡ recordAt t fs (drop at s) at
+  pub not-well : gatheredIn fs (drop (at + 3) s) .0 ≡ false → malformed at ≡ recordAt e t fs (drop at s) at
   unfolding recordAt
-  not-well e = sym (pick-off _ _ (ap (λ (x : Bool). begins t (11 * length fs) (drop at s) && x) (rw (drop-drop 3 at s) (sym (well-is fs (drop (at + 3) s)) ∙ e)) ∙ and-off (begins t (11 * length fs) (drop at s))))
+  not-well q = sym (pick-off _ _ (ap (λ (x : Bool). begins t (11 * length fs) (drop at s) && x) (rw (drop-drop 3 at s) (sym (well-is fs (drop (at + 3) s)) ∙ q)) ∙ and-off (begins t (11 * length fs) (drop at s))))
 
   pub whole : begins t (11 * length fs) (drop at s) ≡ true → gatheredIn fs (drop (at + 3) s) .0 ≡ true
-      → made t (named (gatheredIn fs (drop (at + 3) s) .1)) at (at + (3 + 11 * length fs)) ≡ recordAt t fs (drop at s) at
+      → made e t (named (gatheredIn fs (drop (at + 3) s) .1)) at (at + (3 + 11 * length fs)) ≡ recordAt e t fs (drop at s) at
   unfolding recordAt
-  whole e k =
+  whole q k =
       let w : wellIn fs (drop (at + 3) s) ≡ true = sym (well-is fs (drop (at + 3) s)) ∙ k in
       rw (numbers-are fs (drop (at + 3) s) w, ← drop-drop 3 at s)
-      (sym (pick-on _ _ (ap (λ (x : Bool). x && wellIn fs (drop 3 (drop at s))) e ∙ rw (drop-drop 3 at s) w)))
+      (sym (pick-on _ _ (ap (λ (x : Bool). x && wellIn fs (drop 3 (drop at s))) q ∙ rw (drop-drop 3 at s) w)))
 
 -- each number is in its range
 set-le : (v : List ℕ) (f x k m : ℕ) → (k ≡ f → x ≤ m) → getD v k 0 ≤ m → getD (set v f x) k 0 ≤ m

@@ -58,8 +58,9 @@ row t l m = record { tag = t; fields = l; make = m }
 abbrev termsIn : Values → Terms
 termsIn f = record { amount = f .amount; rate = f .rate; duration = f .duration }
 
-abbrev pub rows : List Row
-rows =
+-- the records of an edition
+abbrev pub rows : ℕ → List Row
+rows e =
     row 0x21 (0x01 ∷ 0x02 ∷ []) (λ f. OpenAccount (f .now) (f .caller))
     ∷ row 0x22 (0x01 ∷ 0x02 ∷ 0x05 ∷ []) (λ f. Deposit (f .now) (f .caller) (f .amount))
     ∷ row 0x23 (0x01 ∷ 0x02 ∷ 0x05 ∷ []) (λ f. Payout (f .now) (f .caller) (f .amount))
@@ -91,43 +92,43 @@ unfoldable pub fieldsIn : List Row → ℕ → List ℕ
 fieldsIn [] t = []
 fieldsIn (r ∷ rs) t = pick (eqb t (r .tag)) (r .fields) (fieldsIn rs t)
 
-unfoldable pub fieldsOf : ℕ → List ℕ
-fieldsOf t = fieldsIn rows t
+unfoldable pub fieldsOf : ℕ → ℕ → List ℕ
+fieldsOf e t = fieldsIn (rows e) t
 
 -- the record of tag t at a place, with the place past it
 unfoldable pub madeIn : List Row → ℕ → Values → ℕ → ℕ → Reading
 madeIn [] t f at next = malformed at
 madeIn (r ∷ rs) t f at next = pick (eqb t (r .tag)) (found (r .make f) next) (madeIn rs t f at next)
 
-unfoldable pub made : ℕ → Values → ℕ → ℕ → Reading
-made t f at next = madeIn rows t f at next
+unfoldable pub made : ℕ → ℕ → Values → ℕ → ℕ → Reading
+made e t f at next = madeIn (rows e) t f at next
 
--- a command's tag and the numbers of its fields in order
-unfoldable pub partsOf : Command → ℕ × List ℕ
-partsOf (OpenAccount t c) = (0x21, t ∷ c ∷ [])
-partsOf (Deposit t c a) = (0x22, t ∷ c ∷ bitsOf a ∷ [])
-partsOf (Payout t c a) = (0x23, t ∷ c ∷ bitsOf a ∷ [])
-partsOf (Approve t c a) = (0x24, t ∷ c ∷ bitsOf a ∷ [])
-partsOf (RegisterInvoice t c i a) = (0x25, t ∷ c ∷ i ∷ bitsOf a ∷ [])
-partsOf (CancelInvoice t c i) = (0x26, t ∷ c ∷ i ∷ [])
-partsOf (CreateOffer t c i v m e) = (0x31, t ∷ c ∷ i ∷ v ∷ bitsOf (m .amount) ∷ m .rate ∷ m .duration ∷ e ∷ [])
-partsOf (WithdrawOffer t c i) = (0x32, t ∷ c ∷ i ∷ [])
-partsOf (AcceptOffer t c i) = (0x33, t ∷ c ∷ i ∷ [])
-partsOf (RejectOffer t c i) = (0x34, t ∷ c ∷ i ∷ [])
-partsOf (AmendOffer t c i m r) = (0x35, t ∷ c ∷ i ∷ bitsOf (m .amount) ∷ m .rate ∷ m .duration ∷ r ∷ [])
-partsOf (CounterOffer t c i m r) = (0x36, t ∷ c ∷ i ∷ bitsOf (m .amount) ∷ m .rate ∷ m .duration ∷ r ∷ [])
-partsOf (CloseNegotiation t c i) = (0x37, t ∷ c ∷ i ∷ [])
-partsOf (ScheduleRepayment t c i n k f) = (0x38, t ∷ c ∷ i ∷ n ∷ k ∷ f ∷ [])
-partsOf (UpdateStatus t c i k) = (0x41, t ∷ c ∷ i ∷ k ∷ [])
-partsOf (UpdateRepaid t c i a) = (0x42, t ∷ c ∷ i ∷ bitsOf a ∷ [])
-partsOf (UpdateLenderRepaid t c i k) = (0x43, t ∷ c ∷ i ∷ k ∷ [])
-partsOf (UpdateTotalsRepaid t c a b) = (0x44, t ∷ c ∷ bitsOf a ∷ bitsOf b ∷ [])
-partsOf (Pause t s) = (0x51, t ∷ s ∷ [])
-partsOf (Unpause t s) = (0x52, t ∷ s ∷ [])
-partsOf (SetWindow t s w) = (0x53, t ∷ s ∷ w ∷ [])
-partsOf (SetRepaymentAccount t i s) = (0x54, t ∷ i ∷ s ∷ [])
-partsOf (SetBlacklisted t i k s) = (0x55, t ∷ i ∷ k ∷ s ∷ [])
-partsOf (SetSeats t s h x) = (0x56, t ∷ s ∷ h ∷ x ∷ [])
+-- a command's tag and the numbers of its fields in order, in an edition
+unfoldable pub partsOf : ℕ → Command → ℕ × List ℕ
+partsOf e (OpenAccount t c) = (0x21, t ∷ c ∷ [])
+partsOf e (Deposit t c a) = (0x22, t ∷ c ∷ bitsOf a ∷ [])
+partsOf e (Payout t c a) = (0x23, t ∷ c ∷ bitsOf a ∷ [])
+partsOf e (Approve t c a) = (0x24, t ∷ c ∷ bitsOf a ∷ [])
+partsOf e (RegisterInvoice t c i a) = (0x25, t ∷ c ∷ i ∷ bitsOf a ∷ [])
+partsOf e (CancelInvoice t c i) = (0x26, t ∷ c ∷ i ∷ [])
+partsOf e (CreateOffer t c i v m x) = (0x31, t ∷ c ∷ i ∷ v ∷ bitsOf (m .amount) ∷ m .rate ∷ m .duration ∷ x ∷ [])
+partsOf e (WithdrawOffer t c i) = (0x32, t ∷ c ∷ i ∷ [])
+partsOf e (AcceptOffer t c i) = (0x33, t ∷ c ∷ i ∷ [])
+partsOf e (RejectOffer t c i) = (0x34, t ∷ c ∷ i ∷ [])
+partsOf e (AmendOffer t c i m r) = (0x35, t ∷ c ∷ i ∷ bitsOf (m .amount) ∷ m .rate ∷ m .duration ∷ r ∷ [])
+partsOf e (CounterOffer t c i m r) = (0x36, t ∷ c ∷ i ∷ bitsOf (m .amount) ∷ m .rate ∷ m .duration ∷ r ∷ [])
+partsOf e (CloseNegotiation t c i) = (0x37, t ∷ c ∷ i ∷ [])
+partsOf e (ScheduleRepayment t c i n k f) = (0x38, t ∷ c ∷ i ∷ n ∷ k ∷ f ∷ [])
+partsOf e (UpdateStatus t c i k) = (0x41, t ∷ c ∷ i ∷ k ∷ [])
+partsOf e (UpdateRepaid t c i a) = (0x42, t ∷ c ∷ i ∷ bitsOf a ∷ [])
+partsOf e (UpdateLenderRepaid t c i k) = (0x43, t ∷ c ∷ i ∷ k ∷ [])
+partsOf e (UpdateTotalsRepaid t c a b) = (0x44, t ∷ c ∷ bitsOf a ∷ bitsOf b ∷ [])
+partsOf e (Pause t s) = (0x51, t ∷ s ∷ [])
+partsOf e (Unpause t s) = (0x52, t ∷ s ∷ [])
+partsOf e (SetWindow t s w) = (0x53, t ∷ s ∷ w ∷ [])
+partsOf e (SetRepaymentAccount t i s) = (0x54, t ∷ i ∷ s ∷ [])
+partsOf e (SetBlacklisted t i k s) = (0x55, t ∷ i ∷ k ∷ s ∷ [])
+partsOf e (SetSeats t s h x) = (0x56, t ∷ s ∷ h ∷ x ∷ [])
 
 -- in an array of nine
 unfoldable pub padded : List ℕ → List ℕ

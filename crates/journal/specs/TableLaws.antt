@@ -33,13 +33,13 @@ other-row A (r ∷ rs) t x =
     let e = ne-eqb t (r .tag) (y .1 .1 .1) in
     (rw (pick-off (r .fields) (fieldsIn rs t) e) (y .0), (λ f at next. rw (pick-off _ (madeIn rs t f at next) e) (y .1 .0 f at next), y .1 .1 .0))
 
-pub no-fields : (t : ℕ) → Other Unit rows t → fieldsOf t ≡ []
+pub no-fields : (e t : ℕ) → Other Unit (rows e) t → fieldsOf e t ≡ []
 unfolding fieldsOf
-no-fields t x = other-row Unit rows t x .0
+no-fields e t x = other-row Unit (rows e) t x .0
 
-pub not-made : (t : ℕ) (f : Values) (at next : ℕ) → Other Unit rows t → made t f at next ≡ malformed at
+pub not-made : (e t : ℕ) (f : Values) (at next : ℕ) → Other Unit (rows e) t → made e t f at next ≡ malformed at
 unfolding made
-not-made t f at next x = other-row Unit rows t x .1 .0 f at next
+not-made e t f at next x = other-row Unit (rows e) t x .1 .0 f at next
 
 -- ---- no row has more fields than an array of nine holds, and no tag is past the places of the numbers
 
@@ -65,18 +65,18 @@ fine-in [] t e = refl
 fine-in (r ∷ rs) t e =
     fine-pick (eqb t (r .tag)) (r .fields) (fieldsIn rs t) (and-left (isFine (r .fields)) (allFine rs) e) (fine-in rs t (and-right (isFine (r .fields)) (allFine rs) e))
 
-pub few : (t : ℕ) → length (fieldsOf t) ≤ 9
+pub few : (e t : ℕ) → length (fieldsOf e t) ≤ 9
 unfolding fieldsOf
-few t = leb-true (length (fieldsIn rows t)) 9 (and-left (leb (length (fieldsIn rows t)) 9) (lowAll (fieldsIn rows t)) (fine-in rows t refl))
+few e t = leb-true (length (fieldsIn (rows e) t)) 9 (and-left (leb (length (fieldsIn (rows e) t)) 9) (lowAll (fieldsIn (rows e) t)) (fine-in (rows e) t refl))
 
 low-at : (l : List ℕ) (n k : ℕ) → lowAll l ≡ true → getD (l ++ replicate n 0) k 0 < 32
 low-at [] n k e = omega (arith, zeros-at n k)
 low-at (x ∷ l) n zero e = ltb-true x 32 (and-left (ltb x 32) (lowAll l) e)
 low-at (x ∷ l) n (suc k) e = low-at l n k (and-right (ltb x 32) (lowAll l) e)
 
-pub low : (t k : ℕ) → getD (padded (fieldsOf t)) k 0 < 32
+pub low : (e t k : ℕ) → getD (padded (fieldsOf e t)) k 0 < 32
 unfolding fieldsOf padded
-low t k = low-at (fieldsIn rows t) (9 - length (fieldsIn rows t)) k (and-right (leb (length (fieldsIn rows t)) 9) (lowAll (fieldsIn rows t)) (fine-in rows t refl))
+low e t k = low-at (fieldsIn (rows e) t) (9 - length (fieldsIn (rows e) t)) k (and-right (leb (length (fieldsIn (rows e) t)) 9) (lowAll (fieldsIn (rows e) t)) (fine-in (rows e) t refl))
 
 -- ---- lists in arrays
 

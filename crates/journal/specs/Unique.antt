@@ -4,7 +4,7 @@ use mathlib.Core.Path.{_≡_, refl, sym, ap, _∙_}
 use Prim.Native.Nat.{ℕ}
 use lib.Dec.{eqb}
 use Rattle.refusal.specs.Choice.{pick}
-use Rattle.journal.specs.Answers.{Reading, found, refused, ended, opening, reading, written}
+use Rattle.journal.specs.Answers.{Opening, Reading, found, refused, ended, opening, reading, written}
 use Rattle.journal.specs.declared.Opened.{Opened}
 use Rattle.journal.specs.declared.Opened.the-variants.{Records, Malformed as BadHeader}
 use Rattle.journal.specs.declared.Decoded.{Decoded}
@@ -15,12 +15,12 @@ use Rattle.journal.specs.declared.Encoded.the-variants.{Bytes, Short}
 one : {A B : Type 0} (f : A → B) (g : B → A) → ((x : A) → g (f x) ≡ x) → {x y : A} {b : B} → f x ≡ b → f y ≡ b → x ≡ y
 one f g h {x} {y} e d = sym (h x) ∙ ap g (e ∙ sym d) ∙ h y
 
-pub one-opening : {x y : Opened} {b : ℕ × ℕ} → opening x ≡ b → opening y ≡ b → x ≡ y
+pub one-opening : {x y : Opened} {b : Opening} → opening x ≡ b → opening y ≡ b → x ≡ y
 unfolding pick
-one-opening = one opening (λ b. pick (eqb (b .0) 0) (Records (b .1)) (BadHeader (b .1))) same
+one-opening = one opening (λ b. pick (eqb (b .answer) 0) (Records (b .edition) (b .first)) (BadHeader (b .first))) same
   where
-    same : (x : Opened) → pick (eqb (opening x .0) 0) (Records (opening x .1)) (BadHeader (opening x .1)) ≡ x
-    same (Records at) = refl
+    same : (x : Opened) → pick (eqb (opening x .answer) 0) (Records (opening x .edition) (opening x .first)) (BadHeader (opening x .first)) ≡ x
+    same (Records e at) = refl
     same (BadHeader at) = refl
 
 answer : Reading → Decoded

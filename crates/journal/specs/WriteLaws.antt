@@ -67,27 +67,27 @@ record-placed t fs vs l at h =
 abbrev pub stored : List ℕ → ℕ → ℕ → List ℕ → Listed → List ℕ
 stored l at t vs r = placed (at + 3) (fieldsOut (take (r .0) (r .1)) vs) (placed at (headOf t (11 * r .0)) l)
 
-pub parts-placed : (t : ℕ) (vs l : List ℕ) (at : ℕ) {r : Listed} → r ≡ rowFields (fieldsOf t) → at + (3 + 11 * r .0) ≤ length l → stored l at t vs r ≡ placed at (recordOf t vs) l
-parts-placed t vs l at {r} d h =
-    ap (λ (q : Listed). stored l at t vs q) d ∙ record-placed t (fieldsOf t) vs l at (omega (arith, ap (λ (q : Listed). q .0) d))
+pub parts-placed : (e t : ℕ) (vs l : List ℕ) (at : ℕ) {r : Listed} → r ≡ rowFields (fieldsOf e t) → at + (3 + 11 * r .0) ≤ length l → stored l at t vs r ≡ placed at (recordOf e t vs) l
+parts-placed e t vs l at {r} d h =
+    ap (λ (q : Listed). stored l at t vs q) d ∙ record-placed t (fieldsOf e t) vs l at (omega (arith, ap (λ (q : Listed). q .0) d))
 
-pub length-record : (t : ℕ) (vs : List ℕ) → length (recordOf t vs) ≡ 3 + 11 * length (fieldsOf t)
+pub length-record : (e t : ℕ) (vs : List ℕ) → length (recordOf e t vs) ≡ 3 + 11 * length (fieldsOf e t)
 unfolding fieldOf headOf bytesOf
-length-record t vs = omega (arith, length-fields (fieldsOf t) vs)
+length-record e t vs = omega (arith, length-fields (fieldsOf e t) vs)
 
 -- the numbers in an array give the same record
-pub record-sent : (x : ℕ × List ℕ) {p : Parts} → p ≡ sent x → recordOf (p .0) (p .1) ≡ recordOf (x .0) (x .1)
+pub record-sent : (e : ℕ) (x : ℕ × List ℕ) {p : Parts} → p ≡ sent x → recordOf e (p .0) (p .1) ≡ recordOf e (x .0) (x .1)
 unfolding padded
-record-sent x {p} e =
-    ap (λ (q : Parts). recordOf (q .0) (q .1)) e ∙ ap (λ (w : List ℕ). fieldOf (x .0) w) (fields-zeros (fieldsOf (x .0)) (x .1) (9 - length (x .1)))
+record-sent e x {p} d =
+    ap (λ (q : Parts). recordOf e (q .0) (q .1)) d ∙ ap (λ (w : List ℕ). fieldOf (x .0) w) (fields-zeros (fieldsOf e (x .0)) (x .1) (9 - length (x .1)))
 
-pub command-parts : (c : Command) {p : Parts} → p ≡ sent (partsOf c) → recordOf (p .0) (p .1) ≡ bytesFor c
+pub command-parts : (e : ℕ) (c : Command) {p : Parts} → p ≡ sent (partsOf e c) → recordOf e (p .0) (p .1) ≡ bytesFor e c
 unfolding bytesFor
-command-parts c e = record-sent (partsOf c) e
+command-parts e c d = record-sent e (partsOf e c) d
 
-pub length-for : (c : Command) → length (bytesFor c) ≡ 3 + 11 * length (fieldsOf (partsOf c .0))
+pub length-for : (e : ℕ) (c : Command) → length (bytesFor e c) ≡ 3 + 11 * length (fieldsOf e (partsOf e c .0))
 unfolding bytesFor
-length-for c = length-record (partsOf c .0) (partsOf c .1)
+length-for e c = length-record e (partsOf e c .0) (partsOf e c .1)
 
 -- the two answers
 module _ (at : ℕ) (w l : List ℕ) where

@@ -90,9 +90,9 @@ pub(crate) fn named(v: [u64; 32]) -> Values
     }
 }
 
-// The command of a tag and its fields.
-pub(crate) fn build(tag: u8, f: Values, at: usize, past: usize) -> Decoded
-    ensures { λ r. ⌜ reading r ≡ made tag f at past ⌝ }
+// The command of a tag and its fields in an edition.
+pub(crate) fn build(edition: u32, tag: u8, f: Values, at: usize, past: usize) -> Decoded
+    ensures { λ r. ⌜ reading r ≡ made edition tag f at past ⌝ }
 {
     let now = f.now;
     let caller = f.caller;

@@ -5,9 +5,9 @@ ghost use Rattle.journal.specs.Table.{fieldsOf, topOf, rowFields};
 // The number of fields of a record, and their tags in ascending order.
 pub struct Listed(pub usize, pub [u8; 9]);
 
-// The fields of a record by its tag. None: no record has this tag.
-pub fn fields(tag: u8) -> Listed
-    ensures { λ r. ⌜ r ≡ rowFields (fieldsOf tag) ⌝ }
+// The fields of an edition's record by its tag. None: no record has this tag.
+pub fn fields(edition: u32, tag: u8) -> Listed
+    ensures { λ r. ⌜ r ≡ rowFields (fieldsOf edition tag) ⌝ }
 {
     match tag {
         0x21 => Listed(2, [0x01, 0x02, 0, 0, 0, 0, 0, 0, 0]),

@@ -11,9 +11,9 @@ ghost use Rattle.journal.specs.Format.{fieldsOut};
 // A command's tag and the numbers of its fields in order.
 pub struct Parts(pub u8, pub [u64; 9]);
 
-// A command's tag and the numbers of its fields in order.
-pub fn split(c: Command) -> Parts
-    ensures { λ r. ⌜ r ≡ sent (partsOf c) ⌝ }
+// A command's tag and the numbers of its fields in order, in an edition.
+pub fn split(edition: u32, c: Command) -> Parts
+    ensures { λ r. ⌜ r ≡ sent (partsOf edition c) ⌝ }
 {
     match c {
         Command::OpenAccount { now, caller } => Parts(0x21, [now, caller, 0, 0, 0, 0, 0, 0, 0]),

@@ -17,9 +17,8 @@ use Rattle.parties.specs.Parties.{sideOf, partiesOf}
 use Rattle.parties.specs.declared.Parties.{Parties}
 use Rattle.terms.specs.declared.Terms.{Terms}
 use Rattle.refusal.specs.Refusal.{first}
-use Rattle.offer.specs.Rules.{amendChecks, counterChecks}
 use Rattle.rules.specs.Model.{Model, accountIn, invoiceIn, offerIn, paperOf}
-use Rattle.rules.specs.Rules.{lenderOf, originatorOf, withLenderRound, counteredIn}
+use Rattle.rules.specs.Rules.{lenderOf, originatorOf, withLenderRound, counteredIn, amendsIn, countersIn}
 use Rattle.rules.specs.Agreeing.{amend-there, counter-there, amend-lender, amend-invoice, amend-originator, counter-lender, counter-invoice, counter-originator}
 use Rattle.rules.specs.Keys.{Keys, keysBy}
 use Rattle.near.specs.declared.Near.{Near}
@@ -82,13 +81,13 @@ keys-by : {a a′ b b′ i i′ : ℕ} (o : ℕ) → a ≡ a′ → b ≡ b′ �
 keys-by {a} {a′} {b} {b′} {i} {i′} o p q r = ap (λ z. keysBy (Id z) (Id b) (Id i) (Id o)) p ∙ ap (λ z. keysBy (Id a′) (Id z) (Id i) (Id o)) q ∙ ap (λ z. keysBy (Id a′) (Id b′) (Id z) (Id o)) r
 
 module _ (m : Model) (now a o : ℕ) (t : Terms) (n : ℕ) where
-  pub amend-keys : first (amendChecks (offerIn m o) now a (accountIn m a .row) t n) ≡ 0 → (r : Account) → dealKeys (Id a) (Id (originatorOf m o)) m o ≡ sidesOf true (withLenderRound m now a o r t) o
+  pub amend-keys : first (amendsIn m now a o t n) ≡ 0 → (r : Account) → dealKeys (Id a) (Id (originatorOf m o)) m o ≡ sidesOf true (withLenderRound m now a o r t) o
   unfolding pick
   amend-keys h r =
       let e = amend-there m now a o t n h in
       keys-by o (sym (amend-lender m now o t (e .0) a r ∙ e .1)) (sym (amend-originator m now o t (e .0) a r)) (sym (amend-invoice m now o t (e .0) a r))
 
-  pub counter-keys : first (counterChecks (offerIn m o) now a (accountIn m a .row) t n (paperOf m o)) ≡ 0 → dealKeys (Id a) (Id (lenderOf m o)) m o ≡ sidesOf false (counteredIn m now o t) o
+  pub counter-keys : first (countersIn m now a o t n) ≡ 0 → dealKeys (Id a) (Id (lenderOf m o)) m o ≡ sidesOf false (counteredIn m now o t) o
   unfolding pick
   counter-keys h =
       let e = counter-there m now a o t n h in

@@ -511,7 +511,9 @@ impl Near {
         let first = parties.first;
         let lender = first.row;
         let deal = self.deal;
-        let refusal = deal.amend_refusal(now, caller, lender, t, round);
+        let paper = self.paper;
+        let settings = self.settings;
+        let refusal = deal.amend_refusal(settings.edition, now, caller, lender, t, round, paper);
         if !(refusal == 0) {
             return Turn {
                 answer: refusal,
@@ -548,7 +550,16 @@ impl Near {
         let originator = first.row;
         let deal = self.deal;
         let paper = self.paper;
-        let refusal = deal.counter_refusal(now, caller, originator, t, round, paper);
+        let settings = self.settings;
+        let refusal = deal.counter_refusal(
+            settings.edition,
+            now,
+            caller,
+            originator,
+            t,
+            round,
+            paper,
+        );
         if !(refusal == 0) {
             return Turn {
                 answer: refusal,

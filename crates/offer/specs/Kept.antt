@@ -50,23 +50,23 @@ round-kept now window t party {d} l k room h =
     (added-sound roundSlots n (h .whole) room (roundOf now t party) window (round-sound now t party l k) (kept-ranges h .rounds-in))
     (added-whole roundSlots n (h .whole) room (roundOf now t party) window)
 
-pub amended-kept : (s : SeenDeal) (now caller : ℕ) (lender : Account) (t : Terms) (round window : ℕ)
-    → DealKept (s .row) → first (amendChecks s now caller lender t round) ≡ 0 → DealKept (amendedDeal now window t (s .row))
+pub amended-kept : (edition : ℕ) (s : SeenDeal) (now caller : ℕ) (lender : Account) (t : Terms) (round : ℕ) (paper : SeenInvoice) (window : ℕ)
+    → DealKept (s .row) → first (amendChecks edition s now caller lender t round paper) ≡ 0 → DealKept (amendedDeal now window t (s .row))
 unfolding amendedDeal
-amended-kept s now caller lender t round window h e =
+amended-kept edition s now caller lender t round paper window h e =
     let a = passed _ _ _ (passed _ _ _ e .1) in
     let k = not-false (termsOk t) (a .0) in
-    let room = room-left roundLimit (s .row .negotiation) (pending (s .row)) now round (passed _ _ _ (passed _ _ _ (a .1) .1) .1) in
+    let room = room-left roundLimit (s .row .negotiation) (pending (s .row)) now round (passed _ _ _ (passed _ _ _ (passed _ _ _ (passed _ _ _ (a .1) .1) .1) .1) .1) in
     let r = kept-ranges h in
     round-kept now window t 0 refl k room (offer-kept h (withTerms t (s .row .offer)) k (r .repaid-in) (r .status-in))
 
-pub countered-kept : (s : SeenDeal) (now caller : ℕ) (originator : Account) (t : Terms) (round : ℕ) (paper : SeenInvoice) (window : ℕ)
-    → DealKept (s .row) → first (counterChecks s now caller originator t round paper) ≡ 0 → DealKept (counteredDeal now window t (s .row))
+pub countered-kept : (edition : ℕ) (s : SeenDeal) (now caller : ℕ) (originator : Account) (t : Terms) (round : ℕ) (paper : SeenInvoice) (window : ℕ)
+    → DealKept (s .row) → first (counterChecks edition s now caller originator t round paper) ≡ 0 → DealKept (counteredDeal now window t (s .row))
 unfolding counteredDeal
-countered-kept s now caller originator t round paper window h e =
+countered-kept edition s now caller originator t round paper window h e =
     let a = passed _ _ _ (passed _ _ _ e .1) in
     let k = not-false (termsOk t) (a .0) in
-    let room = room-left roundLimit (s .row .negotiation) (pending (s .row)) now round (passed _ _ _ (passed _ _ _ (passed _ _ _ (a .1) .1) .1) .1) in
+    let room = room-left roundLimit (s .row .negotiation) (pending (s .row)) now round (passed _ _ _ (passed _ _ _ (passed _ _ _ (passed _ _ _ (a .1) .1) .1) .1) .1) in
     round-kept now window t 1 refl k room h
 
 -- so the row is sound after it

@@ -1,6 +1,6 @@
 -- Document 01, module 5: the checks of each command on an offer, in order, and the row after it.
 use Prim.Native.Nat.{ℕ}
-use mathlib.Core.Bool.{Bool, not, _&&_, _||_}
+use mathlib.Core.Bool.{Bool, true, not, _&&_, _||_}
 use mathlib.Core.List.{List, [], _∷_, _++_}
 use lib.Dec.{leb, eqb}
 use lib.IntN.{ℤ}
@@ -8,6 +8,7 @@ use Rattle.money.specs.Range.{inTotal, isZero}
 use Rattle.refusal.specs.Choice.{pick}
 use Rattle.refusal.specs.Refusal.{Check, _gives_, blacklisted, invalidInput, notFound, alreadyExists, unauthorized, invalidTransition, offerExpired, outOfRange, noRoom}
 use Rattle.refusal.specs.Rule.{Rule}
+use Rattle.edition.specs.Edition.{holdsAmount}
 use Rattle.terms.specs.Status.{statusRejected, statusRepaid, statusDefaulted, statusListed}
 use Rattle.terms.specs.Terms.{termsOk, countOk}
 use Rattle.terms.specs.Schedule.{periodListed}
@@ -22,15 +23,22 @@ use Rattle.offer.specs.declared.Deal.{Deal}
 use Rattle.offer.specs.declared.SeenDeal.{SeenDeal}
 use Rattle.offer.specs.Offer.{pending, expired, withOffer, withStatus, withRepaid, withNegotiation, withSchedule}
 
+-- The terms check has two parts: the ranges, and the amount against the invoice's, where it is held to it
+abbrev pub inRanges : Terms → Check
+inRanges t = not (termsOk t) gives invalidInput
+
+abbrev pub within : Bool → SeenInvoice → Terms → Check
+within held paper t = held && not (covers (paper .row) t) gives invalidInput
+
 -- Create: lender blacklisted 2; terms 3; invoice 4; invoice not Pending 7; lender is originator 3; amount above invoice 3; offer id 5; 12
 abbrev pub createChecks : ℕ → Account → Terms → SeenInvoice → Bool → Bool → List Check
 createChecks caller lender t paper exists full =
     (lender .blacklisted gives blacklisted)
-    ∷ (not (termsOk t) gives invalidInput)
+    ∷ inRanges t
     ∷ (not (paper .here) gives notFound)
     ∷ (not (eqb (paper .row .status) invoicePending) gives invalidTransition)
     ∷ (eqb (paper .row .originator) caller gives invalidInput)
-    ∷ (not (covers (paper .row) t) gives invalidInput)
+    ∷ within true paper t
     ∷ (exists gives alreadyExists)
     ∷ (full gives noRoom)
     ∷ []
@@ -69,24 +77,29 @@ acceptChecks s now caller paper =
     ∷ (not (eqb (paper .row .status) invoicePending) gives invalidTransition)
     ∷ []
 
--- Amend: caller blacklisted 2; terms 3; 4; not lender 6; negotiable
-abbrev pub amendChecks : SeenDeal → ℕ → ℕ → Account → Terms → ℕ → List Check
-amendChecks s now caller lender t round =
+-- A round: the amount against the invoice's where the edition holds it (02 b), right after the ownership check; then negotiable
+abbrev pub roundChecks : ℕ → SeenDeal → ℕ → Terms → ℕ → SeenInvoice → List Check
+roundChecks e s now t round paper = within (holdsAmount e) paper t ∷ negotiable roundLimit (s .row .negotiation) (pending (s .row)) now round
+
+-- Amend: caller blacklisted 2; terms 3; 4; not lender 6; invoice 4, where the edition holds the amount (02 b); a round's
+abbrev pub amendChecks : ℕ → SeenDeal → ℕ → ℕ → Account → Terms → ℕ → SeenInvoice → List Check
+amendChecks e s now caller lender t round paper =
     (lender .blacklisted gives blacklisted)
-    ∷ (not (termsOk t) gives invalidInput)
+    ∷ inRanges t
     ∷ (not (s .here) gives notFound)
     ∷ (not (eqb (s .row .offer .lender) caller) gives unauthorized)
-    ∷ negotiable roundLimit (s .row .negotiation) (pending (s .row)) now round
+    ∷ (holdsAmount e && not (paper .here) gives notFound)
+    ∷ roundChecks e s now t round paper
 
--- Counter: 2; 3; 4; invoice 4; not originator 6; negotiable
-abbrev pub counterChecks : SeenDeal → ℕ → ℕ → Account → Terms → ℕ → SeenInvoice → List Check
-counterChecks s now caller originator t round paper =
+-- Counter: 2; 3; 4; invoice 4; not originator 6; a round's
+abbrev pub counterChecks : ℕ → SeenDeal → ℕ → ℕ → Account → Terms → ℕ → SeenInvoice → List Check
+counterChecks e s now caller originator t round paper =
     (originator .blacklisted gives blacklisted)
-    ∷ (not (termsOk t) gives invalidInput)
+    ∷ inRanges t
     ∷ (not (s .here) gives notFound)
     ∷ (not (paper .here) gives notFound)
     ∷ (not (eqb (paper .row .originator) caller) gives unauthorized)
-    ∷ negotiable roundLimit (s .row .negotiation) (pending (s .row)) now round
+    ∷ roundChecks e s now t round paper
 
 -- Agreement: invoice 4, not Pending 7; expiry 8; lender blacklisted 2; originator blacklisted 2 (each after its row 4); then settle
 abbrev pub agreementChecks : Deal → ℕ → SeenInvoice → SeenAccount → SeenAccount → List Check

@@ -345,8 +345,17 @@ impl SeenDeal {
     }
 
     // The number of what stands against the lender's round, 0 where nothing does.
-    pub fn amend_refusal(self, now: u64, caller: u64, lender: Account, t: Terms, round: u32) -> u64
-        ensures { λ r. ⌜ r ≡ first (amendChecks self now caller lender t round) ⌝ }
+    pub fn amend_refusal(
+        self,
+        edition: u32,
+        now: u64,
+        caller: u64,
+        lender: Account,
+        t: Terms,
+        round: u32,
+        paper: SeenInvoice,
+    ) -> u64
+        ensures { λ r. ⌜ r ≡ first (amendChecks edition self now caller lender t round paper) ⌝ }
     {
         if lender.blacklisted {
             return refusal::BLACKLISTED;
@@ -363,6 +372,15 @@ impl SeenDeal {
         if !(l == caller) {
             return refusal::UNAUTHORIZED;
         }
+        let held = edition::holds_amount(edition);
+        if held & !paper.here {
+            return refusal::NOT_FOUND;
+        }
+        let invoice = paper.row;
+        let covered = invoice.covers(t);
+        if held & !covered {
+            return refusal::INVALID_INPUT;
+        }
         let status = offer.status;
         let negotiation = row.negotiation;
         negotiation.refusal(status == terms::PENDING, now, round)
@@ -371,6 +389,7 @@ impl SeenDeal {
     // The number of what stands against the originator's round, 0 where nothing does.
     pub fn counter_refusal(
         self,
+        edition: u32,
         now: u64,
         caller: u64,
         originator: Account,
@@ -378,7 +397,7 @@ impl SeenDeal {
         round: u32,
         paper: SeenInvoice,
     ) -> u64
-        ensures { λ r. ⌜ r ≡ first (counterChecks self now caller originator t round paper) ⌝ }
+        ensures { λ r. ⌜ r ≡ first (counterChecks edition self now caller originator t round paper) ⌝ }
     {
         if originator.blacklisted {
             return refusal::BLACKLISTED;
@@ -396,6 +415,11 @@ impl SeenDeal {
         let g = invoice.originator;
         if !(g == caller) {
             return refusal::UNAUTHORIZED;
+        }
+        let held = edition::holds_amount(edition);
+        let covered = invoice.covers(t);
+        if held & !covered {
+            return refusal::INVALID_INPUT;
         }
         let row = self.row;
         let offer = row.offer;

@@ -4,35 +4,39 @@ use mathlib.Core.Bool.{Bool, true, false, _&&_}
 use mathlib.Core.List.{List}
 use Prim.Native.Nat.{ℕ, _≤_, _<_}
 use native.Mathlib.Omega.{arith}
-use lib.Dec.{eqb}
-use lib.ListN.{length, drop}
+use lib.ListN.{length}
 use borrow.Author.Tests.{leb-true}
 use Rattle.refusal.specs.Choice.{pick}
-use Rattle.refusal.specs.Refusal.{number, journalMalformed}
-use Rattle.wire.specs.Field.{begins, numberAt}
-use Rattle.wire.specs.FieldLaws.{and-left}
+use Rattle.edition.specs.Edition.{listed}
+use Rattle.wire.specs.Field.{begins}
+use Rattle.wire.specs.FieldLaws.{and-left, and-right}
 use Rattle.command.specs.declared.Command.{Command}
-use Rattle.journal.specs.Answers.{found, refused}
-use Rattle.journal.specs.Format.{openingOf, readAt}
+use Rattle.journal.specs.Answers.{Opening, goodHeader, badHeader, found, refused}
+use Rattle.journal.specs.Format.{editionIn, openingOf, readAt}
 use Rattle.journal.specs.Ahead.{Goes, goes}
 
-module _ (s : List ℕ) (at : ℕ) where
+module _ (e : ℕ) (s : List ℕ) (at : ℕ) where
   -- a record leads on, within the journal; a fault is there
-  pub ahead : {c : Command} {next : ℕ} → readAt s at ≡ found c next → (at < next) × (next ≤ length s)
+  pub ahead : {c : Command} {next : ℕ} → readAt e s at ≡ found c next → (at < next) × (next ≤ length s)
   unfolding Goes
-  ahead e = rw e at (goes s at)
+  ahead r = rw r at (goes e s at)
 
-  pub inside : {n p : ℕ} → readAt s at ≡ refused n p → (p ≡ at) × (at < length s)
+  pub inside : {n p : ℕ} → readAt e s at ≡ refused n p → (p ≡ at) × (at < length s)
   unfolding Goes
-  inside e = let g = rw e at (goes s at) in (g .1 .0, g .1 .1)
+  inside r = let g = rw r at (goes e s at) in (g .1 .0, g .1 .1)
 
--- the first record stands within the journal
-opened-by : (s : List ℕ) (t : Bool) {at : ℕ} → (t ≡ true → 5 ≤ length s) → _≡_ {A = ℕ × ℕ} (pick t (0, 5) (number journalMalformed, 0)) (0, at) → at ≤ length s
-unfolding pick
-opened-by s true h e = let z = ap (λ (x : ℕ × ℕ). x .1) e in omega (arith, h refl)
-opened-by s false h e = let z = ap (λ (x : ℕ × ℕ). x .0) e in absurd (omega arith)
+-- a journal that opens is of an edition that there is, and its first record stands within it
+pub record Headed (s : List ℕ) (e at : ℕ) : Type 0 where
+  pub known : listed e ≡ true
+  pub within : at ≤ length s
 
-pub opened : (s : List ℕ) {at : ℕ} → openingOf s ≡ (0, at) → at ≤ length s
-unfolding openingOf begins
-opened s e =
-    opened-by s (begins 0x10 2 s && eqb (numberAt 2 (drop 3 s)) 1) (λ h. leb-true 5 (length s) (and-left _ _ (and-left _ _ h))) e
+pub opened : (s : List ℕ) {e at : ℕ} → openingOf s ≡ goodHeader e at → Headed s e at
+unfolding openingOf begins pick
+opened s {e} {at} o = go (begins 0x10 2 s && listed (editionIn s)) refl o
+  where
+    go : (t : Bool) → begins 0x10 2 s && listed (editionIn s) ≡ t → pick t (goodHeader (editionIn s) 5) (badHeader 0) ≡ goodHeader e at → Headed s e at
+    go true h q =
+        let n : editionIn s ≡ e = ap (λ (x : Opening). x .edition) q in
+        let z : 5 ≡ at = ap (λ (x : Opening). x .first) q in
+        record { known = rw n at (and-right (begins 0x10 2 s) (listed (editionIn s)) h); within = omega (arith, leb-true 5 (length s) (and-left _ _ (and-left _ _ h))) }
+    go false h q = let z = ap (λ (x : Opening). x .answer) q in absurd (omega arith)

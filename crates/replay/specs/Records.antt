@@ -87,9 +87,9 @@ data Each : List Row → Type 0 where
   none : Each []
   _▸_ : {r : Row} {rs : List Row} → Fair r → Each rs → Each (r ∷ rs)
 
-all-fair : Each rows
+all-fair : (e : ℕ) → Each (rows e)
 unfolding shapeOf OpensLow named
-all-fair =
+all-fair e =
     (λ v h. h)
     ▸ (λ v h. tt)
     ▸ (λ v h. tt)
@@ -144,24 +144,24 @@ caller-low fs b e =
     let l : true ≡ true → (k : ℕ) → getD (numbersIn zeros fs b) k 0 ≤ topOf k = rw e at (all-tops fs b) in
     omega (arith, l refl 0x02)
 
-record-weighs : (t : ℕ) (b : List ℕ) (at : ℕ) → Weighs at (recordAt t (fieldsOf t) b at)
+record-weighs : (e t : ℕ) (b : List ℕ) (at : ℕ) → Weighs at (recordAt e t (fieldsOf e t) b at)
 unfolding recordAt made fieldsOf Weighs pick
-record-weighs t b at = go (begins t (11 * length fs) b && wellIn fs (drop 3 b)) refl
+record-weighs e t b at = go (begins t (11 * length fs) b && wellIn fs (drop 3 b)) refl
   where
     fs : List ℕ
-    fs = fieldsOf t
+    fs = fieldsOf e t
 
     v : List ℕ
     v = numbersIn zeros fs (drop 3 b)
 
-    go : (w : Bool) → begins t (11 * length fs) b && wellIn fs (drop 3 b) ≡ w → Weighs at (pick w (made t (named v) at (at + (3 + 11 * length fs))) (malformed at))
-    go true e = made-weighs rows t v at (at + (3 + 11 * length fs)) all-fair refl (caller-low fs (drop 3 b) (and-right (begins t (11 * length fs) b) _ e)) (λ h. omega arith)
-    go false e = tt
+    go : (w : Bool) → begins t (11 * length fs) b && wellIn fs (drop 3 b) ≡ w → Weighs at (pick w (made e t (named v) at (at + (3 + 11 * length fs))) (malformed at))
+    go true q = made-weighs (rows e) t v at (at + (3 + 11 * length fs)) (all-fair e) refl (caller-low fs (drop 3 b) (and-right (begins t (11 * length fs) b) _ q)) (λ h. omega arith)
+    go false q = tt
 
-pub weighs : (s : List ℕ) (at : ℕ) → Weighs at (readAt s at)
+pub weighs : (e : ℕ) (s : List ℕ) (at : ℕ) → Weighs at (readAt e s at)
 unfolding readAt Weighs pick
-weighs s at = go (leb (length s) at)
+weighs e s at = go (leb (length s) at)
   where
-    go : (w : Bool) → Weighs at (pick w ended (recordAt (getD s at 0) (fieldsOf (getD s at 0)) (drop at s) at))
+    go : (w : Bool) → Weighs at (pick w ended (recordAt e (getD s at 0) (fieldsOf e (getD s at 0)) (drop at s) at))
     go true = tt
-    go false = record-weighs (getD s at 0) (drop at s) at
+    go false = record-weighs e (getD s at 0) (drop at s) at

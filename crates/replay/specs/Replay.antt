@@ -1,10 +1,11 @@
--- Document 01, "Journal and replay": the commands of a journal obeyed in turn from a fresh book, with each answer, and where replay stops.
+-- Document 01, "Journal and replay": the commands of a journal obeyed in turn from a fresh book of its edition, with each answer, and where replay stops.
 use mathlib.Core.List.{List, [], _∷_}
 use Prim.Native.Nat.{ℕ, zero, suc, _+_}
 use lib.Dec.{eqb}
 use lib.ListN.{length}
 use Rattle.refusal.specs.Choice.{pick}
 use Rattle.refusal.specs.Refusal.{number, journalMalformed}
+use Rattle.edition.specs.Edition.{firstEdition}
 use Rattle.journal.specs.Answers.{Reading, found, refused, ended}
 use Rattle.journal.specs.Format.{openingOf, readAt}
 use Rattle.book.specs.declared.Book.{Book}
@@ -36,16 +37,17 @@ follow rest m (found c next) = heard (answerTo m c) (rest next (obeyed m c))
 follow rest m (refused n at) = halted (atRecord at) m
 follow rest m ended = halted atEnd m
 
--- at most n records: a journal has fewer records than bytes (`enough`)
+-- at most n records, read in the book's edition: a journal has fewer records than bytes (`enough`)
 unfoldable pub replayBy : ℕ → List ℕ → ℕ → Model → Replayed
 replayBy zero s at m = halted atEnd m
-replayBy (suc n) s at m = follow (replayBy n s) m (readAt s at)
+replayBy (suc n) s at m = follow (replayBy n s) m (readAt (m .settings .edition) s at)
 
 unfoldable pub replayFrom : List ℕ → ℕ → Model → Replayed
 replayFrom s at m = replayBy (length s) s at m
 
+-- a header that is none leaves the first edition's fresh book
 unfoldable pub replayOf : List ℕ → Replayed
-replayOf s = pick (eqb (openingOf s .0) 0) (replayFrom s (openingOf s .1) freshModel) (halted atHeader freshModel)
+replayOf s = pick (eqb (openingOf s .answer) 0) (replayFrom s (openingOf s .first) (freshModel (openingOf s .edition))) (halted atHeader (freshModel firstEdition))
 
 -- what `replay` answers, where k records were answered before: 0, or 13 and the offset
 abbrev pub stopNumber : Stop → ℕ

@@ -31,21 +31,21 @@ follow-end s at m f h ended k = refl
 pub enough : (i j : ℕ) (s : List ℕ) (at : ℕ) (m : Model) → length s ≤ i + at → length s ≤ j + at → replayBy i s at m ≡ replayBy j s at m
 unfolding replayBy
 enough zero zero s at m h k = refl
-enough zero (suc j) s at m h k = follow-end s at m (replayBy j s) (omega arith) (readAt s at) (goes s at)
-enough (suc i) zero s at m h k = sym (follow-end s at m (replayBy i s) (omega arith) (readAt s at) (goes s at))
+enough zero (suc j) s at m h k = follow-end s at m (replayBy j s) (omega arith) (readAt (m .settings .edition) s at) (goes (m .settings .edition) s at)
+enough (suc i) zero s at m h k = sym (follow-end s at m (replayBy i s) (omega arith) (readAt (m .settings .edition) s at) (goes (m .settings .edition) s at))
 enough (suc i) (suc j) s at m h k =
-    follow-same s at m (replayBy i s) (replayBy j s) (λ next x l. enough i j s next x (omega arith) (omega arith)) (readAt s at) (goes s at)
+    follow-same s at m (replayBy i s) (replayBy j s) (λ next x l. enough i j s next x (omega arith) (omega arith)) (readAt (m .settings .edition) s at) (goes (m .settings .edition) s at)
 
 module _ (s : List ℕ) (at : ℕ) (m : Model) where
-  pub from-here : replayFrom s at m ≡ follow (replayFrom s) m (readAt s at)
+  pub from-here : replayFrom s at m ≡ follow (replayFrom s) m (readAt (m .settings .edition) s at)
   unfolding replayFrom replayBy
   from-here = enough (length s) (suc (length s)) s at m (omega arith) (omega arith)
 
-  pub from-record : {c : Command} {next : ℕ} → readAt s at ≡ found c next → replayFrom s at m ≡ heard (answerTo m c) (replayFrom s next (obeyed m c))
+  pub from-record : {c : Command} {next : ℕ} → readAt (m .settings .edition) s at ≡ found c next → replayFrom s at m ≡ heard (answerTo m c) (replayFrom s next (obeyed m c))
   from-record e = from-here ∙ ap (follow (replayFrom s) m) e
 
-  pub from-bad : {n p : ℕ} → readAt s at ≡ refused n p → replayFrom s at m ≡ halted (atRecord p) m
+  pub from-bad : {n p : ℕ} → readAt (m .settings .edition) s at ≡ refused n p → replayFrom s at m ≡ halted (atRecord p) m
   from-bad e = from-here ∙ ap (follow (replayFrom s) m) e
 
-  pub from-end : readAt s at ≡ ended → replayFrom s at m ≡ halted atEnd m
+  pub from-end : readAt (m .settings .edition) s at ≡ ended → replayFrom s at m ≡ halted atEnd m
   from-end e = from-here ∙ ap (follow (replayFrom s) m) e

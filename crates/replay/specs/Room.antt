@@ -11,9 +11,10 @@ use Rattle.refusal.specs.Choice.{pick}
 use Rattle.refusal.specs.ChoiceLaws.{pick-on}
 use Rattle.refusal.specs.Refusal.{Refusal, paused, blacklisted, invalidInput, notFound, alreadyExists, unauthorized, invalidTransition, offerExpired, allowanceShort, balanceShort, outOfRange, noRoom, journalMalformed, bufferShort, bookUnsound, number, Check, first}
 use Rattle.refusal.specs.Rule.{after}
+use Rattle.edition.specs.Edition.{firstEdition, listed}
 use Rattle.table.specs.Tables.{keys}
 use Rattle.command.specs.declared.Command.{Command}
-use Rattle.journal.specs.Answers.{Reading, found, refused, ended}
+use Rattle.journal.specs.Answers.{Opening, Reading, found, refused, ended}
 use Rattle.journal.specs.Format.{openingOf, readAt}
 use Rattle.journal.specs.Ahead.{Goes, goes}
 use Rattle.sheet.specs.declared.Pen.{Pen}
@@ -77,9 +78,9 @@ record Bounded (m : Model) : Type 0 where
   sound : ModelSound m
   low : Low (m .accounts)
 
-fresh-bounded : Bounded freshModel
+fresh-bounded : (e : ℕ) → listed e ≡ true → Bounded (freshModel e)
 unfolding keys
-fresh-bounded = record { sound = fresh-model; low = record { ids = tt } }
+fresh-bounded e l = record { sound = fresh-model e l; low = record { ids = tt } }
 
 low-by : (m : Model) (c : Shape) (t : Bool) → OpensLow c → Low (m .accounts) → Low (pick t (ruled m c .done) m .accounts)
 unfolding pick
@@ -115,15 +116,20 @@ module _ (s : List ℕ) (short : length s < 18446744073709551616) where
   walk-most : (n : ℕ) → Most n
   unfolding replayBy listingRoom
   walk-most zero at k m b h l = rw (text-end k m) (omega (arith, book-most b))
-  walk-most (suc n) at k m b h l = follow-most n (walk-most n) at k m b h l (readAt s at) (goes s at) (weighs s at)
+  walk-most (suc n) at k m b h l = follow-most n (walk-most n) at k m b h l (readAt (m .settings .edition) s at) (goes (m .settings .edition) s at) (weighs (m .settings .edition) s at)
 
   pub listing-most : length (listingOf s) ≤ listingRoom (length s)
-  unfolding listingOf replayOf replayFrom listingRoom pick
-  listing-most = go (eqb (openingOf s .0) 0) refl
+  unfolding listingOf replayOf replayFrom listingRoom pick listed
+  listing-most = go (eqb (openingOf s .answer) 0) refl
     where
-      go : (t : Bool) → eqb (openingOf s .0) 0 ≡ t → length (textOf 0 (pick t (replayBy (length s) s (openingOf s .1) freshModel) (halted atHeader freshModel))) ≤ listingRoom (length s)
-      go true e = omega (arith, walk-most (length s) (openingOf s .1) 0 freshModel fresh-bounded (omega arith) (opened s (ap (λ (x : ℕ). (x, openingOf s .1)) (eqb-true (openingOf s .0) 0 e))))
-      go false e = rw (text-bare freshModel, length-append (markLine 0 0)) (omega (arith, mark-most 0 0 (omega arith) (omega arith), book-most fresh-bounded))
+      o : Opening
+      o = openingOf s
+
+      go : (t : Bool) → eqb (o .answer) 0 ≡ t → length (textOf 0 (pick t (replayBy (length s) s (o .first) (freshModel (o .edition))) (halted atHeader (freshModel firstEdition)))) ≤ listingRoom (length s)
+      go true e =
+          let h = opened s (ap (λ (x : ℕ). record { answer = x; edition = o .edition; first = o .first }) (eqb-true (o .answer) 0 e)) in
+          omega (arith, walk-most (length s) (o .first) 0 (freshModel (o .edition)) (fresh-bounded (o .edition) (h .known)) (omega arith) (h .within))
+      go false e = rw (text-bare (freshModel firstEdition), length-append (markLine 0 0)) (omega (arith, mark-most 0 0 (omega arith) (omega arith), book-most (fresh-bounded firstEdition refl)))
 
 -- a buffer with the room for it, as the code tests that: k bytes, and past them as many as the journal has
 pub at-once : (s : List ℕ) {k : ℕ} {l n : List ℕ} {r : Pen} → Wrote true (listingOf s) l (penAt 0 false) n r → length s < 18446744073709551616 → k ≤ length l → leb (length s) (length l - k) ≡ true → extra ≤ k

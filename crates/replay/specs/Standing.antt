@@ -25,22 +25,25 @@ use Rattle.soundness.specs.Played.{answerTo, obeyed}
 use Rattle.replay.specs.Ahead.{ahead}
 
 -- ── The book ──────────────────────────────────────────────────────
-fresh-fits : Fits freshModel
+fresh-fits : (e : ℕ) → Fits (freshModel e)
 unfolding keys
-fresh-fits = record {
+fresh-fits e = record {
   accounts = record { fits = omega arith; rises = tt };
   invoices = record { fits = omega arith; rises = tt };
   offers = record { fits = omega arith; rises = tt };
 }
 
--- a fresh book: it is shelved, and its model is the fresh one
-pub record Fresh (b : Book) : Type 0 where
+-- a book that holds a model: it is shelved, and its model is that
+pub record Holds (m : Model) (b : Book) : Type 0 where
   pub shelved : Shelved b
-  pub model : modelOf b ≡ freshModel
-  pub stores : b ≡ stored freshModel
+  pub model : modelOf b ≡ m
+  pub stores : b ≡ stored m
 
-pub fresh : {b : Book} → b ≡ stored freshModel → Fresh b
-fresh e = record { shelved = rw e (shelved-stored fresh-fits); model = rw e (model-stored fresh-fits); stores = e }
+pub holds : {m : Model} {b : Book} → Fits m → b ≡ stored m → Holds m b
+holds f q = record { shelved = rw q (shelved-stored f); model = rw q (model-stored f); stores = q }
+
+pub fresh : {e : ℕ} {b : Book} → b ≡ stored (freshModel e) → Holds (freshModel e) b
+fresh {e} q = holds (fresh-fits e) q
 
 fits-by : {m : Model} (c : Command) (t : Bool) → eqb (answerTo m c) 0 ≡ t → Fits m → Fits (pick t (commanded m c .done) m)
 unfolding pick
@@ -69,9 +72,9 @@ pub record Standing (s : List ℕ) (at k : ℕ) (b : Book) : Type 0 where
   pub within : at ≤ length s
   pub shelved : Shelved b
 
-pub stands : {s : List ℕ} {at : ℕ} {b : Book} → at ≤ length s → Fresh b → Standing s at 0 b
+pub stands : {s : List ℕ} {at : ℕ} {m : Model} {b : Book} → at ≤ length s → Holds m b → Standing s at 0 b
 stands h f = record { few = omega arith; within = h; shelved = f .shelved }
 
 pub stands-on : {s : List ℕ} {at k : ℕ} {b : Book} {m : Model} {c : Command} {next : ℕ} {t : Step}
-    → Standing s at k b → readAt s at ≡ found c next → Stepped m c t → Standing s next (k + 1) (t .book)
-stands-on {s} {at} i d e = let g = ahead s at d in record { few = omega (arith, g .0, i .few); within = g .1; shelved = e .shelved }
+    → Standing s at k b → readAt (m .settings .edition) s at ≡ found c next → Stepped m c t → Standing s next (k + 1) (t .book)
+stands-on {s} {at} {m = m} i d e = let g = ahead (m .settings .edition) s at d in record { few = omega (arith, g .0, i .few); within = g .1; shelved = e .shelved }

@@ -1,4 +1,4 @@
-// Replay of a journal from a fresh book, and its listing.
+// Replay of a journal from a fresh book of its edition, and its listing.
 use account::SeenAccount;
 use book::Book;
 use invoice::SeenInvoice;
@@ -80,12 +80,12 @@ fn finish(
 
 // The records from a place on. The tables are locals: the rows that a command names are read where they stand, turned, and written
 // back there, and a row that came is let in. The book is fresh and each step keeps it sound, so that soundness is never tested.
-fn records(s: &[u8], out: &mut [u8], ink: bool, first: usize) -> Told
+fn records(s: &[u8], out: &mut [u8], ink: bool, edition: u32, first: usize) -> Told
     requires { ⌜ first ≤ length (now s) ⌝ }
-    ensures outcome { λ r. ⌜ r .outcome ≡ outcomeOf 0 (replayFrom (now (s .entry)) first freshModel) ⌝ }
-    ensures wrote { λ r. ⌜ Wrote ink (textOf 0 (replayFrom (now (s .entry)) first freshModel)) (now (out .entry)) (penAt 0 false) (now (out .exit)) (r .pen) ⌝ }
+    ensures outcome { λ r. ⌜ r .outcome ≡ outcomeOf 0 (replayFrom (now (s .entry)) first (freshModel edition)) ⌝ }
+    ensures wrote { λ r. ⌜ Wrote ink (textOf 0 (replayFrom (now (s .entry)) first (freshModel edition))) (now (out .entry)) (penAt 0 false) (now (out .exit)) (r .pen) ⌝ }
 {
-    let book = Book::fresh();
+    let book = Book::of_edition(edition);
     let mut accounts = book.accounts;
     let mut invoices = book.invoices;
     let mut offers = book.offers;
@@ -98,7 +98,7 @@ fn records(s: &[u8], out: &mut [u8], ink: bool, first: usize) -> Told
     let mut at = first;
     let mut k: usize = 0;
     loop {
-        let d = reader::read(s, at);
+        let d = reader::read(settings.edition, s, at);
         match d {
             Decoded::Command(c, next) => {
                 let names = c.names();
@@ -237,19 +237,19 @@ fn walk(s: &[u8], out: &mut [u8], ink: bool) -> Told
     ensures wrote { λ r. ⌜ Wrote ink (listingOf (now (s .entry))) (now (out .entry)) (penAt 0 false) (now (out .exit)) (r .pen) ⌝ }
 {
     let h = journal::header(s);
-    let Opened::Records(first) = h else {
+    let Opened::Records(edition, first) = h else {
         let pen = Pen {
             at: 0,
             short: false,
         };
         let p = lines::put_mark(out, pen, ink, 0, 0);
-        let fresh = Book::fresh();
+        let fresh = Book::of_edition(edition::FIRST);
         return finish(out, p, ink, fresh, 0, refusal::JOURNAL_MALFORMED, 0);
     };
-    records(s, out, ink, first)
+    records(s, out, ink, edition, first)
 }
 
-// A fresh book and then the journal's commands, up to its end or to a malformed record.
+// A fresh book of the journal's edition and then its commands, up to its end or to a malformed record.
 pub fn replay(s: &[u8]) -> Outcome
     ensures { λ r. ⌜ r ≡ outcomeOf 0 (replayOf (now (s .entry))) ⌝ }
 {

@@ -18,11 +18,11 @@ use Rattle.negotiation.specs.Rounds.{roundSlots, agreesOf}
 use Rattle.account.specs.Rules.{reofferOf}
 use Rattle.account.specs.declared.Account.{Account}
 use Rattle.offer.specs.Offer.{amendedDeal, counteredDeal}
-use Rattle.offer.specs.Rules.{acceptChecks, amendChecks, counterChecks}
+use Rattle.offer.specs.Rules.{acceptChecks}
 use Rattle.offer.specs.Seen.{seenDeal}
 use Rattle.offer.specs.declared.Deal.{Deal}
 use Rattle.rules.specs.Model.{Model, accountIn, invoiceIn, offerIn, paperOf}
-use Rattle.rules.specs.Rules.{concluding, agreeing, amending, countering, withLenderRound, amendedIn, counteredIn, lenderOf, originatorOf, termsIn}
+use Rattle.rules.specs.Rules.{concluding, agreeing, amending, countering, withLenderRound, amendedIn, counteredIn, lenderOf, originatorOf, termsIn, amendsIn, countersIn}
 
 -- agreement or none
 pub agrees-on : {b : Bool} (now o : ℕ) (m : Model) → b ≡ true → agreeing b now o m ≡ concluding now o m
@@ -52,13 +52,13 @@ accept-caller m now a o k =
     is-id (passed _ _ _ (p .1) .0)
 
 module _ (m : Model) (now a o : ℕ) (t : Terms) (n : ℕ) where
-  pub amend-there : first (amendChecks (offerIn m o) now a (accountIn m a .row) t n) ≡ 0 → (not (offerIn m o .here) ≡ false) × (lenderOf m o ≡ a)
+  pub amend-there : first (amendsIn m now a o t n) ≡ 0 → (not (offerIn m o .here) ≡ false) × (lenderOf m o ≡ a)
   amend-there k =
       let p = passed _ _ _ (passed _ _ _ k .1) in
       let q = passed _ _ _ (p .1) in
       (q .0, is-id (passed _ _ _ (q .1) .0))
 
-  pub counter-there : first (counterChecks (offerIn m o) now a (accountIn m a .row) t n (paperOf m o)) ≡ 0 → (not (offerIn m o .here) ≡ false) × (originatorOf m o ≡ a)
+  pub counter-there : first (countersIn m now a o t n) ≡ 0 → (not (offerIn m o .here) ≡ false) × (originatorOf m o ≡ a)
   counter-there k =
       let p = passed _ _ _ (passed _ _ _ k .1) in
       let q = passed _ _ _ (p .1) in
@@ -66,14 +66,14 @@ module _ (m : Model) (now a o : ℕ) (t : Terms) (n : ℕ) where
       (q .0, is-id (passed _ _ _ (r .1) .0))
 
   -- the checks of an amendment and of a counter, out of all that passed
-  pub amend-first : first (amending m now a o t n .checks) ≡ 0 → first (amendChecks (offerIn m o) now a (accountIn m a .row) t n) ≡ 0
+  pub amend-first : first (amending m now a o t n .checks) ≡ 0 → first (amendsIn m now a o t n) ≡ 0
   amend-first h =
-      let l = amendChecks (offerIn m o) now a (accountIn m a .row) t n in
+      let l = amendsIn m now a o t n in
       let r = reofferOf (accountIn m a .row) (termsIn m o) t .checks in
       both-pass l r (both-pass (l ++ r) (agreeing (agreesOf roundSlots (offerIn m o .row .negotiation) t) now o (amendedIn m now a o t) .checks) h .0) .0
 
-  pub counter-first : first (countering m now a o t n .checks) ≡ 0 → first (counterChecks (offerIn m o) now a (accountIn m a .row) t n (paperOf m o)) ≡ 0
-  counter-first h = both-pass (counterChecks (offerIn m o) now a (accountIn m a .row) t n (paperOf m o)) (agreeing (sameTerms (termsIn m o) t) now o (counteredIn m now o t) .checks) h .0
+  pub counter-first : first (countering m now a o t n .checks) ≡ 0 → first (countersIn m now a o t n) ≡ 0
+  counter-first h = both-pass (countersIn m now a o t n) (agreeing (sameTerms (termsIn m o) t) now o (counteredIn m now o t) .checks) h .0
 
 -- ── A round leaves the offer's lender and invoice ─────────────────
 module _ (m : Model) (now o : ℕ) (t : Terms) (e : not (offerIn m o .here) ≡ false) where

@@ -26,9 +26,9 @@ pub record Model : Type 0 where
   pub totals : Totals
   pub settings : Settings
 
--- no rows
-abbrev pub freshModel : Model
-freshModel = record { accounts = []; invoices = []; offers = []; totals = noTotals; settings = freshSettings }
+-- no rows, in an edition
+abbrev pub freshModel : ℕ → Model
+freshModel e = record { accounts = []; invoices = []; offers = []; totals = noTotals; settings = freshSettings e }
 
 -- ── Lookups: whether a row is there, and the row, which is zero where it is not ──
 abbrev pub accountIn : Model → ℕ → SeenAccount

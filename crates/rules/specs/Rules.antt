@@ -109,10 +109,13 @@ withLenderRound m now a o r t =
 abbrev pub amendedIn : Model → ℕ → ℕ → ℕ → Terms → Model
 amendedIn m now a o t = withLenderRound m now a o (reofferOf (accountIn m a .row) (termsIn m o) t .done) t
 
+abbrev pub amendsIn : Model → ℕ → ℕ → ℕ → Terms → ℕ → List Check
+amendsIn m now a o t round = amendChecks (m .settings .edition) (offerIn m o) now a (accountIn m a .row) t round (paperOf m o)
+
 abbrev pub amending : Model → ℕ → ℕ → ℕ → Terms → ℕ → Rule Model
 amending m now a o t round = next
     (record {
-      checks = amendChecks (offerIn m o) now a (accountIn m a .row) t round ++ reofferOf (accountIn m a .row) (termsIn m o) t .checks;
+      checks = amendsIn m now a o t round ++ reofferOf (accountIn m a .row) (termsIn m o) t .checks;
       done = amendedIn m now a o t;
     })
     (agreeing (agreesOf roundSlots (offerIn m o .row .negotiation) t) now o)
@@ -121,10 +124,13 @@ amending m now a o t round = next
 abbrev pub counteredIn : Model → ℕ → ℕ → Terms → Model
 counteredIn m now o t = withOffers (adjust (m .offers) o (λ old. counteredDeal now (m .settings .window) t (offerIn m o .row))) m
 
+abbrev pub countersIn : Model → ℕ → ℕ → ℕ → Terms → ℕ → List Check
+countersIn m now a o t round = counterChecks (m .settings .edition) (offerIn m o) now a (accountIn m a .row) t round (paperOf m o)
+
 abbrev pub countering : Model → ℕ → ℕ → ℕ → Terms → ℕ → Rule Model
 countering m now a o t round = next
     (record {
-      checks = counterChecks (offerIn m o) now a (accountIn m a .row) t round (paperOf m o);
+      checks = countersIn m now a o t round;
       done = counteredIn m now o t;
     })
     (agreeing (sameTerms (termsIn m o) t) now o)

@@ -6,28 +6,31 @@ use borrow.Author.Needs.{needs}
 use borrow.Author.Tests.{not-false}
 use Rattle.money.specs.Facts.{both}
 use Rattle.refusal.specs.RuleLaws.{passed, KeepsTest}
+use Rattle.edition.specs.Edition.{listed, freshWindow}
 use Rattle.seats.specs.Seats.{thresholdOk, countSeats, countBelow}
 use Rattle.settings.specs.declared.Settings.{Settings}
 use Rattle.settings.specs.Settings.{freshSettings, inWindow, settingsSound, pauseOf, windowOf, repayerOf, seatsOf}
 
-pub fresh-sound : settingsSound freshSettings ≡ true
-unfolding settingsSound thresholdOk countSeats countBelow
-fresh-sound = refl
+pub fresh-sound : (e : ℕ) → listed e ≡ true → settingsSound (freshSettings e) ≡ true
+unfolding settingsSound thresholdOk countSeats countBelow freshWindow
+fresh-sound e h = rw h
 
 -- what soundness says of the settings
 pub record SettingsRanges (s : Settings) : Type 0 where
+  pub edition-in : listed (s .edition) ≡ true
   pub window-in : inWindow (s .window) ≡ true
   pub threshold-in : thresholdOk (s .seats) (s .threshold) ≡ true
 
 pub settings-ranges : {s : Settings} → settingsSound s ≡ true → SettingsRanges s
 unfolding settingsSound
 settings-ranges {s} e =
-    let a = both (inWindow (s .window)) (thresholdOk (s .seats) (s .threshold)) e in
-    record { window-in = a .0; threshold-in = a .1 }
+    let a = both (listed (s .edition)) _ e in
+    let b = both (inWindow (s .window)) (thresholdOk (s .seats) (s .threshold)) (a .1) in
+    record { edition-in = a .0; window-in = b .0; threshold-in = b .1 }
 
 pub ranges-settings : {s : Settings} → SettingsRanges s → settingsSound s ≡ true
 unfolding settingsSound
-ranges-settings {s} h = rw (h .window-in, h .threshold-in)
+ranges-settings {s} h = rw (h .edition-in, h .window-in, h .threshold-in)
 
 -- soundness speaks of neither the pause nor the repayment account
 pub pause-keeps : (s : Settings) (presented : ℕ) (b : Bool) → KeepsTest settingsSound s (pauseOf s presented b)

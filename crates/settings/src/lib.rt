@@ -7,14 +7,13 @@ pub const SHORTEST_WINDOW: u64 = 3600;
 
 pub const LONGEST_WINDOW: u64 = 2592000;
 
-pub const FRESH_WINDOW: u64 = 604800;
-
-// What the book's admins set. The repayment account counts only once it is appointed.
+// What the book's admins set, and the edition of its rules, which nothing changes. The repayment account counts only once it is appointed.
 pub struct Settings {
     pub window: u64,
     pub repayer: u64,
     pub seats: u32,
     pub threshold: u32,
+    pub edition: u32,
     pub appointed: bool,
     pub paused: bool,
 }
@@ -38,26 +37,29 @@ impl Settings {
         appointed & (repayer == caller)
     }
 
-    // The window in range, and a threshold that the seats can reach.
+    // A listed edition, the window in range, and a threshold that the seats can reach.
     pub fn sound(self) -> bool
         ensures { λ r. ⌜ r ≡ settingsSound self ⌝ }
     {
         let window = self.window;
         let seats = self.seats as u64;
         let threshold = self.threshold;
+        let known = edition::is_listed(self.edition);
         let reachable = seats::threshold_ok(seats, threshold);
-        (SHORTEST_WINDOW <= window) & (window <= LONGEST_WINDOW) & reachable
+        known & ((SHORTEST_WINDOW <= window) & (window <= LONGEST_WINDOW) & reachable)
     }
 
-    // Seat 0 alone with threshold 1, no repayment account, not paused.
-    pub fn fresh() -> Settings
-        ensures { λ r. ⌜ r ≡ freshSettings ⌝ }
+    // Seat 0 alone with threshold 1, no repayment account, not paused, and an edition's window.
+    pub fn fresh(edition: u32) -> Settings
+        ensures { λ r. ⌜ r ≡ freshSettings edition ⌝ }
     {
+        let window = edition::fresh_window(edition);
         Settings {
-            window: FRESH_WINDOW,
+            window,
             repayer: 0,
             seats: 1,
             threshold: 1,
+            edition,
             appointed: false,
             paused: false,
         }

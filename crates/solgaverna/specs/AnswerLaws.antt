@@ -83,10 +83,10 @@ fault-line (Text.whole w) l = line-by (leb (length w) (length l)) (length w)
 fault-line (Text.faulty at) l = refl
 
 -- which line is no question, no book decides
-pub question-line : (m : Model) (t : List ℕ) → faultOf (answersOf m t) ≡ faultLine (questionsIn t)
+pub question-line : (m : Model) (t : List ℕ) → faultOf (answersOf m t) ≡ faultLine 0 (questionsIn t)
 unfolding faultLine faultOf
 question-line m t = go (questionsIn t .bad) refl
   where
-    go : (b : Bool) → questionsIn t .bad ≡ b → faultOf (answersOf m t) ≡ faultLine (questionsIn t)
+    go : (b : Bool) → questionsIn t .bad ≡ b → faultOf (answersOf m t) ≡ faultLine 0 (questionsIn t)
     go true e = ap faultOf (answers-faulty m t e)
     go false e = ap faultOf (answers-whole m t e) ∙ off _ e refl

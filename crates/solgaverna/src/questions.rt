@@ -29,10 +29,10 @@ pub extern "C" fn solgaverna_ask(journal: &[u8], questions: &[u8], out: &mut [u8
 // The number of the first line that is no question, 0 where there is none. Which lines are questions no book decides: a fresh one is asked.
 #[no_mangle]
 pub extern "C" fn solgaverna_faulty_question(questions: &[u8]) -> u64
-    ensures { λ r. ⌜ r ≡ faultLine (questionsIn (now (questions .entry))) ⌝ }
+    ensures { λ r. ⌜ r ≡ faultLine 0 (questionsIn (now (questions .entry))) ⌝ }
 {
     let mut out: [u8; 1] = [0; 1];
-    let book = Book::fresh();
+    let book = Book::of_edition(edition::FIRST);
     let r = asking::answers_sound(book, questions, &mut out);
     line(r)
 }

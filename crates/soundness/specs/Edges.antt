@@ -68,7 +68,7 @@ sameList (a ∷ l) (b ∷ m) = eqb a b && sameList l m
 
 unfoldable pub holds : Edge → Bool
 holds (installs amount rate count x) = eqb (installmentOf (day amount rate) count .0) 0 && sameAmount (installmentOf (day amount rate) count .1) (pos x)
-holds (schedules amount rate count n) = sameList (answersOf freshModel (asking (day amount rate) count)) (0 ∷ 0 ∷ 0 ∷ 0 ∷ n ∷ [])
+holds (schedules amount rate count n) = sameList (answersOf (freshModel 1) (asking (day amount rate) count)) (0 ∷ 0 ∷ 0 ∷ 0 ∷ n ∷ [])
 holds (dues now repaid n) = eqb (dueOf weekly statusFinanced (pos repaid) now .0) 0 && eqb (dueOf weekly statusFinanced (pos repaid) now .1) n
 holds (stands deadline now status) = eqb (statusOf (oneRound deadline) true now) status
 holds (ends now window deadline) = eqb (deadlineOf 0 now window 0) deadline

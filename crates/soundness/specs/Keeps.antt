@@ -24,7 +24,7 @@ use Rattle.invoice.specs.declared.Invoice.{Invoice}
 use Rattle.invoice.specs.Laws as Invoice
 use Rattle.offer.specs.declared.Deal.{Deal}
 use Rattle.offer.specs.Offer.{newDeal}
-use Rattle.offer.specs.Rules.{createChecks, acceptChecks, amendChecks, counterChecks}
+use Rattle.offer.specs.Rules.{createChecks, acceptChecks}
 use Rattle.offer.specs.Laws.{DealKept, new-kept}
 use Rattle.offer.specs.Kept as Deal
 use Rattle.settings.specs.declared.Settings.{Settings}
@@ -34,7 +34,7 @@ use Rattle.totals.specs.Laws as Totals
 use Rattle.command.specs.declared.Command.{Command}
 use Rattle.command.specs.Shape.{OnAccount, deposits, pays, approves, lenderRepaid, blacklists, OnOffer, withdraws, rejects, closes, schedules, marks, repaid, OnSettings, pauses, waits, appoints, seats, Shape, opens, account, registers, cancels, creates, offer, accepts, amends, counters, totals, settings, shapeOf}
 use Rattle.rules.specs.Model.{Model, accountIn, invoiceIn, offerIn, paperOf, onAccount, onOffer}
-use Rattle.rules.specs.Rules.{gateChecks, creating, termsIn, amendedIn, counteredIn, amending, countering, accountRule, offerRule, settingsRule, ruled, commanded}
+use Rattle.rules.specs.Rules.{gateChecks, creating, termsIn, amendedIn, counteredIn, amending, countering, accountRule, offerRule, settingsRule, ruled, commanded, amendsIn, countersIn}
 use Rattle.table.specs.Keeping.{fine-adjust}
 use Rattle.rules.specs.Fitting.{fits-ruled}
 use Rattle.soundness.specs.Sound.{ModelSound}
@@ -42,31 +42,31 @@ use Rattle.soundness.specs.Parts.{account-put, invoice-put, deal-put, se
 
 -- what an amendment and a counter leave before they agree
 module _ {m : Model} (s : ModelSound m) (now a o : ℕ) (t : Terms) (n : ℕ) where
-  amended-sound : first (amendChecks (offerIn m o) now a (accountIn m a .row) t n ++ reofferOf (accountIn m a .row) (termsIn m o) t .checks) ≡ 0 → ModelSound (amendedIn m now a o t)
+  amended-sound : first (amendsIn m now a o t n ++ reofferOf (accountIn m a .row) (termsIn m o) t .checks) ≡ 0 → ModelSound (amendedIn m now a o t)
   amended-sound e =
-      let p = both-pass (amendChecks (offerIn m o) now a (accountIn m a .row) t n) _ e in
+      let p = both-pass (amendsIn m now a o t n) _ e in
       record {
         fits = record { accounts = fine-adjust (s .fits .accounts) _ _; invoices = s .fits .invoices; offers = fine-adjust (s .fits .offers) _ _ };
         accounts = account-put (m .accounts) a _ (s .accounts) (λ z. Account.reoffer-keeps (accountIn m a .row) (termsIn m o) t z (p .1));
         invoices = s .invoices;
-        offers = deal-put (m .offers) o _ (s .offers) (λ z. Deal.amended-kept (offerIn m o) now a (accountIn m a .row) t n (m .settings .window) z (p .0));
+        offers = deal-put (m .offers) o _ (s .offers) (λ z. Deal.amended-kept (m .settings .edition) (offerIn m o) now a (accountIn m a .row) t n (paperOf m o) (m .settings .window) z (p .0));
         totals = s .totals;
         settings = s .settings;
       }
 
-  countered-sound : first (counterChecks (offerIn m o) now a (accountIn m a .row) t n (paperOf m o)) ≡ 0 → ModelSound (counteredIn m now o t)
+  countered-sound : first (countersIn m now a o t n) ≡ 0 → ModelSound (counteredIn m now o t)
   countered-sound e =
-      with-offers s _ (deal-put (m .offers) o _ (s .offers) (λ z. Deal.countered-kept (offerIn m o) now a (accountIn m a .row) t n (paperOf m o) (m .settings .window) z e))
+      with-offers s _ (deal-put (m .offers) o _ (s .offers) (λ z. Deal.countered-kept (m .settings .edition) (offerIn m o) now a (accountIn m a .row) t n (paperOf m o) (m .settings .window) z e))
       (record { accounts = s .fits .accounts; invoices = s .fits .invoices; offers = fine-adjust (s .fits .offers) _ _ })
 
   amending-sound : first (amending m now a o t n .checks) ≡ 0 → ModelSound (amending m now a o t n .done)
   amending-sound e =
-      let p = both-pass (amendChecks (offerIn m o) now a (accountIn m a .row) t n ++ reofferOf (accountIn m a .row) (termsIn m o) t .checks) _ e in
+      let p = both-pass (amendsIn m now a o t n ++ reofferOf (accountIn m a .row) (termsIn m o) t .checks) _ e in
       agreed-sound (amended-sound (p .0)) _ now o (p .1)
 
   countering-sound : first (countering m now a o t n .checks) ≡ 0 → ModelSound (countering m now a o t n .done)
   countering-sound e =
-      let p = both-pass (counterChecks (offerIn m o) now a (accountIn m a .row) t n (paperOf m o)) _ e in
+      let p = both-pass (countersIn m now a o t n) _ e in
       agreed-sound (countered-sound (p .0)) _ now o (p .1)
 
 module _ {m : Model} (s : ModelSound m) where

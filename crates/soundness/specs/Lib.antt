@@ -4,5 +4,6 @@ pub mod Keeps
 pub mod Session
 pub mod Edges
 pub mod Played
+pub mod Staying
 pub mod Books
 pub mod Calls

@@ -11,6 +11,7 @@ use Rattle.invoice.specs.Invoice.{invoiceSound}
 use Rattle.offer.specs.Laws.{DealKept}
 use Rattle.settings.specs.Settings.{settingsSound}
 use Rattle.totals.specs.Totals.{totalsSound}
+use Rattle.edition.specs.Edition.{listed}
 use Rattle.settings.specs.Laws.{fresh-sound}
 use Rattle.totals.specs.Laws.{no-totals-sound}
 use Rattle.rules.specs.Model.{Model, freshModel}
@@ -24,9 +25,9 @@ pub record ModelSound (m : Model) : Type 0 where
   pub totals : totalsSound (m .totals) ≡ true
   pub settings : settingsSound (m .settings) ≡ true
 
-pub fresh-model : ModelSound freshModel
+pub fresh-model : (e : ℕ) → listed e ≡ true → ModelSound (freshModel e)
 unfolding keys
-fresh-model = record {
+fresh-model e l = record {
   fits = record {
     accounts = record { fits = omega arith; rises = tt };
     invoices = record { fits = omega arith; rises = tt };
@@ -36,7 +37,7 @@ fresh-model = record {
   invoices = tt;
   offers = tt;
   totals = no-totals-sound;
-  settings = fresh-sound;
+  settings = fresh-sound e l;
 }
 
 -- a row put anew, which is sound if the row that was seen is

@@ -20,11 +20,11 @@ few-asked : (t : ℕ) → Few (askedOf t)
 unfolding askedOf
 few-asked t = either Few (isTimed t) _ _ (λ e. omega arith) (λ e. either Few (eqb t 0x66) _ _ (λ d. omega arith) (λ d. either Few (isBare t) _ _ (λ b. omega arith) (λ b. omega arith)))
 
-pub few-fields : (t : ℕ) → length (fieldsFor t) ≤ 9
+pub few-fields : (e t : ℕ) → length (fieldsFor e t) ≤ 9
 unfolding fieldsFor
-few-fields t = either Few (isCommand t) (fieldsOf t) (askedOf t) (λ e. few t) (λ e. few-asked t)
+few-fields e t = either Few (isCommand t) (fieldsOf e t) (askedOf t) (λ b. few e t) (λ b. few-asked t)
 
 -- a command's are its record's
-pub command-fields : (t : ℕ) → isCommand t ≡ true → fieldsFor t ≡ fieldsOf t
+pub command-fields : (e t : ℕ) → isCommand t ≡ true → fieldsFor e t ≡ fieldsOf e t
 unfolding fieldsFor
-command-fields t e = pick-on _ _ e
+command-fields e t b = pick-on _ _ b

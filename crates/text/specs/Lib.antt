@@ -14,6 +14,8 @@ pub mod WalkLaws
 pub mod Telling
 pub mod Answers
 pub mod AnswerLaws
+pub mod Title
+pub mod TitleLaws
 pub mod Text
 pub mod TextLaws
 pub mod Journal

@@ -1,4 +1,4 @@
--- A command or a question as a line: its name, and the numbers of its fields in order with a space before each, to the end of the line.
+-- A command of an edition, or a question, as a line: its name, and the numbers of its fields in order with a space before each, to the end of the line.
 use mathlib.Core.Bool.{Bool, _||_}
 use mathlib.Core.List.{List, [], _∷_, _++_}
 use Prim.Native.Nat.{ℕ, _-_}
@@ -28,5 +28,5 @@ numeralsOf [] xs = []
 numeralsOf (f ∷ fs) xs = (space ++ numeralOf f (getD xs 0 0)) ++ numeralsOf fs (drop 1 xs)
 
 -- the line of a tag and its numbers
-unfoldable pub lineOf : ℕ × List ℕ → List ℕ
-lineOf p = wordOf (p .0) ++ (numeralsOf (fieldsFor (p .0)) (p .1) ++ newline)
+unfoldable pub lineOf : ℕ → ℕ × List ℕ → List ℕ
+lineOf e p = wordOf (p .0) ++ (numeralsOf (fieldsFor e (p .0)) (p .1) ++ newline)

@@ -34,7 +34,7 @@ unfolding spacedIn pick
 spaced-back f x z h s = numeral-back f x z h s
 
 -- what follows a name or a number begins with a space or ends the line
-follows : (fs xs r : List ℕ) → Stop (numeralsOf fs xs ++ (10 ∷ r)) × (breaks (getD (numeralsOf fs xs ++ (10 ∷ r)) 0 0) ≡ true)
+pub follows : (fs xs r : List ℕ) → Stop (numeralsOf fs xs ++ (10 ∷ r)) × (breaks (getD (numeralsOf fs xs ++ (10 ∷ r)) 0 0) ≡ true)
 unfolding numeralsOf
 follows [] xs r = (refl, refl)
 follows (f ∷ fs) xs r = (refl, refl)
@@ -59,29 +59,35 @@ read-back (f ∷ fs) (x ∷ xs) r h =
 
 -- ---- the line
 
-module _ (from past : ℕ) (x : ℕ × List ℕ) (found : Found from past (x .0)) (named : 0 < x .0) (range : Tops (fieldsFor (x .0)) (x .1)) where
-  line-in : (r : List ℕ) (at : ℕ) → lineIn from past (wordOf (x .0) ++ (numeralsOf (fieldsFor (x .0)) (x .1) ++ (10 ∷ r))) at ≡ item x (at + (length (wordOf (x .0)) + length (numeralsOf (fieldsFor (x .0)) (x .1)) + 1))
+pub line-parts : (e : ℕ) (x : ℕ × List ℕ) (r : List ℕ) → lineOf e x ++ r ≡ wordOf (x .0) ++ (numeralsOf (fieldsFor e (x .0)) (x .1) ++ (10 ∷ r))
+unfolding lineOf
+line-parts e x r =
+    let w = wordOf (x .0) in
+    let m = numeralsOf (fieldsFor e (x .0)) (x .1) in
+    append-assoc w (m ++ newline) r ∙ ap (λ (l : List ℕ). w ++ l) (append-assoc m newline r)
+
+module _ (e from past : ℕ) (x : ℕ × List ℕ) (found : Found from past (x .0)) (named : 0 < x .0) (range : Tops (fieldsFor e (x .0)) (x .1)) where
+  line-in : (r : List ℕ) (at : ℕ) → lineIn e from past (wordOf (x .0) ++ (numeralsOf (fieldsFor e (x .0)) (x .1) ++ (10 ∷ r))) at ≡ item x (at + (length (wordOf (x .0)) + length (numeralsOf (fieldsFor e (x .0)) (x .1)) + 1))
   unfolding lineIn
   line-in r at =
       let t = x .0 in
       let w = wordOf t in
-      let m = numeralsOf (fieldsFor t) (x .1) in
+      let m = numeralsOf (fieldsFor e t) (x .1) in
       let u = w ++ (m ++ (10 ∷ r)) in
-      let n : numbersThere t u at ≡ all-read (x .1) (length m) = ap (readIn (fieldsFor t)) (drop-append-seam w (m ++ (10 ∷ r))) ∙ read-back (fieldsFor t) (x .1) r range in
+      let n : numbersThere e t u at ≡ all-read (x .1) (length m) = ap (readIn (fieldsFor e t)) (drop-append-seam w (m ++ (10 ∷ r))) ∙ read-back (fieldsFor e t) (x .1) r range in
       let z : getD u (length w + length m) 0 ≡ 10 = getD-append-add w (m ++ (10 ∷ r)) (length m) 0 ∙ getD-append-seam m 10 r 0 in
-      let q = lined t u at (λ k. omega arith) (ap (λ (y : Read). y .ok) n) (ap (λ (y : Read). getD u (length w + y .size) 0) n ∙ z) in
-      ap (λ (k : ℕ). lineBy k u at) (found (m ++ (10 ∷ r)) (follows (fieldsFor t) (x .1) r .1)) ∙ sym q ∙ ap (λ (y : Read). item (t, y .values) (at + (length w + y .size + 1))) n
+      let q = lined e t u at (λ k. omega arith) (ap (λ (y : Read). y .ok) n) (ap (λ (y : Read). getD u (length w + y .size) 0) n ∙ z) in
+      ap (λ (k : ℕ). lineBy e k u at) (found (m ++ (10 ∷ r)) (follows (fieldsFor e t) (x .1) r .1)) ∙ sym q ∙ ap (λ (y : Read). item (t, y .values) (at + (length w + y .size + 1))) n
 
-  pub line-back : (p r : List ℕ) → lineAt from past (p ++ (lineOf x ++ r)) (length p) ≡ item x (length p + length (lineOf x))
+  pub line-back : (p r : List ℕ) → lineAt e from past (p ++ (lineOf e x ++ r)) (length p) ≡ item x (length p + length (lineOf e x))
   unfolding lineOf
   line-back p r =
       let w = wordOf (x .0) in
-      let m = numeralsOf (fieldsFor (x .0)) (x .1) in
-      let s = p ++ (lineOf x ++ r) in
-      let u : lineOf x ++ r ≡ w ++ (m ++ (10 ∷ r)) = append-assoc w (m ++ newline) r ∙ ap (λ (l : List ℕ). w ++ l) (append-assoc m newline r) in
-      let l : length (lineOf x) ≡ length w + length m + 1 = length-append w (m ++ newline) ∙ omega (arith, length-append m newline) in
-      let h : length p < length s = omega (arith, length-append p (lineOf x ++ r), length-append (lineOf x) r) in
-      at-line from past s (length p) h ∙ ap (λ (t : List ℕ). lineIn from past t (length p)) (drop-append-seam p (lineOf x ++ r) ∙ u) ∙ line-in r (length p) ∙ ap (λ (n : ℕ). item x (length p + n)) (sym l)
+      let m = numeralsOf (fieldsFor e (x .0)) (x .1) in
+      let s = p ++ (lineOf e x ++ r) in
+      let l : length (lineOf e x) ≡ length w + length m + 1 = length-append w (m ++ newline) ∙ omega (arith, length-append m newline) in
+      let h : length p < length s = omega (arith, length-append p (lineOf e x ++ r), length-append (lineOf e x) r) in
+      at-line e from past s (length p) h ∙ ap (λ (t : List ℕ). lineIn e from past t (length p)) (drop-append-seam p (lineOf e x ++ r) ∙ line-parts e x r) ∙ line-in r (length p) ∙ ap (λ (n : ℕ). item x (length p + n)) (sym l)
 
-pub line-writes : Writes lineOf commandAt Good
-line-writes = record { ahead = onward 0x21 0x57; back = λ x p r g. line-back 0x21 0x57 x (command-found (x .0) (g .0)) (is-tag commands (x .0) refl (g .0)) (g .1) p r; over = at-end 0x21 0x57 }
+pub line-writes : (e : ℕ) → Writes (lineOf e) (commandAt e) (Good e)
+line-writes e = record { ahead = onward e 0x21 0x57; back = λ x p r g. line-back e 0x21 0x57 x (command-found (x .0) (g .0)) (is-tag commands (x .0) refl (g .0)) (g .1) p r; over = at-end e 0x21 0x57 }

@@ -18,7 +18,7 @@ use Rattle.sheet.specs.SheetLaws.{next, retext, none, kept}
 use Rattle.sheet.specs.Decimal.{space, newline}
 use Rattle.journal.specs.Table.{padded, sent}
 use Rattle.journal.specs.declared.writing.Parts.{Parts}
-use Rattle.text.specs.Names.{Name, commands, questions, wordIn, wordOf, isCommand, spelt}
+use Rattle.text.specs.Names.{Name, commands, others, wordIn, wordOf, isCommand, spelt}
 use Rattle.text.specs.Fields.{fieldsFor}
 use Rattle.text.specs.Line.{numeralOf, numeralsOf, lineOf}
 use Rattle.text.specs.declared.names.Spelling.{Spelling}
@@ -65,7 +65,7 @@ short-in (n ∷ ns) t e =
 
 pub word-short : (t : ℕ) → length (wordOf t) ≤ 18
 unfolding wordOf
-word-short t = short-pick (isCommand t) (wordIn commands t) (wordIn questions t) (short-in commands t refl) (short-in questions t refl)
+word-short t = short-pick (isCommand t) (wordIn commands t) (wordIn others t) (short-in commands t refl) (short-in others t refl)
 
 -- the name in its array
 pub word-in : {r : Spelling} (w : List ℕ) → r ≡ spelt w → take (r .0) (r .1) ≡ w
@@ -82,6 +82,6 @@ numerals-zeros (f ∷ fs) [] zero = refl
 numerals-zeros (f ∷ fs) [] (suc n) = ap (λ (l : List ℕ). (space ++ numeralOf f 0) ++ l) (numerals-zeros fs [] n)
 numerals-zeros (f ∷ fs) (x ∷ xs) n = ap (λ (l : List ℕ). (space ++ numeralOf f x) ++ l) (numerals-zeros fs xs n)
 
-pub line-sent : {p : Parts} (x : ℕ × List ℕ) → p ≡ sent x → lineOf (p .0, p .1) ≡ lineOf x
+pub line-sent : (e : ℕ) {p : Parts} (x : ℕ × List ℕ) → p ≡ sent x → lineOf e (p .0, p .1) ≡ lineOf e x
 unfolding lineOf padded
-line-sent x e = ap (λ (p : Parts). lineOf (p .0, p .1)) e ∙ ap (λ (l : List ℕ). wordOf (x .0) ++ (l ++ newline)) (numerals-zeros (fieldsFor (x .0)) (x .1) (9 - length (x .1)))
+line-sent e x q = ap (λ (p : Parts). lineOf e (p .0, p .1)) q ∙ ap (λ (l : List ℕ). wordOf (x .0) ++ (l ++ newline)) (numerals-zeros (fieldsFor e (x .0)) (x .1) (9 - length (x .1)))

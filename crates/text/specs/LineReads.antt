@@ -14,29 +14,29 @@ use Rattle.text.specs.Fields.{fieldsFor}
 use Rattle.text.specs.Walk.{item, fault}
 use Rattle.text.specs.Reading.{tagIn, Read, readIn, lineBy, lineIn}
 
-module _ (k : ℕ) (t : List ℕ) (at : ℕ) where
+module _ (e k : ℕ) (t : List ℕ) (at : ℕ) where
   abbrev pub numbersThere : Read
-  numbersThere = readIn (fieldsFor k) (drop (length (wordOf k)) t)
+  numbersThere = readIn (fieldsFor e k) (drop (length (wordOf k)) t)
 
-  pub nameless : k ≡ 0 → fault ≡ lineBy k t at
+  pub nameless : k ≡ 0 → fault ≡ lineBy e k t at
   unfolding lineBy
   nameless z = sym (pick-off _ _ (rw (le-ltb 0 k (omega arith))))
 
-  pub numberless : numbersThere .ok ≡ false → fault ≡ lineBy k t at
+  pub numberless : numbersThere .ok ≡ false → fault ≡ lineBy e k t at
   unfolding lineBy
   numberless z = sym (pick-off _ _ (rw z (and-off (ltb 0 k))))
 
-  pub endless : (getD t (length (wordOf k) + numbersThere .size) 0 ≡ 10 → ⊥) → fault ≡ lineBy k t at
+  pub endless : (getD t (length (wordOf k) + numbersThere .size) 0 ≡ 10 → ⊥) → fault ≡ lineBy e k t at
   unfolding lineBy
   endless z =
       let b : numbersThere .ok && eqb (getD t (length (wordOf k) + numbersThere .size) 0) 10 ≡ false = rw (ne-eqb (getD t (length (wordOf k) + numbersThere .size) 0) 10 z) (and-off (numbersThere .ok)) in
       sym (pick-off _ _ (ap (λ (x : Bool). ltb 0 k && x) b ∙ and-off (ltb 0 k)))
 
-  pub lined : (k ≡ 0 → ⊥) → numbersThere .ok ≡ true → getD t (length (wordOf k) + numbersThere .size) 0 ≡ 10 → item (k, numbersThere .values) (at + (length (wordOf k) + numbersThere .size + 1)) ≡ lineBy k t at
+  pub lined : (k ≡ 0 → ⊥) → numbersThere .ok ≡ true → getD t (length (wordOf k) + numbersThere .size) 0 ≡ 10 → item (k, numbersThere .values) (at + (length (wordOf k) + numbersThere .size + 1)) ≡ lineBy e k t at
   unfolding lineBy
   lined n o z = sym (pick-on _ _ (rw (lt-ltb 0 k (omega (arith, n)), o, eq-eqb (getD t (length (wordOf k) + numbersThere .size) 0) 10 z)))
 
 -- the line of the tag that is found
-pub by-tag : (from past : ℕ) (t : List ℕ) (at : ℕ) {k : ℕ} → k ≡ tagIn from past t → lineBy k t at ≡ lineIn from past t at
+pub by-tag : (e from past : ℕ) (t : List ℕ) (at : ℕ) {k : ℕ} → k ≡ tagIn from past t → lineBy e k t at ≡ lineIn e from past t at
 unfolding lineIn
-by-tag from past t at e = ap (λ (j : ℕ). lineBy j t at) e
+by-tag e from past t at q = ap (λ (j : ℕ). lineBy e j t at) q

@@ -26,28 +26,42 @@ unfolding pick Onward
 pick-goes true x at m len h f = (omega arith, omega (arith, f refl))
 pick-goes false x at m len h f = h
 
+closed-within : (t : List ℕ) (k n : ℕ) (r : Read) (at : ℕ) → ltb 0 k && (r .ok && eqb (getD (drop at t) (n + r .size) 0) 10) ≡ true → at + (n + r .size) < length t
+closed-within t k n r at e = omega (arith, there (drop at t) (n + r .size) (eqb-true _ 10 (and-right (r .ok) _ (and-right (ltb 0 k) _ e))) (omega arith), length-drop at t)
+
 closed-goes : (t : List ℕ) (k n : ℕ) (r : Read) (at : ℕ) → at < length t → Onward (length t) at (closed k n r (drop at t) at)
 closed-goes t k n r at h =
-    pick-goes (ltb 0 k && (r .ok && eqb (getD (drop at t) (n + r .size) 0) 10)) (k, r .values) at (n + r .size) (length t) h
-    (λ e. omega (arith, there (drop at t) (n + r .size) (eqb-true _ 10 (and-right (r .ok) _ (and-right (ltb 0 k) _ e))) (omega arith), length-drop at t))
+    pick-goes (ltb 0 k && (r .ok && eqb (getD (drop at t) (n + r .size) 0) 10)) (k, r .values) at (n + r .size) (length t) h (closed-within t k n r at)
 
-module _ (from past : ℕ) (t : List ℕ) (at : ℕ) where
-  line-goes : at < length t → Onward (length t) at (lineIn from past (drop at t) at)
+pick-item : (b : Bool) (x y : ℕ × List ℕ) (n m : ℕ) → pick b (item x n) fault ≡ item y m → b ≡ true
+unfolding pick
+pick-item true x y n m q = refl
+pick-item false x y n m q = let z : _≡_ {A = ℕ} 0 1 = cc in absurd (omega arith)
+
+module _ (e from past : ℕ) (t : List ℕ) (at : ℕ) where
+  line-goes : at < length t → Onward (length t) at (lineIn e from past (drop at t) at)
   unfolding lineIn lineBy
   line-goes h =
       let b = drop at t in
       let k = tagIn from past b in
-      closed-goes t k (length (wordOf k)) (readIn (fieldsFor k) (drop (length (wordOf k)) b)) at h
+      closed-goes t k (length (wordOf k)) (readIn (fieldsFor e k) (drop (length (wordOf k)) b)) at h
 
-  pub onward : Onward (length t) at (lineAt from past t at)
+  pub line-there : {x : ℕ × List ℕ} {n : ℕ} → lineIn e from past (drop at t) at ≡ item x n → at < length t
+  unfolding lineIn lineBy
+  line-there q =
+      let b = drop at t in
+      let k = tagIn from past b in
+      omega (arith, closed-within t k (length (wordOf k)) (readIn (fieldsFor e k) (drop (length (wordOf k)) b)) at (pick-item _ _ _ _ _ q))
+
+  pub onward : Onward (length t) at (lineAt e from past t at)
   unfolding lineAt Onward
-  onward = either (Onward (length t) at) (leb (length t) at) end (lineIn from past (drop at t) at) (λ e. leb-true (length t) at e) (λ e. line-goes (leb-false (length t) at e))
+  onward = either (Onward (length t) at) (leb (length t) at) end (lineIn e from past (drop at t) at) (λ b. leb-true (length t) at b) (λ b. line-goes (leb-false (length t) at b))
 
-  pub at-end : length t ≤ at → lineAt from past t at ≡ end
+  pub at-end : length t ≤ at → lineAt e from past t at ≡ end
   unfolding lineAt
   at-end h = pick-on _ _ (le-leb (length t) at h)
 
-  pub at-line : at < length t → lineAt from past t at ≡ lineIn from past (drop at t) at
+  pub at-line : at < length t → lineAt e from past t at ≡ lineIn e from past (drop at t) at
   unfolding lineAt
   at-line h = pick-off _ _ (lt-leb (length t) at h)
 

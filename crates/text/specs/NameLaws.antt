@@ -1,5 +1,5 @@
 -- What the lists of names say of a tag. Assumes nothing.
-use mathlib.Core.Path.{_≡_, refl, sym, ap}
+use mathlib.Core.Path.{_≡_, refl, sym, ap, _∙_}
 use mathlib.Core.Bool.{Bool, true, false, not, _&&_}
 use mathlib.Core.List.{List, [], _∷_}
 use Prim.Native.Nat.{ℕ, _<_}
@@ -10,7 +10,7 @@ use borrow.Author.Tests.{ne-eqb, eqb-true, ltb-true, not-true}
 use Rattle.refusal.specs.Choice.{pick}
 use Rattle.refusal.specs.ChoiceLaws.{pick-on, pick-off}
 use Rattle.wire.specs.FieldLaws.{and-left, and-right}
-use Rattle.text.specs.Names.{Name, commands, questions, wordIn, wordOf, isCommand, spelt}
+use Rattle.text.specs.Names.{Name, commands, questions, others, wordIn, wordOf, isCommand, spelt}
 
 -- in the arm of a tag
 pub in-arm : (ns : List Name) (k : ℕ) {t : ℕ} → t ≡ k → spelt (wordIn ns k) ≡ spelt (wordIn ns t)
@@ -66,15 +66,19 @@ pub command-word : (t : ℕ) → isCommand t ≡ true → wordOf t ≡ wordIn co
 unfolding wordOf
 command-word t e = pick-on _ _ e
 
-pub question-word : (t : ℕ) → isCommand t ≡ false → wordOf t ≡ wordIn questions t
+pub other-word : (t : ℕ) → isCommand t ≡ false → wordOf t ≡ wordIn others t
 unfolding wordOf
-question-word t e = pick-off _ _ e
+other-word t e = pick-off _ _ e
 
 pub is-command : (t : ℕ) → 0 < length (wordIn commands t) → isCommand t ≡ true
 is-command t h = computed (λ (k : ℕ). isCommand k) commands t refl h
 
 pub is-question : (t : ℕ) → 0 < length (wordIn questions t) → isCommand t ≡ false
 is-question t h = not-true (isCommand t) (computed (λ (k : ℕ). not (isCommand k)) questions t refl h)
+
+pub question-word : (t : ℕ) → 0 < length (wordIn questions t) → wordOf t ≡ wordIn questions t
+unfolding wordIn
+question-word t h = other-word t (is-question t h) ∙ pick-off _ _ (not-true (eqb t 0x10) (computed (λ (k : ℕ). not (eqb k 0x10)) questions t refl h))
 
 -- 0 is no tag of a name
 pub is-tag : (ns : List Name) (t : ℕ) → allPass (ltb 0) ns ≡ true → 0 < length (wordIn ns t) → 0 < t

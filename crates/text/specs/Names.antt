@@ -1,9 +1,9 @@
 -- The commands by the names that document 01 gives them, and the questions by names of the same kind.
-use mathlib.Core.Bool.{Bool}
+use mathlib.Core.Bool.{Bool, _&&_}
 use mathlib.Core.List.{List, [], _∷_, _++_}
 use Prim.Native.Nat.{ℕ, _-_}
 use lib.ListN.{length, replicate}
-use lib.Dec.{eqb, ltb}
+use lib.Dec.{eqb, leb, ltb}
 use Rattle.refusal.specs.Choice.{pick}
 use Rattle.text.specs.declared.names.Spelling.{Spelling}
 
@@ -68,17 +68,21 @@ questions =
     ∷ name 0x7F (110 ∷ 101 ∷ 103 ∷ 111 ∷ 116 ∷ 105 ∷ 97 ∷ 116 ∷ 105 ∷ 111 ∷ 110 ∷ [])  -- negotiation
     ∷ []
 
+-- a text's first line names its edition, as a journal's first field does
+abbrev pub others : List Name
+others = name 0x10 (101 ∷ 100 ∷ 105 ∷ 116 ∷ 105 ∷ 111 ∷ 110 ∷ []) ∷ questions  -- edition
+
 -- the name of a tag, and none for a tag that the list has not
 unfoldable pub wordIn : List Name → ℕ → List ℕ
 wordIn [] t = []
 wordIn (n ∷ ns) t = pick (eqb t (n .tag)) (n .word) (wordIn ns t)
 
--- the questions' tags lie above the commands'
+-- the commands' tags lie above the edition's, and the questions' above them
 abbrev pub isCommand : ℕ → Bool
-isCommand t = ltb t 0x60
+isCommand t = leb 0x20 t && ltb t 0x60
 
 unfoldable pub wordOf : ℕ → List ℕ
-wordOf t = pick (isCommand t) (wordIn commands t) (wordIn questions t)
+wordOf t = pick (isCommand t) (wordIn commands t) (wordIn others t)
 
 -- in an array of eighteen, with spaces after it
 abbrev pub spelt : List ℕ → Spelling

@@ -11,7 +11,7 @@ use Rattle.refusal.specs.Choice.{pick}
 use Rattle.refusal.specs.ChoiceLaws.{pick-on, pick-off}
 use Rattle.wire.specs.FieldLaws.{and-left, and-right}
 use Rattle.text.specs.Names.{Name, commands, questions, wordIn, wordOf}
-use Rattle.text.specs.NameLaws.{allPass, computed, command-word, question-word, is-command, is-question}
+use Rattle.text.specs.NameLaws.{allPass, computed, command-word, question-word, is-command}
 use Rattle.text.specs.Reading.{leads, isNamed, tagBy, tagIn}
 
 -- a space or a newline
@@ -85,6 +85,15 @@ pub command-found : (q : ℕ) → 0 < length (wordIn commands q) → Found 0x21 
 unfolding isFirst apart wordOf wordIn pick
 command-found q h = found 0x21 0x57 commands q refl (command-word q (is-command q h)) h
 
+-- the edition's name is told apart from each command's
+pub edition-found : Found 0x10 0x11 0x10
+unfolding isFirst tagIn wordOf wordIn pick
+edition-found z b = first-tag 1 0x10 0x10 z b (omega arith) refl
+
+pub edition-not : (q : ℕ) (z : List ℕ) → 0 < length (wordIn commands q) → breaks (getD z 0 0) ≡ true → tagIn 0x10 0x11 (wordOf q ++ z) ≡ 0
+unfolding apart tagIn tagBy wordOf wordIn pick
+edition-not q z h b = pick-off _ _ (over 0x10 (wordOf q) z b (computed (λ (k : ℕ). isOver 0x10 (wordOf k)) commands q refl h))
+
 pub question-found : (q : ℕ) → 0 < length (wordIn questions q) → Found 0x61 0x80 q
 unfolding isFirst apart wordOf wordIn pick
-question-found q h = found 0x61 0x80 questions q refl (question-word q (is-question q h)) h
+question-found q h = found 0x61 0x80 questions q refl (question-word q h) h

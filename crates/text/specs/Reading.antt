@@ -1,4 +1,4 @@
--- What line stands at a place of a text, of a tag in a range: the commands' or the questions'. A line reads as a command or a question where
+-- What line stands at a place of a text of an edition, of a tag in a range: the commands' or the questions'. A line reads as a command or a question where
 -- it is the line of that one, byte for byte.
 use mathlib.Core.Bool.{Bool, true, false, _&&_, _||_}
 use mathlib.Core.List.{List, [], _∷_}
@@ -6,6 +6,7 @@ use Prim.Native.Nat.{ℕ, zero, suc, _+_, _-_, _*_}
 use lib.ListN.{length, getD, drop}
 use lib.Dec.{eqb, leb, ltb}
 use Rattle.refusal.specs.Choice.{pick}
+use Rattle.edition.specs.Edition.{firstEdition}
 use Rattle.journal.specs.Table.{topOf, padded}
 use Rattle.text.specs.Names.{wordOf}
 use Rattle.text.specs.Fields.{fieldsFor}
@@ -95,21 +96,21 @@ readIn (f ∷ fs) t = pick (spacedIn f t .ok && readIn fs (drop (spacedIn f t .s
 abbrev pub closed : ℕ → ℕ → Read → List ℕ → ℕ → Item
 closed k n r t at = pick (ltb 0 k && (r .ok && eqb (getD t (n + r .size) 0) 10)) (item (k, r .values) (at + (n + r .size + 1))) fault
 
-unfoldable pub lineBy : ℕ → List ℕ → ℕ → Item
-lineBy k t at = closed k (length (wordOf k)) (readIn (fieldsFor k) (drop (length (wordOf k)) t)) t at
+unfoldable pub lineBy : ℕ → ℕ → List ℕ → ℕ → Item
+lineBy e k t at = closed k (length (wordOf k)) (readIn (fieldsFor e k) (drop (length (wordOf k)) t)) t at
 
-unfoldable pub lineIn : ℕ → ℕ → List ℕ → ℕ → Item
-lineIn from past t at = lineBy (tagIn from past t) t at
+unfoldable pub lineIn : ℕ → ℕ → ℕ → List ℕ → ℕ → Item
+lineIn e from past t at = lineBy e (tagIn from past t) t at
 
-unfoldable pub lineAt : ℕ → ℕ → List ℕ → ℕ → Item
-lineAt from past t at = pick (leb (length t) at) end (lineIn from past (drop at t) at)
+unfoldable pub lineAt : ℕ → ℕ → ℕ → List ℕ → ℕ → Item
+lineAt e from past t at = pick (leb (length t) at) end (lineIn e from past (drop at t) at)
 
--- the tags of commands, and those of questions
-abbrev pub commandAt : List ℕ → ℕ → Item
-commandAt t at = lineAt 0x21 0x57 t at
+-- the tags of commands, and those of questions, whose lines are the same in every edition
+abbrev pub commandAt : ℕ → List ℕ → ℕ → Item
+commandAt e t at = lineAt e 0x21 0x57 t at
 
 abbrev pub questionAt : List ℕ → ℕ → Item
-questionAt t at = lineAt 0x61 0x80 t at
+questionAt t at = lineAt firstEdition 0x61 0x80 t at
 
 -- as the code has them
 abbrev pub numbersFor : ℕ → Read → Numbers

@@ -18,12 +18,12 @@ use Rattle.journal.specs.WriteLaws.{length-record}
 use Rattle.journal.specs.declared.Encoded.{Encoded}
 use Rattle.journal.specs.declared.Encoded.the-variants.{Bytes, Short}
 
-pub header-laid : laid 0 headerOf (replicate 5 0) ≡ headerOf
+pub header-laid : (e : ℕ) → laid 0 (headerOf e) (replicate 5 0) ≡ headerOf e
 unfolding laid placed headerOf fieldOf headOf bytesOf pick
-header-laid = refl
+header-laid e = refl
 
-pub record-room : (t : ℕ) (xs : List ℕ) → length (recordOf t xs) ≤ 102
-record-room t xs = omega (arith, length-record t xs, few t)
+pub record-room : (e t : ℕ) (xs : List ℕ) → length (recordOf e t xs) ≤ 102
+record-room e t xs = omega (arith, length-record e t xs, few e t)
 
 module _ (w l : List ℕ) (h : length w ≤ length l) where
   has-room : writing 0 w l ≡ (0, length w)

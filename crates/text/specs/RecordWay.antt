@@ -28,40 +28,40 @@ use Rattle.text.specs.Trip.{Stands, Reads, Writes}
 use Rattle.text.specs.LineWay.{Good, partsIn, pastIn, isItem}
 
 -- each command's tag has a name
-tag-word : (c : Command) → 0 < length (wordIn commands (partsOf c .0))
+tag-word : (e : ℕ) (c : Command) → 0 < length (wordIn commands (partsOf e c .0))
 unfolding wordIn partsOf pick
-tag-word (OpenAccount t c) = omega arith
-tag-word (Deposit t c a) = omega arith
-tag-word (Payout t c a) = omega arith
-tag-word (Approve t c a) = omega arith
-tag-word (RegisterInvoice t c i a) = omega arith
-tag-word (CancelInvoice t c i) = omega arith
-tag-word (CreateOffer t c i v m e) = omega arith
-tag-word (WithdrawOffer t c i) = omega arith
-tag-word (AcceptOffer t c i) = omega arith
-tag-word (RejectOffer t c i) = omega arith
-tag-word (AmendOffer t c i m r) = omega arith
-tag-word (CounterOffer t c i m r) = omega arith
-tag-word (CloseNegotiation t c i) = omega arith
-tag-word (ScheduleRepayment t c i n k f) = omega arith
-tag-word (UpdateStatus t c i k) = omega arith
-tag-word (UpdateRepaid t c i a) = omega arith
-tag-word (UpdateLenderRepaid t c i k) = omega arith
-tag-word (UpdateTotalsRepaid t c a b) = omega arith
-tag-word (Pause t s) = omega arith
-tag-word (Unpause t s) = omega arith
-tag-word (SetWindow t s w) = omega arith
-tag-word (SetRepaymentAccount t i s) = omega arith
-tag-word (SetBlacklisted t i k s) = omega arith
-tag-word (SetSeats t s h x) = omega arith
+tag-word e (OpenAccount t c) = omega arith
+tag-word e (Deposit t c a) = omega arith
+tag-word e (Payout t c a) = omega arith
+tag-word e (Approve t c a) = omega arith
+tag-word e (RegisterInvoice t c i a) = omega arith
+tag-word e (CancelInvoice t c i) = omega arith
+tag-word e (CreateOffer t c i v m x) = omega arith
+tag-word e (WithdrawOffer t c i) = omega arith
+tag-word e (AcceptOffer t c i) = omega arith
+tag-word e (RejectOffer t c i) = omega arith
+tag-word e (AmendOffer t c i m r) = omega arith
+tag-word e (CounterOffer t c i m r) = omega arith
+tag-word e (CloseNegotiation t c i) = omega arith
+tag-word e (ScheduleRepayment t c i n k f) = omega arith
+tag-word e (UpdateStatus t c i k) = omega arith
+tag-word e (UpdateRepaid t c i a) = omega arith
+tag-word e (UpdateLenderRepaid t c i k) = omega arith
+tag-word e (UpdateTotalsRepaid t c a b) = omega arith
+tag-word e (Pause t s) = omega arith
+tag-word e (Unpause t s) = omega arith
+tag-word e (SetWindow t s w) = omega arith
+tag-word e (SetRepaymentAccount t i s) = omega arith
+tag-word e (SetBlacklisted t i k s) = omega arith
+tag-word e (SetSeats t s h x) = omega arith
 
 -- each name's tag makes a command of any numbers
-abbrev Makes : ℕ → Type 0
-Makes t = (xs : List ℕ) (at next : ℕ) → (c : Command) × (made t (named xs) at next ≡ found c next)
+abbrev Makes : ℕ → ℕ → Type 0
+Makes e t = (xs : List ℕ) (at next : ℕ) → (c : Command) × (made e t (named xs) at next ≡ found c next)
 
-all-make : Each Makes commands
+all-make : (e : ℕ) → Each (Makes e) commands
 unfolding made madeIn pick
-all-make =
+all-make e =
     (λ xs at next. (_, refl))
     ▸ (λ xs at next. (_, refl))
     ▸ (λ xs at next. (_, refl))
@@ -88,20 +88,20 @@ all-make =
     ▸ (λ xs at next. (_, refl))
     ▸ tt
 
-makes : (t : ℕ) → 0 < length (wordIn commands t) → Makes t
-makes t h = each Makes commands t all-make h
+makes : (e t : ℕ) → 0 < length (wordIn commands t) → Makes e t
+makes e t h = each (Makes e) commands t (all-make e) h
 
 -- ---- what stands in a journal
 
-stands-by : (s : List ℕ) (p : ℕ) (d : Reading) (x : ℕ × List ℕ) (n : ℕ) → Bytes s → readAt s p ≡ d → itemOf d ≡ item x n → Stands recordFor Good s p x n
+stands-by : (e : ℕ) (s : List ℕ) (p : ℕ) (d : Reading) (x : ℕ × List ℕ) (n : ℕ) → Bytes s → readAt e s p ≡ d → itemOf e d ≡ item x n → Stands (recordFor e) (Good e) s p x n
 unfolding recordFor bytesFor
-stands-by s p (found c m) x n k e q =
-    let w = canonical s p c m k e in
-    let a : partsOf c ≡ x = ap partsIn q in
+stands-by e s p (found c m) x n k r q =
+    let w = canonical e s p c m k r in
+    let a : partsOf e c ≡ x = ap partsIn q in
     let b : m ≡ n = ap pastIn q in
-    rw (← a) record { past = sym b ∙ w .past; bytes = w .bytes; good = (tag-word c, rw (command-fields (partsOf c .0) (is-command (partsOf c .0) (tag-word c))) (w .range)) }
-stands-by s p (refused m r) x n k e q = let z = ap isItem q in let y : _≡_ {A = ℕ} 0 1 = cc in absurd (omega arith)
-stands-by s p ended x n k e q = let z = ap isItem q in let y : _≡_ {A = ℕ} 0 1 = cc in absurd (omega arith)
+    rw (← a) record { past = sym b ∙ w .past; bytes = w .bytes; good = (tag-word e c, rw (command-fields e (partsOf e c .0) (is-command (partsOf e c .0) (tag-word e c))) (w .range)) }
+stands-by e s p (refused m o) x n k r q = let z = ap isItem q in let y : _≡_ {A = ℕ} 0 1 = cc in absurd (omega arith)
+stands-by e s p ended x n k r q = let z = ap isItem q in let y : _≡_ {A = ℕ} 0 1 = cc in absurd (omega arith)
 
 -- ---- what is written is read
 
@@ -126,17 +126,17 @@ tops-small (f ∷ fs) [] h k = absurd h
 tops-small (f ∷ fs) (x ∷ xs) h zero = omega (arith, h .0, top-most f)
 tops-small (f ∷ fs) (x ∷ xs) h (suc k) = tops-small fs xs (h .1) k
 
-record-back : (x : ℕ × List ℕ) (p r : List ℕ) → Good x → itemOf (readAt (p ++ (recordFor x ++ r)) (length p)) ≡ item x (length p + length (recordFor x))
+record-back : (e : ℕ) (x : ℕ × List ℕ) (p r : List ℕ) → Good e x → itemOf e (readAt e (p ++ (recordFor e x ++ r)) (length p)) ≡ item x (length p + length (recordFor e x))
 unfolding recordFor
-record-back x p r g =
-    let n = length p + length (recordFor x) in
-    let o : Tops (fieldsOf (x .0)) (x .1) = rw (command-fields (x .0) (is-command (x .0) (g .0))) at (g .1) in
-    let c = makes (x .0) (g .0) (byTag zeros (fieldsOf (x .0)) (x .1)) (length p) n in
-    let m = made-of (x .0) (length p) n n (x .1) (c .0) (tops-long (fieldsOf (x .0)) (x .1) o) (tops-small (fieldsOf (x .0)) (x .1) o) (c .1) in
-    ap itemOf (parts-back (x .0) (x .1) p r o ∙ c .1) ∙ ap (λ (y : ℕ × List ℕ). item y n) (m .1)
+record-back e x p r g =
+    let n = length p + length (recordFor e x) in
+    let o : Tops (fieldsOf e (x .0)) (x .1) = rw (command-fields e (x .0) (is-command (x .0) (g .0))) at (g .1) in
+    let c = makes e (x .0) (g .0) (byTag zeros (fieldsOf e (x .0)) (x .1)) (length p) n in
+    let m = made-of e (x .0) (length p) n n (x .1) (c .0) (tops-long (fieldsOf e (x .0)) (x .1) o) (tops-small (fieldsOf e (x .0)) (x .1) o) (c .1) in
+    ap (itemOf e) (parts-back e (x .0) (x .1) p r o ∙ c .1) ∙ ap (λ (y : ℕ × List ℕ). item y n) (m .1)
 
-pub record-reads : Reads recordFor (λ (s : List ℕ) (p : ℕ). itemOf (readAt s p)) Good Bytes
-record-reads = record { ahead = onward; stands = λ s p x n k q. stands-by s p (readAt s p) x n k refl q }
+pub record-reads : (e : ℕ) → Reads (recordFor e) (λ (s : List ℕ) (p : ℕ). itemOf e (readAt e s p)) (Good e) Bytes
+record-reads e = record { ahead = onward e; stands = λ s p x n k q. stands-by e s p (readAt e s p) x n k refl q }
 
-pub record-writes : Writes recordFor (λ (s : List ℕ) (p : ℕ). itemOf (readAt s p)) Good
-record-writes = record { ahead = onward; back = record-back; over = λ s p h. ap itemOf (sym (at-end s p h)) }
+pub record-writes : (e : ℕ) → Writes (recordFor e) (λ (s : List ℕ) (p : ℕ). itemOf e (readAt e s p)) (Good e)
+record-writes e = record { ahead = onward e; back = record-back e; over = λ s p h. ap (itemOf e) (sym (at-end e s p h)) }

@@ -20,12 +20,12 @@ fn asked(tag: u8) -> Listed
     Listed(1, [0x03, 0, 0, 0, 0, 0, 0, 0, 0])
 }
 
-// The fields of a command or of a question.
-pub(crate) fn listed(tag: u8) -> Listed
-    ensures { λ r. ⌜ r ≡ rowFields (fieldsFor tag) ⌝ }
+// The fields of a command of an edition, or of a question.
+pub(crate) fn listed(edition: u32, tag: u8) -> Listed
+    ensures { λ r. ⌜ r ≡ rowFields (fieldsFor edition tag) ⌝ }
 {
     if names::is_command(tag) {
-        return journal::table::fields(tag);
+        return journal::table::fields(edition, tag);
     }
     asked(tag)
 }

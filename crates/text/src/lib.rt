@@ -12,9 +12,10 @@ ghost use mathlib.Core.Path.{_≡_};
 ghost use mathlib.Core.Bool.{false};
 ghost use Rattle.sheet.specs.Sheet.{Wrote, penAt};
 ghost use Rattle.text.specs.Answers.{answered, answerFor, leftFor};
+ghost use Rattle.text.specs.Title.{titleIn};
 ghost use Rattle.text.specs.Text.{recordsOf, linesOf, textOf};
 ghost use Rattle.text.specs.Journal.{linesIn, bytesFrom, faultLine, journalOf};
-ghost use Rattle.journal.specs.Format.{headerOf, recordOf};
+ghost use Rattle.journal.specs.Format.{headerOf, openingOf, recordOf};
 
 // How many bytes were written; the offset of a malformed record or the number of a line that is none; or that the buffer is too short.
 pub enum Answer {
@@ -32,28 +33,29 @@ pub(crate) struct Told {
 
 // One walk over a journal, which writes the lines as it goes. Without ink it only measures.
 fn tell(s: &[u8], out: &mut [u8], ink: bool) -> Told
-    ensures { λ r. ⌜ Wrote ink (linesOf (recordsOf (now (s .entry)))) (now (out .entry)) (penAt 0 false) (now (out .exit)) (r .pen) × ((r .bad ≡ recordsOf (now (s .entry)) .bad) × (r .at ≡ recordsOf (now (s .entry)) .at)) ⌝ }
+    ensures { λ r. ⌜ Wrote ink (linesOf (openingOf (now (s .entry)) .edition) (recordsOf (now (s .entry)))) (now (out .entry)) (penAt 0 false) (now (out .exit)) (r .pen) × ((r .bad ≡ recordsOf (now (s .entry)) .bad) × (r .at ≡ recordsOf (now (s .entry)) .at)) ⌝ }
 {
-    let mut pen = Pen {
+    let start = Pen {
         at: 0,
         short: false,
     };
     let h = journal::header(s);
-    let Opened::Records(first) = h else {
+    let Opened::Records(edition, first) = h else {
         return Told {
-            pen,
+            pen: start,
             bad: true,
             at: 0,
         };
     };
+    let mut pen = writing::put_title(out, start, ink, edition);
     let mut at = first;
     loop {
-        let d = journal::decode(s, at);
+        let d = journal::decode(edition, s, at);
         match d {
             Decoded::Command(c, next) => {
-                let parts = journal::writing::split(c);
+                let parts = journal::writing::split(edition, c);
                 let numbers = parts.1;
-                pen = writing::put_line(out, pen, ink, parts.0, numbers);
+                pen = writing::put_line(out, pen, ink, edition, parts.0, numbers);
                 at = next;
             }
             Decoded::Malformed(_) => {
@@ -87,39 +89,41 @@ pub fn to_text(journal: &[u8], out: &mut [u8]) -> Answer
     Answer::Done(q.at)
 }
 
-fn put_header(out: &mut [u8], pen: Pen, ink: bool) -> Pen
-    ensures { λ r. ⌜ Wrote ink headerOf (now (out .entry)) pen (now (out .exit)) r ⌝ }
+fn put_header(out: &mut [u8], pen: Pen, ink: bool, edition: u32) -> Pen
+    ensures { λ r. ⌜ Wrote ink (headerOf edition) (now (out .entry)) pen (now (out .exit)) r ⌝ }
 {
     let mut header = [0u8; 5];
-    journal::write_header(&mut header);
+    journal::write_header(&mut header, edition);
     sheet::put(out, pen, ink, &header)
 }
 
-fn put_record(out: &mut [u8], pen: Pen, ink: bool, tag: u8, numbers: [u64; 9]) -> Pen
-    ensures { λ r. ⌜ Wrote ink (recordOf tag numbers) (now (out .entry)) pen (now (out .exit)) r ⌝ }
+fn put_record(out: &mut [u8], pen: Pen, ink: bool, edition: u32, tag: u8, numbers: [u64; 9]) -> Pen
+    ensures { λ r. ⌜ Wrote ink (recordOf edition tag numbers) (now (out .entry)) pen (now (out .exit)) r ⌝ }
 {
     // Room for the longest record: no case is short.
     let mut bytes = [0u8; 102];
-    let e = journal::encode_parts(tag, numbers, &mut bytes, 0);
+    let e = journal::encode_parts(edition, tag, numbers, &mut bytes, 0);
     let Encoded::Bytes(size) = e else {
         return pen;
     };
     sheet::put(out, pen, ink, &bytes[..size])
 }
 
-// One walk over a text, which writes the header and the records as it goes. A fault is told by its line's number.
+// One walk over a text, which writes the header and the records as it goes. A fault is told by its line's number, from 1.
 fn tell_lines(s: &[u8], out: &mut [u8], ink: bool) -> Told
-    ensures { λ r. ⌜ Wrote ink (bytesFrom (linesIn (now (s .entry)))) (now (out .entry)) (penAt 0 false) (now (out .exit)) (r .pen) × ((r .bad ≡ linesIn (now (s .entry)) .bad) × (r .at ≡ faultLine (linesIn (now (s .entry))))) ⌝ }
+    ensures { λ r. ⌜ Wrote ink (bytesFrom (titleIn (now (s .entry)) .edition) (linesIn (now (s .entry)))) (now (out .entry)) (penAt 0 false) (now (out .exit)) (r .pen) × ((r .bad ≡ linesIn (now (s .entry)) .bad) × (r .at ≡ faultLine (titleIn (now (s .entry)) .lines) (linesIn (now (s .entry))))) ⌝ }
 {
     let start = Pen {
         at: 0,
         short: false,
     };
-    let mut pen = put_header(out, start, ink);
-    let mut at: usize = 0;
-    let mut k: usize = 0;
+    let title = reading::title_of(s);
+    let edition = title.edition;
+    let mut pen = put_header(out, start, ink, edition);
+    let mut at = title.next;
+    let mut k = title.lines;
     while at < s.len() {
-        let x = reading::line_at(s, at, 0x21, 0x57);
+        let x = reading::line_at(edition, s, at, 0x21, 0x57);
         if !x.ok {
             return Told {
                 pen,
@@ -128,7 +132,7 @@ fn tell_lines(s: &[u8], out: &mut [u8], ink: bool) -> Told
             };
         }
         let values = x.values;
-        pen = put_record(out, pen, ink, x.tag, values);
+        pen = put_record(out, pen, ink, edition, x.tag, values);
         at = x.next;
         k += 1;
     }

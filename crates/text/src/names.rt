@@ -1,6 +1,6 @@
-// The names of commands and of questions, by their tags.
+// The names of commands, of questions and of the edition, by their tags.
 ghost use mathlib.Core.Path.{_≡_};
-ghost use Rattle.text.specs.Names.{commands, questions, wordIn, wordOf, isCommand, spelt};
+ghost use Rattle.text.specs.Names.{commands, others, wordIn, wordOf, isCommand, spelt};
 
 // How long a name is, and its bytes with spaces after them.
 pub(crate) struct Spelling(pub(crate) usize, pub(crate) [u8; 18]);
@@ -37,10 +37,11 @@ fn command(tag: u8) -> Spelling
     }
 }
 
-fn question(tag: u8) -> Spelling
-    ensures { λ r. ⌜ r ≡ spelt (wordIn questions tag) ⌝ }
+fn other(tag: u8) -> Spelling
+    ensures { λ r. ⌜ r ≡ spelt (wordIn others tag) ⌝ }
 {
     match tag {
+        0x10 => Spelling(7, *b"edition           "),
         0x61 => Spelling(17, *b"offers-by-invoice "),
         0x62 => Spelling(16, *b"offers-by-lender  "),
         0x63 => Spelling(16, *b"offers-by-status  "),
@@ -65,11 +66,11 @@ fn question(tag: u8) -> Spelling
     }
 }
 
-// Whether a tag stands below the questions'.
+// Whether a tag stands between the edition's and the questions'.
 pub(crate) fn is_command(tag: u8) -> bool
     ensures { λ r. ⌜ r ≡ isCommand tag ⌝ }
 {
-    tag < 0x60
+    (0x20 <= tag) & (tag < 0x60)
 }
 
 // The name of a tag. None: no line has this tag.
@@ -79,5 +80,5 @@ pub(crate) fn word(tag: u8) -> Spelling
     if is_command(tag) {
         return command(tag);
     }
-    question(tag)
+    other(tag)
 }

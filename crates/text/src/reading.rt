@@ -6,6 +6,7 @@ ghost use mathlib.Core.Path.{_≡_};
 ghost use Prim.Native.Nat.{_+_, _≤_, _<_};
 ghost use lib.ListN.{length, getD, take, drop};
 ghost use Rattle.text.specs.Walk.{fault};
+ghost use Rattle.text.specs.Title.{isLater, untitled, titleIn};
 ghost use Rattle.text.specs.Reading.{leads, isNamed, tagIn, isDigit, noNumeral, checked, naturalIn, numeralIn, spacedIn, readIn, lineIn, numbersFor, lineFor};
 
 // A number and how many bytes it takes; or that none stands there.
@@ -206,17 +207,17 @@ fn no_line() -> Line
     }
 }
 
-// The line at a place, of a tag from one to below another.
-pub fn line_at(s: &[u8], at: usize, first: u8, past: u8) -> Line
+// The line at a place of a text of an edition, of a tag from one to below another.
+pub fn line_at(edition: u32, s: &[u8], at: usize, first: u8, past: u8) -> Line
     requires { ⌜ at ≤ length (now s) ⌝ }
-    ensures { λ r. ⌜ r ≡ lineFor (lineIn first past (drop at (now (s .entry))) at) ⌝ }
+    ensures { λ r. ⌜ r ≡ lineFor (lineIn edition first past (drop at (now (s .entry))) at) ⌝ }
 {
     let tag = tag_at(s, at, first, past);
     if tag == 0 {
         return no_line();
     }
     let word = names::word(tag);
-    let row = fields::listed(tag);
+    let row = fields::listed(edition, tag);
     let tags = row.1;
     let x = numbers_at(s, at + word.0, row.0, tags);
     if !x.ok {
@@ -231,5 +232,53 @@ pub fn line_at(s: &[u8], at: usize, first: u8, past: u8) -> Line
         tag,
         values,
         next: x.next + 1,
+    }
+}
+
+// The edition of a text, how many lines name it, and the place past them.
+pub(crate) struct Title {
+    pub(crate) edition: u32,
+    pub(crate) lines: usize,
+    pub(crate) next: usize,
+}
+
+// Whether a number is that of an edition past the first.
+pub(crate) fn is_later(n: u64) -> bool
+    ensures { λ r. ⌜ r ≡ isLater n ⌝ }
+{
+    if 65535 < n {
+        return false;
+    }
+    let e = n as u32;
+    (edition::FIRST < e) & edition::is_listed(e)
+}
+
+fn no_title() -> Title
+    ensures { λ r. ⌜ r ≡ untitled ⌝ }
+{
+    Title {
+        edition: edition::FIRST,
+        lines: 0,
+        next: 0,
+    }
+}
+
+// The edition that a text's first line names, or the first.
+pub(crate) fn title_of(s: &[u8]) -> Title
+    ensures { λ r. ⌜ r ≡ titleIn (now (s .entry)) ⌝ }
+{
+    let x = line_at(edition::FIRST, s, 0, 0x10, 0x11);
+    if !x.ok {
+        return no_title();
+    }
+    let values = x.values;
+    let n = values[0];
+    if !is_later(n) {
+        return no_title();
+    }
+    Title {
+        edition: n as u32,
+        lines: 1,
+        next: x.next,
     }
 }

@@ -1,6 +1,7 @@
 // From a command's tag and numbers to its line.
 use crate::fields;
 use crate::names;
+use crate::reading;
 use sheet::Pen;
 ghost use mathlib.Core.Path.{_≡_};
 ghost use mathlib.Core.List.{_++_};
@@ -9,6 +10,7 @@ ghost use lib.ListN.{take};
 ghost use Rattle.sheet.specs.Sheet.{Wrote};
 ghost use Rattle.sheet.specs.Decimal.{space};
 ghost use Rattle.text.specs.Line.{isSigned, signedOf, numeralOf, numeralsOf, lineOf};
+ghost use Rattle.text.specs.Title.{titleOf};
 
 // Whether a field holds a two's complement.
 pub(crate) fn signed(f: u8) -> bool
@@ -63,15 +65,34 @@ fn put_numerals(
     p
 }
 
-pub(crate) fn put_line(out: &mut [u8], pen: Pen, ink: bool, tag: u8, numbers: [u64; 9]) -> Pen
-    ensures { λ r. ⌜ Wrote ink (lineOf (tag, numbers)) (now (out .entry)) pen (now (out .exit)) r ⌝ }
+pub(crate) fn put_line(
+    out: &mut [u8],
+    pen: Pen,
+    ink: bool,
+    edition: u32,
+    tag: u8,
+    numbers: [u64; 9],
+) -> Pen
+    ensures { λ r. ⌜ Wrote ink (lineOf edition (tag, numbers)) (now (out .entry)) pen (now (out .exit)) r ⌝ }
 {
     let word = names::word(tag);
     let size = word.0;
     let name = word.1;
     let put = sheet::put(out, pen, ink, &name[..size]);
-    let row = fields::listed(tag);
+    let row = fields::listed(edition, tag);
     let tags = row.1;
     let q = put_numerals(out, put, ink, row.0, tags, numbers);
     sheet::put(out, q, ink, b"\n")
+}
+
+// The line that names an edition past the first.
+pub(crate) fn put_title(out: &mut [u8], pen: Pen, ink: bool, edition: u32) -> Pen
+    ensures { λ r. ⌜ Wrote ink (titleOf edition) (now (out .entry)) pen (now (out .exit)) r ⌝ }
+{
+    let n = edition as u64;
+    if !reading::is_later(n) {
+        return pen;
+    }
+    let numbers = [n, 0, 0, 0, 0, 0, 0, 0, 0];
+    put_line(out, pen, ink, edition::FIRST, 0x10, numbers)
 }

@@ -1,5 +1,5 @@
-//! A bounded comparison: books of generated commands, then damaged journals of the same, and the
-//! fixed sample.
+//! A bounded comparison in one edition: books of generated commands, then damaged journals of the
+//! same, and the fixed sample.
 
 use std::time::{Duration, Instant};
 
@@ -12,11 +12,12 @@ use crate::damage::{answers_differ, damaged, listings_differ, other_tags};
 use crate::generate::{Generator, Plan};
 use crate::given::given;
 use crate::pair::{Pair, Start};
+use crate::reference::read_as;
 use crate::shrink::{shrink, Failure};
 use crate::vectors::samples;
 
-#[derive(Default)]
 pub struct Report {
+    pub edition: u64,
     pub samples: u64,
     pub questions: u64,
     pub commands: u64,
@@ -29,6 +30,24 @@ pub struct Report {
     pub coverage: Coverage,
 }
 
+impl Report {
+    fn of(edition: u64) -> Report {
+        Report {
+            edition,
+            samples: 0,
+            questions: 0,
+            commands: 0,
+            books: 0,
+            given_books: 0,
+            queries: 0,
+            wide_quotients: 0,
+            damaged: 0,
+            time: Duration::ZERO,
+            coverage: Coverage::of(edition),
+        }
+    }
+}
+
 pub enum Found {
     /// The smallest run that shows the difference.
     Run(Failure),
@@ -36,10 +55,15 @@ pub enum Found {
     Bytes(Vec<u8>, String, String),
 }
 
-/// Compares so many commands from this seed. The first difference ends it.
-pub fn compare(other: &mut dyn Side, seed: u64, commands: u64) -> (Report, Option<Found>) {
+/// Compares so many commands of an edition from this seed. The first difference ends it.
+pub fn compare(
+    other: &mut dyn Side,
+    edition: u64,
+    seed: u64,
+    commands: u64,
+) -> (Report, Option<Found>) {
     let began = Instant::now();
-    let mut report = Report::default();
+    let mut report = Report::of(edition);
     let mut found = None;
     while found.is_none() && report.commands < commands {
         let mut chance = Chance::new(seed.wrapping_mul(0x9E37_79B9).wrapping_add(report.books));
@@ -53,10 +77,11 @@ pub fn compare(other: &mut dyn Side, seed: u64, commands: u64) -> (Report, Optio
     (report, found)
 }
 
-/// The listings of the fixed sample, the longest journal that the program holds among them, and the
-/// answers to its questions.
+/// The listings of the fixed sample's journals of the edition, the longest journal that the program
+/// holds among those of the first, and the answers to their questions.
 fn compare_samples(other: &mut dyn Side, report: &mut Report) -> Option<Found> {
-    for sample in samples() {
+    let edition = report.edition;
+    for sample in samples().into_iter().filter(|sample| read_as(&sample.bytes) == edition) {
         report.samples += 1;
         report.questions += sample.questions.lines().count() as u64;
         let listings = listings_differ(other, &sample.bytes);
@@ -73,7 +98,9 @@ fn compare_book(
     most: u64,
     report: &mut Report,
 ) -> Option<Found> {
-    let start = if chance.percent(25) { Start::Rows(given(chance)) } else { Start::Fresh };
+    let edition = report.edition;
+    let rows = chance.percent(25);
+    let start = if rows { Start::Rows(given(edition, chance)) } else { Start::Fresh(edition) };
     report.given_books += u64::from(matches!(start, Start::Rows(_)));
     let plan = Plan::new(chance);
     let length = plan.length.min(most);
@@ -102,10 +129,10 @@ fn run(
         commands.push(command);
         let before = pair.book.clone();
         match pair.step(&command) {
-            Ok(verdict) => {
-                report.coverage.add(&command, &verdict);
+            Ok(answer) => {
+                report.coverage.add(&command, &answer);
                 let books = [&before, &pair.book];
-                report.coverage.add_paths(&command, verdict.number, time_before, books);
+                report.coverage.add_paths(&command, answer.number, time_before, books);
             }
             Err(difference) => what = Some(difference),
         }
@@ -123,8 +150,9 @@ fn compare_damaged(
     report: &mut Report,
 ) -> Option<Found> {
     let some = &commands[..commands.len().min(chance.within(1, 30) as usize)];
-    let mut journals: Vec<_> = (0..12).map(|_| damaged(chance, some)).collect();
-    some.first().into_iter().for_each(|command| journals.extend(other_tags(command)));
+    let edition = report.edition;
+    let mut journals: Vec<_> = (0..12).map(|_| damaged(chance, edition, some)).collect();
+    some.first().into_iter().for_each(|command| journals.extend(other_tags(edition, command)));
     for bytes in journals {
         report.damaged += 1;
         if let Some((one, two)) = listings_differ(other, &bytes) {

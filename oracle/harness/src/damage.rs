@@ -1,33 +1,31 @@
-//! Damaged journals: the layer's reading by table against the plain reading of the format.
+//! Damaged journals: the reading by table or the plain reading of the format against another side's.
 
-use journal::{field, journal, Command, HEADER, KINDS, NARROW};
-use layer::Original;
+use journal::{field, header, journal, kinds, Command, HEADER_SIZE, NARROW};
 use side::Side;
 
 use crate::chance::Chance;
+use crate::reference;
 use crate::vectors::Sample;
 
 /// The listings of both sides for these bytes, if they differ.
 pub fn listings_differ(other: &mut dyn Side, bytes: &[u8]) -> Option<(String, String)> {
-    let one = Original::default().listing(bytes);
-    let two = other.listing(bytes);
-    let text = |listing: Vec<u8>| String::from_utf8_lossy(&listing).into_owned();
-    (one != two).then(|| (text(one), text(two)))
+    let (one, two) = (reference::listing(bytes), other.listing(bytes));
+    (one.as_bytes() != two).then(|| (one, String::from_utf8_lossy(&two).into_owned()))
 }
 
 /// The answers of both sides to a sample's questions, if they differ.
 pub fn answers_differ(other: &mut dyn Side, sample: &Sample) -> Option<(String, String)> {
-    let one = Original::default().answers(&sample.bytes, &sample.questions);
+    let one = reference::answers(&sample.bytes, &sample.questions);
     let two = other.answers(&sample.bytes, &sample.questions);
     let text = |answers: Result<String, String>| answers.unwrap_or_else(|fault| fault + "\n");
     (one != two).then(|| (text(one), text(two)))
 }
 
 /// A journal of these commands with one or two things wrong.
-pub fn damaged(chance: &mut Chance, commands: &[Command]) -> Vec<u8> {
+pub fn damaged(chance: &mut Chance, edition: u64, commands: &[Command]) -> Vec<u8> {
     let mut bytes = match chance.below(3) {
-        0 => wrong_fields(chance, commands),
-        _ => journal(commands),
+        0 => wrong_fields(chance, edition, commands),
+        _ => journal(edition, commands),
     };
     for _ in 0..chance.below(3) {
         wound(chance, &mut bytes);
@@ -48,29 +46,29 @@ fn wound(chance: &mut Chance, bytes: &mut Vec<u8>) {
         3 => bytes.push(chance.pick(&[0, 0x21, 0x10, 0xFF])),
         4 => bytes[at] = bytes[at].wrapping_add(1),
         5 => bytes[at] ^= 1 << chance.below(8),
-        6 => bytes[chance.below(length.min(HEADER.len() as u64)) as usize] ^= 1,
+        6 => bytes[chance.below(length.min(HEADER_SIZE as u64)) as usize] ^= 1,
         _ => bytes[at] = chance.number() as u8,
     }
 }
 
 /// One record written with a field missing, twice, out of order, too long, too great or unknown.
-fn wrong_fields(chance: &mut Chance, commands: &[Command]) -> Vec<u8> {
-    let mut bytes = HEADER.to_vec();
+fn wrong_fields(chance: &mut Chance, edition: u64, commands: &[Command]) -> Vec<u8> {
+    let mut bytes = header(edition).to_vec();
     let wrong = chance.below(commands.len() as u64 + 1) as usize;
     for (index, command) in commands.iter().enumerate() {
         if index == wrong {
-            wrong_record(chance, command, &mut bytes);
+            wrong_record(chance, edition, command, &mut bytes);
         } else {
-            journal::write(command, &mut bytes);
+            journal::write(edition, command, &mut bytes);
         }
     }
     bytes
 }
 
-fn wrong_record(chance: &mut Chance, command: &Command, out: &mut Vec<u8>) {
+fn wrong_record(chance: &mut Chance, edition: u64, command: &Command, out: &mut Vec<u8>) {
     let (mut tag, numbers) = command.numbers();
-    let listed = command.kind().fields.iter();
-    let mut fields: Vec<_> = listed.map(|tag| (*tag, numbers[*tag as usize])).collect();
+    let listed = command.kind().fields(edition).into_iter();
+    let mut fields: Vec<_> = listed.map(|tag| (tag, numbers[tag as usize])).collect();
     let at = chance.below(fields.len() as u64) as usize;
     let mut width = 8;
     match chance.below(8) {
@@ -99,10 +97,10 @@ fn too_great(chance: &mut Chance, fields: &mut [(u8, u64)]) {
 }
 
 /// The same fields under each tag in turn: at most one is theirs.
-pub fn other_tags(command: &Command) -> Vec<Vec<u8>> {
-    let mut record = Vec::new();
-    journal::write(command, &mut record);
-    let tags = KINDS.iter().map(|kind| kind.tag);
-    let retagged = tags.map(|tag| [HEADER.as_slice(), &[tag], &record[1..]].concat());
+pub fn other_tags(edition: u64, command: &Command) -> Vec<Vec<u8>> {
+    let (header, mut record) = (header(edition), Vec::new());
+    journal::write(edition, command, &mut record);
+    let tags = kinds(edition).map(|kind| kind.tag);
+    let retagged = tags.map(|tag| [header.as_slice(), &[tag], &record[1..]].concat());
     retagged.collect()
 }

@@ -1,6 +1,7 @@
 //! Sound books that no journal makes: figures at the ends of their ranges, rows that do not fit
 //! each other. Every account that they name is opened, as the comparison's domain asks.
 
+use plain::edition::most_rounds;
 use side::{Account, Book, Invoice, Offer, Round, Schedule, Totals};
 
 use crate::chance::Chance;
@@ -9,7 +10,7 @@ const TRILLION: u64 = 1_000_000_000_000;
 const MOST_HELD: u64 = 4_000_000_000_000_000;
 const MOST_COUNTED: u64 = 1_000_000;
 
-pub fn given(chance: &mut Chance) -> Book {
+pub fn given(edition: u64, chance: &mut Chance) -> Book {
     let many = chance.percent(5);
     let rows = |chance: &mut Chance| chance.within(0, if many { 64 } else { 6 }) as usize;
     let accounts = ids(chance, if many { 64 } else { 4 });
@@ -17,7 +18,9 @@ pub fn given(chance: &mut Chance) -> Book {
     let (invoices, offers) = (ids(chance, invoices), ids(chance, offers));
     let next = 1 << chance.below(32) | 1 << chance.below(32) | 1;
     let seats = u64::count_ones(next).into();
+    let rounds = most_rounds(edition) as u64;
     Book {
+        edition,
         paused: chance.percent(5),
         window: chance.pick(&[3_600, 604_800, 2_592_000]),
         seats: next,
@@ -31,7 +34,7 @@ pub fn given(chance: &mut Chance) -> Book {
         },
         accounts: accounts.iter().map(|id| account(chance, *id)).collect(),
         invoices: invoices.iter().map(|id| invoice(chance, *id, &accounts)).collect(),
-        offers: offers.iter().map(|id| offer(chance, *id, &accounts, &invoices)).collect(),
+        offers: offers.iter().map(|id| offer(chance, *id, &accounts, &invoices, rounds)).collect(),
     }
 }
 
@@ -104,11 +107,11 @@ fn time(chance: &mut Chance) -> u64 {
     }
 }
 
-fn offer(chance: &mut Chance, id: u64, accounts: &[u64], invoices: &[u64]) -> Offer {
+fn offer(chance: &mut Chance, id: u64, accounts: &[u64], invoices: &[u64], most: u64) -> Offer {
     let absent = invoices.is_empty() || chance.percent(20);
     let rounds = match chance.below(4) {
         0 => 0,
-        1 => chance.within(10, 12),
+        1 => chance.within(most - 2, most),
         _ => chance.within(1, 4),
     };
     Offer {
@@ -160,8 +163,10 @@ mod test {
     #[test]
     fn given_books_are_sound() {
         let mut chance = Chance::new(7);
-        for _ in 0..2_000 {
-            assert!(plain::sound(&given(&mut chance)));
+        for edition in 1..=journal::LATEST {
+            for _ in 0..2_000 {
+                assert!(plain::sound(&given(edition, &mut chance)));
+            }
         }
     }
 }

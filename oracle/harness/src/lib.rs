@@ -1,4 +1,4 @@
-//! The comparison of the original with another side of the book.
+//! The comparison of a side of the book with the original, in later editions with the plain model.
 
 pub mod chance;
 pub mod compare;
@@ -8,6 +8,7 @@ pub mod generate;
 pub mod given;
 pub mod pair;
 pub mod questions;
+pub mod reference;
 pub mod script;
 pub mod shrink;
 pub mod vectors;

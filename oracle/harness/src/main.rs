@@ -3,35 +3,38 @@
 use std::process::ExitCode;
 
 use harness::compare::{compare, Found, Report};
+use harness::reference::Reference;
 use harness::shrink::show;
-use layer::Original;
 use plain::{Plain, Slip, SLIPS};
 use port::Port;
 use side::Side;
 
 const USAGE: &str = "usage:
-  harness compare [--side plain] [--seed S] [--commands N] [--slip K]
-      runs N commands (200000) from seed S (1) on the original and on the proved book, which the
-      command in the variable SOLGAVERNA_BRIDGE serves, and compares after each the answer, the
-      whole book and queries; on the plain model where that is asked for. K from 1 to 5 plants a
-      slip in the plain model, which must then be found
-  harness replay FILE
-      prints the original's listing of a journal
+  harness compare [--edition E] [--side plain] [--seed S] [--commands N] [--slip K]
+      runs N commands (200000) of edition E (1) from seed S (1) on the original, in a later edition
+      on the plain model, and on the proved book, which the command in the variable
+      SOLGAVERNA_BRIDGE serves, and compares after each the answer, the whole book and queries;
+      with --side plain on the plain model in its place. K from 1 to 7 plants a slip in that, by
+      default in the first edition in which it shows, which must then be found
+  harness editions
+      prints the editions, a line each
+  harness replay [--side plain] FILE
+      prints the original's listing of a journal, of one of a later edition the plain model's
   harness answer [--side plain] JOURNAL QUESTIONS
-      prints the original's answers to questions, or the plain model's, as the program ask does
+      prints the answers of the same to questions, as the program ask does
   harness vectors [--check] DIR
-      writes the sample of journals with the original's listings, or tests what is there";
+      writes the sample of journals with their listings, or tests what is there";
 
 fn main() -> ExitCode {
     let words: Vec<_> = std::env::args().skip(1).collect();
     let words: Vec<_> = words.iter().map(String::as_str).collect();
     let done = match words.as_slice() {
         ["compare", options @ ..] => compare_command(options),
-        ["replay", file] => replay(file),
-        ["answer", "--side", "plain", journal, questions] => {
-            answer(&mut Plain::default(), journal, questions)
-        }
-        ["answer", journal, questions] => answer(&mut Original::default(), journal, questions),
+        ["editions"] => editions(),
+        ["replay", "--side", "plain", file] => replay(file, true),
+        ["replay", file] => replay(file, false),
+        ["answer", "--side", "plain", journal, questions] => answer(journal, questions, true),
+        ["answer", journal, questions] => answer(journal, questions, false),
         ["vectors", "--check", folder] => harness::vectors::check_folder(folder),
         ["vectors", folder] => harness::vectors::write(folder),
         _ => Err(USAGE.to_string()),
@@ -49,15 +52,31 @@ fn contents(file: &str) -> Result<Vec<u8>, String> {
     std::fs::read(file).map_err(|error| format!("{file}: {error}"))
 }
 
-fn replay(file: &str) -> Result<(), String> {
-    print!("{}", Original::default().replay(&contents(file)?));
+fn editions() -> Result<(), String> {
+    (1..=journal::LATEST).for_each(|edition| println!("{edition}"));
     Ok(())
 }
 
-fn answer(side: &mut dyn Side, journal: &str, questions: &str) -> Result<(), String> {
+fn reader(journal: &[u8], plain: bool) -> Reference {
+    if plain {
+        Reference::Plain(Box::default())
+    } else {
+        Reference::of_journal(journal)
+    }
+}
+
+fn replay(file: &str, plain: bool) -> Result<(), String> {
+    let bytes = contents(file)?;
+    let listing = reader(&bytes, plain).side().listing(&bytes);
+    print!("{}", String::from_utf8_lossy(&listing));
+    Ok(())
+}
+
+fn answer(journal: &str, questions: &str, plain: bool) -> Result<(), String> {
     let text = String::from_utf8(contents(questions)?);
     let text = text.map_err(|error| format!("{questions}: {error}"))?;
-    print!("{}", side.answers(&contents(journal)?, &text)?);
+    let bytes = contents(journal)?;
+    print!("{}", reader(&bytes, plain).side().answers(&bytes, &text)?);
     Ok(())
 }
 
@@ -66,6 +85,7 @@ const COVERING: u64 = 200_000;
 
 /// What `compare` is asked to do.
 struct Asked {
+    edition: u64,
     plain: bool,
     seed: u64,
     commands: u64,
@@ -73,24 +93,33 @@ struct Asked {
 }
 
 fn asked(options: &[&str]) -> Result<Asked, String> {
-    let mut asked = Asked { plain: false, seed: 1, commands: COVERING, slip: None };
+    let mut asked = Asked { edition: 1, plain: false, seed: 1, commands: COVERING, slip: None };
+    let mut edition = None;
     for option in options.chunks(2) {
         let [name, value] = option else { return Err(USAGE.to_string()) };
         let number = || value.parse::<u64>().map_err(|_| USAGE.to_string());
         match *name {
+            "--edition" => edition = Some(number()?),
             "--side" if *value == "plain" => asked.plain = true,
             "--seed" => asked.seed = number()?,
             "--commands" => asked.commands = number()?,
-            "--slip" => asked.slip = slip(number()?)?,
+            "--slip" => {
+                let (slip, first) = slip(number()?)?;
+                (asked.slip, asked.edition) = (Some(slip), first);
+            }
             _ => return Err(USAGE.to_string()),
         }
     }
-    Ok(asked)
+    asked.edition = edition.unwrap_or(asked.edition);
+    match plain::edition::is_listed(asked.edition) {
+        true => Ok(asked),
+        false => Err(USAGE.to_string()),
+    }
 }
 
-fn slip(number: u64) -> Result<Option<Slip>, String> {
-    let Some(index) = (number as usize).checked_sub(1) else { return Ok(None) };
-    SLIPS.get(index).map(|slip| Some(*slip)).ok_or(USAGE.to_string())
+fn slip(number: u64) -> Result<(Slip, u64), String> {
+    let slip = (number as usize).checked_sub(1).and_then(|index| SLIPS.get(index));
+    slip.copied().ok_or(USAGE.to_string())
 }
 
 fn other_side(asked: &Asked) -> Result<Box<dyn Side>, String> {
@@ -110,7 +139,7 @@ fn other_side(asked: &Asked) -> Result<Box<dyn Side>, String> {
 fn compare_command(options: &[&str]) -> Result<(), String> {
     let asked = asked(options)?;
     let mut other = other_side(&asked)?;
-    let (report, found) = compare(&mut *other, asked.seed, asked.commands);
+    let (report, found) = compare(&mut *other, asked.edition, asked.seed, asked.commands);
     print_report(&report, asked.seed, other.name());
     match (found, asked.slip) {
         (Some(found), None) => Err(told(&mut *other, found)),
@@ -129,16 +158,18 @@ fn told(other: &mut dyn Side, found: Found) -> String {
         Found::Run(failure) => show(other, &failure),
         Found::Bytes(bytes, one, two) => {
             let digits: String = bytes.iter().map(|byte| format!("{byte:02x}")).collect();
-            let name = other.name();
-            format!("a journal is read differently: {digits}\nthe original:\n{one}{name}:\n{two}")
+            let (first, second) = (Reference::of_journal(&bytes).side().name(), other.name());
+            format!("a journal is read differently: {digits}\n{first}:\n{one}{second}:\n{two}")
         }
     }
 }
 
 fn print_report(report: &Report, seed: u64, name: &str) {
     println!(
-        "{} commands compared with {name}, seed {seed}: {} journals of the sample with {} questions, {} books, {} of them from given rows, {} queries, {} damaged journals, {:.1} s",
+        "{} commands of edition {}, {} beside {name}, seed {seed}: {} journals of the sample with {} questions, {} books, {} of them from given rows, {} queries, {} damaged journals, {:.1} s",
         report.commands,
+        report.edition,
+        Reference::of(report.edition).side().name(),
         report.samples,
         report.questions,
         report.books,
@@ -150,15 +181,19 @@ fn print_report(report: &Report, seed: u64, name: &str) {
 }
 
 fn covered(report: &Report, commands: u64) -> Result<(), String> {
-    println!("\n{}", report.coverage.table());
-    println!("{}", report.coverage.sources());
-    println!("{}", report.coverage.paths());
-    println!("{}", report.coverage.lines_met());
-    println!(
-        "listed difference met: a paid quotient of 2^32 or more, {} times",
-        report.wide_quotients
-    );
     let coverage = &report.coverage;
+    println!("\n{}", coverage.table());
+    if coverage.of_original() {
+        println!("{}", coverage.sources());
+    }
+    println!("{}", coverage.paths());
+    if coverage.of_original() {
+        println!("{}", coverage.lines_met());
+        println!(
+            "listed difference met: a paid quotient of 2^32 or more, {} times",
+            report.wide_quotients
+        );
+    }
     let gaps = [coverage.unexpected(), coverage.unmet_lines(), coverage.unwalked()].concat();
     if gaps.is_empty() || commands < COVERING {
         println!("no difference");

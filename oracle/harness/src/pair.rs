@@ -1,16 +1,25 @@
 //! Both sides in step: the same record to each, then everything compared.
 
 use journal::Command;
-use layer::{Original, Verdict};
 use side::{Book, Offer, Query, Reply, Side};
 
 use crate::questions::questions;
+use crate::reference::{Answer, Reference};
 
-/// Where a run starts: a fresh book, or given rows.
+/// Where a run starts: a fresh book of an edition, or given rows.
 #[derive(Clone, Debug)]
 pub enum Start {
-    Fresh,
+    Fresh(u64),
     Rows(Book),
+}
+
+impl Start {
+    pub fn edition(&self) -> u64 {
+        match self {
+            Start::Fresh(edition) => *edition,
+            Start::Rows(book) => book.edition,
+        }
+    }
 }
 
 /// The only difference that is listed for answers and queries within the comparison's domain:
@@ -22,7 +31,7 @@ pub struct Met {
 }
 
 pub struct Pair<'a> {
-    pub original: Original,
+    reference: Reference,
     other: &'a mut dyn Side,
     pub book: Book,
     pub met: Met,
@@ -48,55 +57,55 @@ const MOST_NUMBERS: usize = 640;
 
 impl<'a> Pair<'a> {
     pub fn start(other: &'a mut dyn Side, start: &Start) -> Pair<'a> {
-        let mut original = Original::default();
-        let mut flat = Vec::new();
+        let mut reference = Reference::of(start.edition());
         match start {
-            Start::Fresh => {
-                other.reset();
-                Book::fresh().flat(&mut flat);
-            }
+            Start::Fresh(edition) => other.reset(*edition),
             Start::Rows(book) => {
+                let mut flat = Vec::new();
                 book.flat(&mut flat);
-                original.load(&flat);
+                reference.side().load(&flat);
                 other.load(&flat);
             }
         }
-        let book = Book::of_flat(&flat).expect("the flat form of a book");
+        let book = reference.book();
         let (met, room) = (Met::default(), Room::default());
         let one_in = other.one_in();
-        Pair { original, other, book, met, turn: 0, one_in, room }
+        Pair { reference, other, book, met, turn: 0, one_in, room }
+    }
+
+    /// The names of both sides.
+    pub fn names(&mut self) -> [&'static str; 2] {
+        [self.reference.side().name(), self.other.name()]
     }
 
     /// Applies one command to both sides; `Err` says how they differ.
-    pub fn step(&mut self, command: &Command) -> Result<Verdict, String> {
+    pub fn step(&mut self, command: &Command) -> Result<Answer, String> {
         self.room.record.clear();
-        journal::write(command, &mut self.room.record);
-        let verdict = self.original.run(command);
-        let answer = self.other.apply(&self.room.record);
-        if answer != verdict.number {
-            return Err(format!(
-                "the original answers {} ({:?}, its line {}), {} answers {answer}",
-                verdict.number,
-                verdict.source,
-                verdict.line,
-                self.other.name()
-            ));
+        journal::write(self.book.edition, command, &mut self.room.record);
+        let answer = self.reference.run(command);
+        let other = self.other.apply(&self.room.record);
+        if other != answer.number {
+            let [one, two] = self.names();
+            return Err(format!("{one} answers {answer}, {two} answers {other}"));
         }
         self.compare_books()?;
         self.compare_queries(command.now())?;
         self.turn += 1;
-        Ok(verdict)
+        Ok(answer)
     }
 
     /// Compares the whole state as it stands, before the first command too.
     pub fn compare_books(&mut self) -> Result<(), String> {
+        let names = self.names();
         let Room { first, second, .. } = &mut self.room;
-        self.original.dump(first);
+        self.reference.side().dump(first);
         self.other.dump(second);
-        let book = Book::of_flat(first).ok_or("the original's dump shows no book")?;
+        let Some(book) = Book::of_flat(first) else {
+            return Err(format!("{}'s dump shows no book", names[0]));
+        };
         if first != second {
             let other = Book::of_flat(second);
-            return Err(books_differ(&book, other.as_ref(), self.other.name()));
+            return Err(books_differ(&book, other.as_ref(), names));
         }
         if !plain::sound(&book) {
             return Err("the book is not sound".to_string());
@@ -120,10 +129,11 @@ impl<'a> Pair<'a> {
     }
 
     fn compare_query(&mut self, query: Query) -> Result<(), String> {
+        let names = self.names();
         let Room { first, second, .. } = &mut self.room;
         first.clear();
         first.resize(MOST_NUMBERS, UNTOUCHED);
-        let reply = self.original.ask(query, first);
+        let reply = self.reference.side().ask(query, first);
         first.truncate(reply.written);
         second.clear();
         second.resize(reply.written + 2, UNTOUCHED);
@@ -134,12 +144,11 @@ impl<'a> Pair<'a> {
             first[0] = 0;
         }
         if reply != other || first != second {
-            let name = self.other.name();
             let (one, two) = (shown(reply, first), shown(other, second));
-            return Err(format!("{query:?}: the original answers {one}, {name} {two}"));
+            return Err(format!("{query:?}: {} answers {one}, {} {two}", names[0], names[1]));
         }
         if past != [UNTOUCHED; 2] {
-            return Err(format!("{query:?}: {} writes past the answer", self.other.name()));
+            return Err(format!("{query:?}: {} writes past the answer", names[1]));
         }
         self.compare_short(query, reply)
     }
@@ -181,9 +190,9 @@ pub fn wide_quotient(offer: &Offer) -> bool {
     offer.schedule.is_some_and(|schedule| offer.repaid / schedule.installment >= 1 << 32)
 }
 
-fn books_differ(original: &Book, other: Option<&Book>, name: &str) -> String {
-    let Some(other) = other else { return format!("{name}'s dump shows no book") };
-    let (one, two) = (format!("{original:#?}"), format!("{other:#?}"));
+fn books_differ(book: &Book, other: Option<&Book>, names: [&str; 2]) -> String {
+    let Some(other) = other else { return format!("{}'s dump shows no book", names[1]) };
+    let (one, two) = (format!("{book:#?}"), format!("{other:#?}"));
     let (one, two): (Vec<_>, Vec<_>) = (one.lines().collect(), two.lines().collect());
     let same = one.iter().zip(&two).take_while(|(one, two)| one == two).count();
     let shown = |lines: Vec<&str>| {
@@ -195,5 +204,5 @@ fn books_differ(original: &Book, other: Option<&Book>, name: &str) -> String {
             .fold(String::new(), |text, line| text + " " + line)
     };
     let (one, two) = (shown(one), shown(two));
-    format!("the books differ: the original has{one}, {name}{two}")
+    format!("the books differ: {} has{one}, {}{two}", names[0], names[1])
 }

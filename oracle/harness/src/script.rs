@@ -3,9 +3,10 @@
 //!
 //! A line is `NAME FIELD=NUMBER ... : ANSWER`, with the names of the journal crate; `for A B` before
 //! it repeats it with `%` standing for each number from A to B; `max` is 2^64−1; `use base` takes
-//! the lines of `base.txt`. Fields that are not written have the numbers of `USUAL`.
+//! the lines of `base.txt`. Fields that are not written have the numbers of `USUAL`. A script of a
+//! later edition than the first has a line `edition N`.
 
-use journal::{Command, Kind, Numbers, FIELDS, KINDS};
+use journal::{kinds, Command, Kind, Numbers, FIELDS, LATEST, TAGS};
 
 /// A command and its answer.
 pub type Step = (Command, u64);
@@ -14,6 +15,12 @@ const USUAL: [(&str, u64); 4] = [("now", 100), ("rate", 500), ("duration", 86_40
 
 const BASE: &str = include_str!("../scripts/base.txt");
 
+/// The edition of a script.
+pub fn edition(text: &str) -> u64 {
+    let line = text.lines().find_map(|line| line.strip_prefix("edition "));
+    line.map_or(1, |number| self::number(number, text))
+}
+
 /// The steps of a script. A script is part of this program, so a wrong line is a fault of it.
 pub fn steps(text: &str) -> Vec<Step> {
     let mut steps = Vec::new();
@@ -21,7 +28,7 @@ pub fn steps(text: &str) -> Vec<Step> {
         match line {
             "" => {}
             "use base" => steps.extend(self::steps(BASE)),
-            _ if line.starts_with('#') => {}
+            _ if line.starts_with('#') || line.starts_with("edition ") => {}
             _ => lines_of(line, &mut steps),
         }
     }
@@ -46,9 +53,9 @@ fn step(line: &str) -> Step {
     let (words, answer) = line.split_once(" : ").unwrap_or_else(|| panic!("no answer: {line}"));
     let mut words = words.split(' ');
     let name = words.next().unwrap_or("");
-    let kind = KINDS.iter().find(|kind| kind.name == name);
+    let kind = kinds(LATEST).find(|kind| kind.name == name);
     let kind = kind.unwrap_or_else(|| panic!("no command: {line}"));
-    let mut numbers: Numbers = [0; 0x13];
+    let mut numbers: Numbers = [0; TAGS];
     USUAL.iter().for_each(|(name, usual)| numbers[tag_of(name, line)] = *usual);
     words.for_each(|word| put(word, kind, line, &mut numbers));
     let command = Command::of_numbers(kind.tag, &numbers).expect("a listed tag");
@@ -58,7 +65,7 @@ fn step(line: &str) -> Step {
 fn put(word: &str, kind: &Kind, line: &str, numbers: &mut Numbers) {
     let (name, text) = word.split_once('=').unwrap_or_else(|| panic!("no field: {line}"));
     let tag = tag_of(name, line);
-    assert!(kind.fields.contains(&(tag as u8)), "not a field of the command: {line}");
+    assert!(kind.fields(LATEST).contains(&(tag as u8)), "not a field of the command: {line}");
     numbers[tag] = number(text, line);
 }
 

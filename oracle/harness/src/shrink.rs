@@ -1,6 +1,6 @@
 //! Cutting a failing run down to the smallest journal that still fails.
 
-use journal::{listed, Command, Numbers};
+use journal::{Command, Numbers, TAGS};
 use side::{Book, Side};
 
 use crate::pair::{Pair, Start};
@@ -67,8 +67,8 @@ fn take(
 
 fn start_fresh(other: &mut dyn Side, into: &mut Failure) {
     if matches!(into.start, Start::Rows(_)) {
-        let commands = into.commands.clone();
-        take(other, into, Start::Fresh, commands);
+        let (edition, commands) = (into.start.edition(), into.commands.clone());
+        take(other, into, Start::Fresh(edition), commands);
     }
 }
 
@@ -133,7 +133,7 @@ fn rename(other: &mut dyn Side, into: &mut Failure) {
             replace(other, into, &NAMES, great, small);
         }
     }
-    for field in 0x01..0x13 {
+    for field in 0x01..TAGS {
         for great in numbers_in(into, &[field]) {
             let rounds = [0, 1, 2, 3, 10, 100, 86_400, 86_401];
             let smaller = rounds.into_iter().filter(|number| *number < great);
@@ -230,12 +230,9 @@ fn drop_rounds(book: &mut Book, index: usize) -> bool {
 /// Tries smaller numbers in every field.
 fn simplify(other: &mut dyn Side, into: &mut Failure) {
     for index in 0..into.commands.len() {
-        let fields = match into.commands.get(index) {
-            Some(command) => listed(command.numbers().0).expect("a command's tag").fields,
-            None => return,
-        };
-        for field in fields {
-            simplify_field(other, into, index, *field);
+        let Some(command) = into.commands.get(index) else { return };
+        for field in command.kind().fields(into.start.edition()) {
+            simplify_field(other, into, index, field);
         }
     }
 }
@@ -279,16 +276,16 @@ pub fn show(other: &mut dyn Side, failure: &Failure) -> String {
     if let Start::Rows(book) = &failure.start {
         out += &format!("from given rows: {book:#?}\n");
     }
-    let name = other.name();
     let mut pair = Pair::start(other, &failure.start);
     for (number, command) in (1..).zip(&failure.commands) {
         let answers = match pair.step(command) {
-            Ok(verdict) => format!("both {}", verdict.number),
+            Ok(answer) => format!("both {}", answer.number),
             Err(what) => what,
         };
         out += &format!("{number:>4}  {command}\n      {answers}\n");
     }
-    let bytes = journal::journal(&failure.commands);
+    let [one, two] = pair.names();
+    let bytes = journal::journal(failure.start.edition(), &failure.commands);
     let digits: String = bytes.iter().map(|byte| format!("{byte:02x}")).collect();
-    out + &format!("the original and {name} differ: {}\njournal {digits}\n", failure.what)
+    out + &format!("{one} and {two} differ: {}\njournal {digits}\n", failure.what)
 }

@@ -48,7 +48,7 @@ fn the_session_is_answered_as_worked_out() {
     let questions = WORKED_OUT.map(|(question, _)| format!("{question}\n")).concat();
     let answers = WORKED_OUT.map(|(_, answer)| answer).concat();
     for mut side in sides() {
-        let given = side.answers(&journal(&session()), &questions);
+        let given = side.answers(&journal(1, &session()), &questions);
         assert_eq!(given.as_deref(), Ok(answers.as_str()), "{}", side.name());
     }
 }
@@ -56,9 +56,9 @@ fn the_session_is_answered_as_worked_out() {
 /// The record before a malformed one is the last: offer 20 is pending and has no rounds.
 #[test]
 fn a_malformed_record_ends_the_replay() {
-    let before = journal(&session()[..6]);
+    let before = journal(1, &session()[..6]);
     let mut after = Vec::new();
-    journal::write(&session()[6], &mut after);
+    journal::write(1, &session()[6], &mut after);
     for malformed in [[0x20, 0, 0].as_slice(), &after[..3], &[0x36], &[]] {
         let bytes = [before.as_slice(), malformed, if malformed.len() == 3 { &after } else { &[] }];
         for mut side in sides() {
@@ -99,7 +99,7 @@ fn a_line_that_is_no_question_is_named() {
     ];
     for line in lines {
         for mut side in sides() {
-            let given = side.answers(&journal(&[]), &format!("count\n{line}\n"));
+            let given = side.answers(&journal(1, &[]), &format!("count\n{line}\n"));
             assert_eq!(given, Err(format!("no question: {line}")), "{}", side.name());
         }
     }

@@ -25,7 +25,8 @@ struct Ported {
 impl Ported {
     fn start() -> Ported {
         let command = std::env::var(port::COMMAND).ok();
-        let proved = command.map(|command| Port::start(&command).expect("the program starts"));
+        let mut proved = command.map(|command| Port::start(&command).expect("the program starts"));
+        proved.iter_mut().for_each(|proved| proved.reset(layer::EDITION));
         Ported { plain: Plain::default(), proved }
     }
 
@@ -37,7 +38,7 @@ impl Ported {
     fn run(&mut self, command: &Command) -> u64 {
         let answer = self.plain.run(command);
         let mut record = Vec::new();
-        journal::write(command, &mut record);
+        journal::write(layer::EDITION, command, &mut record);
         self.proved.iter_mut().for_each(|proved| assert_eq!(proved.apply(&record), answer));
         answer
     }

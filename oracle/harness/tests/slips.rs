@@ -5,14 +5,14 @@ use plain::{Plain, Slip, SLIPS};
 
 #[test]
 fn every_planted_slip_is_found() {
-    for slip in SLIPS {
+    for (slip, edition) in SLIPS {
         let mut plain = Plain::with_slip(Some(slip));
-        let (_, found) = compare(&mut plain, 1, 20_000);
+        let (_, found) = compare(&mut plain, edition, 1, 20_000);
         let Some(Found::Run(failure)) = found else { panic!("{slip:?} is not found") };
         let most = match slip {
             Slip::AnyCounter | Slip::DefaultedActive => 7,
-            Slip::DeadlineMoves => 6,
-            Slip::RoundStays | Slip::WithdrawLowers => 5,
+            Slip::DeadlineMoves | Slip::AmountLate => 6,
+            Slip::RoundStays | Slip::WithdrawLowers | Slip::AmountReached => 5,
         };
         let length = failure.commands.len();
         assert!(length <= most, "{slip:?} is shown by {length} commands");
@@ -21,7 +21,9 @@ fn every_planted_slip_is_found() {
 
 #[test]
 fn a_short_comparison_finds_no_difference() {
-    let (report, found) = compare(&mut Plain::default(), 2, 5_000);
-    assert!(found.is_none());
-    assert_eq!(report.commands, 5_000);
+    for edition in 1..=journal::LATEST {
+        let (report, found) = compare(&mut Plain::default(), edition, 2, 5_000);
+        assert!(found.is_none());
+        assert_eq!(report.commands, 5_000);
+    }
 }

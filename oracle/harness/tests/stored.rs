@@ -4,9 +4,14 @@
 use std::fs;
 use std::path::{Path, PathBuf};
 
-use layer::Original;
-use plain::Plain;
-use side::Side;
+use harness::reference::Reference;
+
+/// Who reads a journal.
+type Reader = fn(&[u8]) -> Reference;
+
+fn plain(_: &[u8]) -> Reference {
+    Reference::Plain(Box::default())
+}
 
 /// The stored files of a folder that end so.
 fn stored(folder: &str, ending: &str) -> Vec<PathBuf> {
@@ -22,12 +27,12 @@ fn text(file: &Path) -> String {
 }
 
 /// The lines of answers in which a side differs: the stored one and its own.
-fn other_answers(side: &mut dyn Side, folder: &str) -> Vec<[String; 2]> {
+fn other_answers(reader: Reader, folder: &str) -> Vec<[String; 2]> {
     let mut others = Vec::new();
     for questions in stored(folder, "questions") {
         let journal = fs::read(questions.with_extension("journal")).unwrap();
         let answers = text(&questions.with_extension("answers"));
-        let given = side.answers(&journal, &text(&questions)).unwrap();
+        let given = reader(&journal).side().answers(&journal, &text(&questions)).unwrap();
         assert_eq!(given.lines().count(), answers.lines().count(), "{}", questions.display());
         let both = answers.lines().zip(given.lines()).filter(|(stored, given)| stored != given);
         others.extend(both.map(|(stored, given)| [stored.to_string(), given.to_string()]));
@@ -35,15 +40,16 @@ fn other_answers(side: &mut dyn Side, folder: &str) -> Vec<[String; 2]> {
     others
 }
 
-fn lists_as_stored(side: &mut dyn Side, folder: &str) {
+fn lists_as_stored(reader: Reader, folder: &str) {
     for journal in stored(folder, "journal") {
-        let listing = String::from_utf8(side.listing(&fs::read(&journal).unwrap())).unwrap();
+        let bytes = fs::read(&journal).unwrap();
+        let listing = String::from_utf8(reader(&bytes).side().listing(&bytes)).unwrap();
         assert_eq!(listing, text(&journal.with_extension("listing")), "{}", journal.display());
     }
 }
 
 #[test]
-fn the_sample_is_stored_as_the_original_gives_it() {
+fn the_sample_is_stored_as_it_is_answered() {
     let samples = harness::vectors::samples();
     assert_eq!(stored("vectors", "journal").len(), samples.len());
     let asked = samples.iter().filter(|sample| !sample.questions.is_empty());
@@ -55,16 +61,23 @@ fn the_sample_is_stored_as_the_original_gives_it() {
         let questions = fs::read_to_string(journal.with_extension("questions"));
         assert_eq!(questions.unwrap_or_default(), sample.questions, "{name}");
     }
-    lists_as_stored(&mut Original::default(), "vectors");
-    assert!(other_answers(&mut Original::default(), "vectors").is_empty());
+    lists_as_stored(Reference::of_journal, "vectors");
+    assert!(other_answers(Reference::of_journal, "vectors").is_empty());
+}
+
+#[test]
+fn an_independent_reading_gives_the_same() {
+    for edition in 1..=journal::LATEST {
+        let folder = format!("edition-{edition}");
+        lists_as_stored(plain, &folder);
+        assert!(other_answers(plain, &folder).is_empty());
+    }
 }
 
 /// The original's three other answers are a due with a paid quotient of 2^32, which it cuts to 0.
 #[test]
-fn an_independent_reading_gives_the_same() {
-    lists_as_stored(&mut Original::default(), "edition-1");
-    lists_as_stored(&mut Plain::default(), "edition-1");
-    assert!(other_answers(&mut Plain::default(), "edition-1").is_empty());
+fn an_independent_reading_gives_the_same_as_the_original() {
+    lists_as_stored(Reference::of_journal, "edition-1");
     let cut = ["0 0".to_string(), "0 1".to_string()];
-    assert_eq!(other_answers(&mut Original::default(), "edition-1"), vec![cut; 3]);
+    assert_eq!(other_answers(Reference::of_journal, "edition-1"), vec![cut; 3]);
 }

@@ -1,16 +1,26 @@
 //! The commands by value, one line each.
 
-use crate::number::{tag_of, type_of, Number};
+use crate::edition::{since, LATEST};
+use crate::number::{tag_of, type_of, Number, TAGS};
 
-/// A command's tag, its name and the tags of its fields in ascending order.
+/// A command's tag and its name.
 pub struct Kind {
     pub tag: u8,
     pub name: &'static str,
-    pub fields: &'static [u8],
+    // The tags of its fields in every edition, ascending.
+    fields: &'static [u8],
+}
+
+impl Kind {
+    /// The tags of its fields in an edition, ascending.
+    pub fn fields(&self, edition: u64) -> Vec<u8> {
+        let held = |field: &u8| since(self.tag, *field) <= edition;
+        self.fields.iter().copied().filter(held).collect()
+    }
 }
 
 /// Numbers by field tag; those that a command does not hold are 0.
-pub type Numbers = [u64; 0x13];
+pub type Numbers = [u64; TAGS];
 
 macro_rules! commands {
     ($($tag:literal $name:literal $case:ident { $($field:ident)* })*) => {
@@ -19,7 +29,7 @@ macro_rules! commands {
             $($case { $($field: type_of!($field)),* },)*
         }
 
-        pub const KINDS: [Kind; 24] = [
+        const KINDS: [Kind; 24] = [
             $(Kind { tag: $tag, name: $name, fields: &[$(tag_of!($field)),*] },)*
         ];
 
@@ -36,7 +46,7 @@ macro_rules! commands {
 
             /// The command's tag and its fields' numbers.
             pub fn numbers(&self) -> (u8, Numbers) {
-                let mut numbers = [0; 0x13];
+                let mut numbers = [0; TAGS];
                 match *self {
                     $(Command::$case { $($field),* } => {
                         $(numbers[tag_of!($field)] = $field.number();)*
@@ -81,14 +91,19 @@ commands! {
     0x56 "seats" SetSeats { now seats threshold next }
 }
 
-/// The kind that a tag names.
-pub fn listed(tag: u8) -> Option<&'static Kind> {
-    KINDS.iter().find(|kind| kind.tag == tag)
+/// The commands of an edition.
+pub fn kinds(edition: u64) -> impl Iterator<Item = &'static Kind> {
+    KINDS.iter().filter(move |kind| since(kind.tag, tag_of!(now)) <= edition)
+}
+
+/// The kind that a tag names in an edition.
+pub fn listed(edition: u64, tag: u8) -> Option<&'static Kind> {
+    kinds(edition).find(|kind| kind.tag == tag)
 }
 
 impl Command {
     pub fn kind(&self) -> &'static Kind {
-        listed(self.numbers().0).expect("every command's tag is listed")
+        listed(LATEST, self.numbers().0).expect("every command's tag is listed")
     }
 }
 
@@ -97,9 +112,9 @@ impl std::fmt::Display for Command {
     fn fmt(&self, out: &mut std::fmt::Formatter) -> std::fmt::Result {
         let (kind, (_, numbers)) = (self.kind(), self.numbers());
         write!(out, "{:02X} {}", kind.tag, kind.name)?;
-        for tag in kind.fields {
-            let (name, number) = (crate::field_name(*tag), numbers[*tag as usize]);
-            if [tag_of!(amount), tag_of!(fee)].contains(tag) {
+        for tag in kind.fields(LATEST) {
+            let (name, number) = (crate::field_name(tag), numbers[tag as usize]);
+            if [tag_of!(amount), tag_of!(fee)].contains(&tag) {
                 write!(out, " {name}={}", number as i64)?;
             } else {
                 write!(out, " {name}={number}")?;

@@ -1,16 +1,18 @@
-//! The journal of document 01: the 24 commands, their bytes and the reading of them.
+//! The journal of document 01: the 24 commands, their bytes and the reading of them, by edition.
 
 mod command;
+mod edition;
 mod number;
 mod read;
 mod session;
 mod write;
 
-pub use command::{listed, Command, Kind, Numbers, KINDS};
-pub use number::{field_name, FIELDS, NARROW};
-pub use read::{read, starts_well, Step};
+pub use command::{kinds, listed, Command, Kind, Numbers};
+pub use edition::LATEST;
+pub use number::{field_name, FIELDS, NARROW, TAGS};
+pub use read::{edition_of, read, Step};
 pub use session::{session, SESSION_LISTING};
-pub use write::{field, journal, write, HEADER};
+pub use write::{field, header, journal, write, HEADER_SIZE};
 
 /// Document 01's numbered refusals; 0 is acceptance.
 pub mod answer {

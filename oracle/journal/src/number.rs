@@ -118,6 +118,9 @@ macro_rules! tag_of {
 
 pub(crate) use {tag_of, type_of};
 
+/// Field tags lie below this.
+pub const TAGS: usize = 0x13;
+
 /// Every field tag with its name.
 pub const FIELDS: [(u8, &str); 17] = [
     (tag_of!(now), "now"),

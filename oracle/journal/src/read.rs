@@ -1,8 +1,9 @@
 //! Reading, driven by the table of commands.
 
 use crate::command::{listed, Command, Numbers};
-use crate::number::NARROW;
-use crate::write::HEADER;
+use crate::edition::LATEST;
+use crate::number::{NARROW, TAGS};
+use crate::write::header;
 
 #[derive(Clone, Copy, Debug, PartialEq, Eq)]
 pub enum Step {
@@ -14,17 +15,18 @@ pub enum Step {
     End,
 }
 
-pub fn starts_well(journal: &[u8]) -> bool {
-    journal.starts_with(&HEADER)
+/// The edition that a journal's header names; none where the header is bad.
+pub fn edition_of(journal: &[u8]) -> Option<u64> {
+    (1..=LATEST).find(|edition| journal.starts_with(&header(*edition)))
 }
 
-/// Reads the record that starts at `at`.
-pub fn read(journal: &[u8], at: usize) -> Step {
+/// Reads the record of an edition that starts at `at`.
+pub fn read(edition: u64, journal: &[u8], at: usize) -> Step {
     let rest = &journal[at..];
     if rest.is_empty() {
         return Step::End;
     }
-    match split(rest).and_then(|(tag, inside, _)| command(tag, inside)) {
+    match split(rest).and_then(|(tag, inside, _)| command(edition, tag, inside)) {
         Some((command, length)) => Step::Command(command, at + length),
         None => Step::Malformed,
     }
@@ -39,17 +41,17 @@ fn split(bytes: &[u8]) -> Option<(u8, &[u8], &[u8])> {
 }
 
 /// The command that a record holds, and the record's length.
-fn command(tag: u8, inside: &[u8]) -> Option<(Command, usize)> {
-    let mut numbers: Numbers = [0; 0x13];
+fn command(edition: u64, tag: u8, inside: &[u8]) -> Option<(Command, usize)> {
+    let mut numbers: Numbers = [0; TAGS];
     let mut rest = inside;
-    for wanted in listed(tag)?.fields {
+    for wanted in listed(edition, tag)?.fields(edition) {
         let (found, bytes, after) = split(rest)?;
         let number = u64::from_be_bytes(bytes.try_into().ok()?);
-        let fits = !NARROW.contains(wanted) || number <= u32::MAX.into();
-        if found != *wanted || !fits {
+        let fits = !NARROW.contains(&wanted) || number <= u32::MAX.into();
+        if found != wanted || !fits {
             return None;
         }
-        numbers[*wanted as usize] = number;
+        numbers[wanted as usize] = number;
         rest = after;
     }
     if !rest.is_empty() {
@@ -61,18 +63,18 @@ fn command(tag: u8, inside: &[u8]) -> Option<(Command, usize)> {
 #[cfg(test)]
 mod test {
     use super::*;
-    use crate::{journal, write, KINDS};
+    use crate::{journal, kinds, write};
 
     /// Each command twice: with small numbers and with the greatest.
-    fn samples() -> Vec<Command> {
+    fn samples(edition: u64) -> Vec<Command> {
         let mut samples = Vec::new();
-        for kind in &KINDS {
+        for kind in kinds(edition) {
             for greatest in [false, true] {
-                let mut numbers: Numbers = [0; 0x13];
-                for tag in kind.fields {
-                    let narrow = NARROW.contains(tag);
+                let mut numbers: Numbers = [0; TAGS];
+                for tag in kind.fields(edition) {
+                    let narrow = NARROW.contains(&tag);
                     let most = if narrow { u32::MAX.into() } else { u64::MAX };
-                    numbers[*tag as usize] = if greatest { most } else { *tag as u64 + 7 };
+                    numbers[tag as usize] = if greatest { most } else { tag as u64 + 7 };
                 }
                 samples.push(Command::of_numbers(kind.tag, &numbers).unwrap());
             }
@@ -82,21 +84,36 @@ mod test {
 
     #[test]
     fn written_commands_are_read_back() {
-        let commands = samples();
-        let bytes = journal(&commands);
-        assert!(starts_well(&bytes));
-        let mut at = 5;
-        for command in &commands {
-            let Step::Command(read, next) = read(&bytes, at) else { panic!("{command}") };
-            assert_eq!(read, *command);
-            at = next;
+        for edition in 1..=LATEST {
+            let commands = samples(edition);
+            let bytes = journal(edition, &commands);
+            assert_eq!(edition_of(&bytes), Some(edition));
+            let mut at = 5;
+            for command in &commands {
+                let Step::Command(read, next) = read(edition, &bytes, at) else {
+                    panic!("{command}")
+                };
+                assert_eq!(read, *command);
+                at = next;
+            }
+            assert_eq!(read(edition, &bytes, at), Step::End);
         }
-        assert_eq!(read(&bytes, at), Step::End);
+    }
+
+    #[test]
+    fn headers_name_the_editions_up_to_the_latest() {
+        for edition in [0, LATEST + 1, 257, 65_535] {
+            assert_eq!(edition_of(&header(edition)), None);
+        }
+        for edition in 1..=LATEST {
+            assert_eq!(edition_of(&header(edition)[..4]), None);
+            assert_eq!(edition_of(&[header(edition).as_slice(), &[0]].concat()), Some(edition));
+        }
     }
 
     #[test]
     fn the_session_starts_as_document_01_writes_it() {
-        let bytes = journal(&[Command::OpenAccount { now: 100, caller: 1 }]);
+        let bytes = journal(1, &[Command::OpenAccount { now: 100, caller: 1 }]);
         let record = [
             [0x21, 0, 22].as_slice(),
             &[0x01, 0, 8, 0, 0, 0, 0, 0, 0, 0, 100],
@@ -107,35 +124,37 @@ mod test {
 
     #[test]
     fn a_cut_or_longer_record_is_malformed() {
-        for command in samples() {
+        let edition = LATEST;
+        for command in samples(edition) {
             let mut record = Vec::new();
-            write(&command, &mut record);
+            write(edition, &command, &mut record);
             for length in 1..record.len() {
-                assert_eq!(read(&record[..length], 0), Step::Malformed);
+                assert_eq!(read(edition, &record[..length], 0), Step::Malformed);
             }
             let inside = record.len() - 3;
             let mut longer = record.clone();
             crate::field(0x12, &[0; 8], &mut longer);
             longer[1..3].copy_from_slice(&(inside as u16 + 11).to_be_bytes());
-            assert_eq!(read(&longer, 0), Step::Malformed);
-            let Step::Command(_, next) = read(&record, 0) else { panic!("{command}") };
+            assert_eq!(read(edition, &longer, 0), Step::Malformed);
+            let Step::Command(_, next) = read(edition, &record, 0) else { panic!("{command}") };
             assert_eq!(next, record.len());
         }
     }
 
     #[test]
     fn thirty_two_bits_are_the_most_where_document_01_says_so() {
+        let edition = LATEST;
         for tag in NARROW {
-            let kind = KINDS.iter().find(|kind| kind.fields.contains(&tag)).unwrap();
+            let kind = kinds(edition).find(|kind| kind.fields(edition).contains(&tag)).unwrap();
             for (number, good) in [(u64::from(u32::MAX), true), (1 << 32, false)] {
                 let mut inside = Vec::new();
-                for present in kind.fields {
-                    let number = if *present == tag { number } else { 0 };
-                    crate::field(*present, &number.to_be_bytes(), &mut inside);
+                for present in kind.fields(edition) {
+                    let number = if present == tag { number } else { 0 };
+                    crate::field(present, &number.to_be_bytes(), &mut inside);
                 }
                 let mut record = Vec::new();
                 crate::field(kind.tag, &inside, &mut record);
-                assert_eq!(matches!(read(&record, 0), Step::Command(..)), good);
+                assert_eq!(matches!(read(edition, &record, 0), Step::Command(..)), good);
             }
         }
     }

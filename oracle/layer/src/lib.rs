@@ -20,7 +20,8 @@
 //!   flag (3) and row (4), 54's account (4). Each is the last of its command's list.
 //! - **9, 10, 11 of the transfer** are the token's: another contract's refusal.
 //!
-//! 15 never occurs: the layer's book is made by its own commands or from sound rows.
+//! 15 never occurs: the layer's book is made by its own commands or from sound rows. The original's
+//! rules are those of edition 1, so that it has no other.
 
 mod calls;
 mod port;
@@ -33,6 +34,9 @@ pub use verdict::{Source, Verdict};
 use journal::Command;
 use side::{Book, Query, Reply, Side};
 use soroban_sdk::{Address, By, Env, Outcome, Refusal, Stop};
+
+/// The only edition that the original has.
+pub const EDITION: u64 = 1;
 
 pub struct Original {
     env: Env,
@@ -114,20 +118,22 @@ fn caller(command: &Command) -> Option<u64> {
 
 impl Side for Original {
     fn name(&self) -> &'static str {
-        "original"
+        "the original"
     }
 
-    fn reset(&mut self) {
+    fn reset(&mut self, edition: u64) {
+        assert_eq!(edition, EDITION, "the original has no other edition");
         *self = Original::new(self.rules);
     }
 
     fn load(&mut self, book: &[u64]) {
-        self.reset();
-        self.take_rows(&Book::of_flat(book).expect("the flat form of a book"));
+        let book = Book::of_flat(book).expect("the flat form of a book");
+        self.reset(book.edition);
+        self.take_rows(&book);
     }
 
     fn apply(&mut self, record: &[u8]) -> u64 {
-        match journal::read(record, 0) {
+        match journal::read(EDITION, record, 0) {
             journal::Step::Command(command, next) if next == record.len() => {
                 self.run(&command).number
             }
@@ -154,25 +160,26 @@ impl Side for Original {
 }
 
 impl Original {
-    /// The replay program's output, from a fresh book.
+    /// The replay program's output, from a fresh book, for a journal of edition 1 or a bad header.
     pub fn replay(&mut self, journal: &[u8]) -> String {
         if journal.len() > side::PROGRAM_HOLDS {
             return side::TOO_LONG.to_string();
         }
-        self.reset();
+        let edition = journal::edition_of(journal);
+        self.reset(edition.unwrap_or(EDITION));
         let mut out = String::new();
-        self.replay_records(journal, &mut out);
+        match edition {
+            Some(_) => self.replay_records(journal, &mut out),
+            None => side::malformed_line(0, 0, &mut out),
+        }
         side::tables(&self.book(), &mut out);
         out
     }
 
     fn replay_records(&mut self, journal: &[u8], out: &mut String) {
-        if !journal::starts_well(journal) {
-            return side::malformed_line(0, 0, out);
-        }
-        let mut at = journal::HEADER.len();
+        let mut at = journal::HEADER_SIZE;
         for number in 1.. {
-            match journal::read(journal, at) {
+            match journal::read(EDITION, journal, at) {
                 journal::Step::Command(command, next) => {
                     side::answer_line(number, self.run(&command).number, out);
                     at = next;

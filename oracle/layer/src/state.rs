@@ -14,7 +14,7 @@ use soroban_sdk::token::{purse, set_purse, Purse};
 use soroban_sdk::{symbol_short, Address, Map, Symbol, Vec as Rows};
 
 use crate::calls::{seats, symbol, CURRENCY};
-use crate::Original;
+use crate::{Original, EDITION};
 
 fn repayment_key() -> Symbol {
     symbol_short!("repayment")
@@ -81,6 +81,7 @@ impl Original {
     fn show_settings(&self, out: &mut Vec<u64>) {
         let env = || self.env.clone();
         let repayment: Option<Address> = self.env.storage().instance().get(&repayment_key());
+        out.push(EDITION);
         out.push(Contract::contract_is_paused(env()).into());
         out.push(Contract::get_negotiation_window(env()));
         out.push(seat_bits(&Contract::get_signers(env())));

@@ -6,7 +6,7 @@ use side::Side;
 
 #[test]
 fn the_original_gives_document_01s_listing() {
-    let listing = Original::default().listing(&journal(&session()));
+    let listing = Original::default().listing(&journal(1, &session()));
     assert_eq!(String::from_utf8(listing).unwrap(), SESSION_LISTING);
 }
 

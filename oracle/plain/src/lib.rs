@@ -1,11 +1,12 @@
-//! A plain model of the book, written from document 01 alone and not from the original.
+//! A plain model of the book, written from documents 01 and 02 alone and not from the original.
 //!
-//! It is the second reading that the original is held against until a proved library stands on
-//! this side. It prefers the document's order of words to speed: each command works on a copy of
-//! the book, which is dropped if the command is refused.
+//! It is a second reading of the rules, held against the original in edition 1 and against the proved
+//! book in later ones. It prefers the documents' order of words to speed: each command works on a
+//! copy of the book, which is dropped if the command is refused.
 
 mod admin;
 mod asking;
+pub mod edition;
 mod money;
 mod negotiation;
 mod offers;
@@ -49,14 +50,21 @@ pub enum Slip {
     DeadlineMoves,
     /// Defaulted offers count as active.
     DefaultedActive,
+    /// Amend tests the amount against the invoice's after the negotiation checks.
+    AmountLate,
+    /// Amend and counter refuse the invoice's amount itself, not only more.
+    AmountReached,
 }
 
-pub const SLIPS: [Slip; 5] = [
-    Slip::AnyCounter,
-    Slip::RoundStays,
-    Slip::WithdrawLowers,
-    Slip::DeadlineMoves,
-    Slip::DefaultedActive,
+/// Each with the first edition in which it shows.
+pub const SLIPS: [(Slip, u64); 7] = [
+    (Slip::AnyCounter, 1),
+    (Slip::RoundStays, 1),
+    (Slip::WithdrawLowers, 1),
+    (Slip::DeadlineMoves, 1),
+    (Slip::DefaultedActive, 1),
+    (Slip::AmountLate, 2),
+    (Slip::AmountReached, 2),
 ];
 
 pub struct Plain {
@@ -66,15 +74,16 @@ pub struct Plain {
     slip: Option<Slip>,
 }
 
+/// A fresh book of edition 1.
 impl Default for Plain {
     fn default() -> Plain {
-        Plain { book: Book::fresh(), sound: true, slip: None }
+        Plain::with_slip(None)
     }
 }
 
 impl Plain {
     pub fn with_slip(slip: Option<Slip>) -> Plain {
-        Plain { slip, ..Plain::default() }
+        Plain { book: edition::fresh(1), sound: true, slip }
     }
 
     pub fn book(&self) -> &Book {
@@ -170,11 +179,17 @@ impl Desk {
 
 impl Side for Plain {
     fn name(&self) -> &'static str {
-        "plain"
+        if self.slip.is_none() {
+            "the plain model"
+        } else {
+            "the model with a slip"
+        }
     }
 
-    fn reset(&mut self) {
-        *self = Plain::with_slip(self.slip);
+    fn reset(&mut self, edition: u64) {
+        assert!(edition::is_listed(edition), "there is no edition {edition}");
+        self.book = edition::fresh(edition);
+        self.sound = true;
     }
 
     fn load(&mut self, book: &[u64]) {
@@ -204,12 +219,10 @@ impl Side for Plain {
     }
 
     fn listing(&mut self, journal: &[u8]) -> Vec<u8> {
-        self.reset();
         reading::listing(self, journal).into_bytes()
     }
 
     fn answers(&mut self, journal: &[u8], questions: &str) -> Result<String, String> {
-        self.reset();
         asking::answers(self, journal, questions)
     }
 }

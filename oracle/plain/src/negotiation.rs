@@ -14,7 +14,6 @@ pub const EXPIRED: u64 = 4;
 pub const LENDER: u64 = 0;
 pub const ORIGINATOR: u64 = 1;
 
-const MOST_ROUNDS: usize = 12;
 pub const PENDING: u64 = 0;
 
 /// A stored outcome wins; no rounds gives None; a non-Pending offer gives Closed; past the
@@ -33,11 +32,11 @@ pub fn status(offer: &Offer, now: u64) -> u64 {
     }
 }
 
-pub fn negotiable(offer: &Offer, now: u64, expected: u32) -> Test {
+pub fn negotiable(offer: &Offer, now: u64, expected: u32, most_rounds: usize) -> Test {
     test(offer.status == PENDING, 7)?;
     test([NONE, OPEN].contains(&status(offer, now)), 7)?;
     test(offer.rounds.len() as u64 == u64::from(expected), 3)?;
-    test(offer.rounds.len() < MOST_ROUNDS, 7)
+    test(offer.rounds.len() < most_rounds, 7)
 }
 
 /// Adds a round; the first one sets the deadline, now + window, stopped at 2^64−1.

@@ -3,13 +3,14 @@
 use journal::Command;
 use side::{Offer, Schedule};
 
+use crate::edition::{holds_amount, most_rounds};
 use crate::money::{grown, moved, MOST_ROWS};
 use crate::negotiation::{
     add_round, countered, negotiable, offer_terms, status, CLOSED, EXPIRED, LENDER, NONE,
     ORIGINATOR, PENDING,
 };
 use crate::settlement::INVOICE_PENDING;
-use crate::terms::{installment, period, terms_valid, Terms};
+use crate::terms::{installment, period, terms_valid, within_invoice, Terms};
 use crate::{test, Desk, Slip, Test};
 
 const REJECTED: u64 = 2;
@@ -62,7 +63,7 @@ impl Desk {
         let invoice = &self.book.invoices[self.invoice(offer.invoice)?];
         test(invoice.status == INVOICE_PENDING, 7)?;
         test(invoice.originator != offer.lender, 3)?;
-        test(offer.amount <= invoice.amount, 3)?;
+        within_invoice(&offer_terms(&offer), invoice.amount)?;
         test(self.offer(offer.id).is_err(), 5)?;
         test(self.book.offers.len() < MOST_ROWS, 12)?;
         let lender = self.account(offer.lender)?;
@@ -116,7 +117,10 @@ impl Desk {
         terms_valid(&terms)?;
         let index = self.offer(id)?;
         test(self.book.offers[index].lender == caller, 6)?;
-        negotiable(&self.book.offers[index], now, round)?;
+        let held = self.held(index, &terms)?;
+        test(held || self.slips(Slip::AmountLate), 3)?;
+        self.negotiable(index, now, round)?;
+        test(held, 3)?;
         let agreed = countered(&self.book.offers[index], &terms, self.slips(Slip::AnyCounter));
         let difference = i128::from(terms.amount) - i128::from(self.book.offers[index].amount);
         let lender = self.account(caller)?;
@@ -135,10 +139,27 @@ impl Desk {
         let index = self.offer(id)?;
         let invoice = self.invoice(self.book.offers[index].invoice)?;
         test(self.book.invoices[invoice].originator == caller, 6)?;
-        negotiable(&self.book.offers[index], now, round)?;
+        test(self.held(index, &terms)?, 3)?;
+        self.negotiable(index, now, round)?;
         let agreed = offer_terms(&self.book.offers[index]) == terms;
         self.put_round(index, ORIGINATOR, &terms, now);
         self.conclude(agreed, index, now)
+    }
+
+    /// Whether the terms keep to the invoice's amount, where the edition holds them to it: without the
+    /// invoice 4.
+    fn held(&self, index: usize, terms: &Terms) -> Test<bool> {
+        if !holds_amount(self.book.edition) {
+            return Ok(true);
+        }
+        let invoice = self.invoice(self.book.offers[index].invoice)?;
+        let invoiced = self.book.invoices[invoice].amount;
+        let slipped = self.slips(Slip::AmountReached) && terms.amount == invoiced;
+        Ok(within_invoice(terms, invoiced).is_ok() && !slipped)
+    }
+
+    fn negotiable(&self, index: usize, now: u64, round: u32) -> Test {
+        negotiable(&self.book.offers[index], now, round, most_rounds(self.book.edition))
     }
 
     fn put_round(&mut self, index: usize, party: u64, terms: &Terms, now: u64) {

@@ -2,8 +2,9 @@
 //! journal crate is used, only its commands.
 
 use journal::Command;
+use side::Side;
 
-use crate::Plain;
+use crate::{edition, Plain};
 
 /// A field: a one-byte tag, a two-byte big-endian length and its bytes.
 struct Field<'a> {
@@ -151,14 +152,26 @@ pub fn one_record(bytes: &[u8]) -> Option<Command> {
     (record.size == bytes.len()).then(|| command(&record))?
 }
 
+/// The edition of a journal and its records, if it starts with tag 10, length 2 and an edition.
+fn opened(journal: &[u8]) -> Option<(u64, &[u8])> {
+    let header = field(journal)?;
+    let (0x10, [high, low]) = (header.tag, header.bytes) else { return None };
+    let edition = 256 * u64::from(*high) + u64::from(*low);
+    edition::is_listed(edition).then(|| (edition, &journal[header.size..]))
+}
+
 /// Everything that the replay program prints for these bytes.
 pub fn listing(plain: &mut Plain, journal: &[u8]) -> String {
+    plain.reset(1);
     if journal.len() > 32_768 {
         return "0 14\n".into();
     }
     let mut lines = Vec::new();
-    match journal.strip_prefix(&[0x10, 0x00, 0x02, 0x00, 0x01]) {
-        Some(records) => records_of(plain, records, &mut lines),
+    match opened(journal) {
+        Some((edition, records)) => {
+            plain.reset(edition);
+            records_of(plain, records, &mut lines);
+        }
         None => lines.push("0 13 0".to_string()),
     }
     let book = plain.book();
@@ -193,18 +206,29 @@ mod tests {
 
     #[test]
     fn document_01s_session() {
-        let text = listing(&mut Plain::default(), &journal(&session()));
-        assert_eq!(text, SESSION_LISTING);
+        for edition in 1..=journal::LATEST {
+            let text = listing(&mut Plain::default(), &journal(edition, &session()));
+            assert_eq!(text, SESSION_LISTING);
+        }
     }
 
     #[test]
     fn headers() {
-        let fresh = "0 13 0\ntotals 0 0 0\n";
-        assert_eq!(listing(&mut Plain::default(), &[]), fresh);
-        assert_eq!(listing(&mut Plain::default(), &[0x10, 0, 2, 0, 2]), fresh);
-        assert_eq!(listing(&mut Plain::default(), &[0x10, 0, 2, 0, 1]), "totals 0 0 0\n");
+        let mut plain = Plain::default();
+        let (fresh, next) = ("0 13 0\ntotals 0 0 0\n", journal::LATEST as u8 + 1);
+        for edition in [[0, 0], [0, next], [1, 1], [255, 255]] {
+            let bytes = [[0x10, 0, 2].as_slice(), &edition].concat();
+            assert_eq!(listing(&mut plain, &bytes), fresh);
+            assert_eq!(plain.book().edition, 1);
+        }
+        assert_eq!(listing(&mut plain, &[]), fresh);
+        assert_eq!(listing(&mut plain, &[0x10, 0, 2, 0]), fresh);
+        assert_eq!(listing(&mut plain, &[0x10, 0, 3, 0, 0, 1]), fresh);
+        assert_eq!(listing(&mut plain, &[0x10, 0, 2, 0, 1]), "totals 0 0 0\n");
+        assert_eq!(listing(&mut plain, &[0x10, 0, 2, 0, 2]), "totals 0 0 0\n");
+        assert_eq!(plain.book().edition, 2);
         let trailing = [0x10, 0, 2, 0, 1, 0x21];
-        assert_eq!(listing(&mut Plain::default(), &trailing), "1 13 5\ntotals 0 0 0\n");
-        assert_eq!(listing(&mut Plain::default(), &[0; 32_769]), "0 14\n");
+        assert_eq!(listing(&mut plain, &trailing), "1 13 5\ntotals 0 0 0\n");
+        assert_eq!(listing(&mut plain, &[0; 32_769]), "0 14\n");
     }
 }

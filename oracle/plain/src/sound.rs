@@ -1,7 +1,8 @@
-//! When a book is sound, as document 01's paragraph says.
+//! When a book is sound, as document 01's paragraph says. Its edition is a listed one.
 
 use side::{Account, Book, Invoice, Offer, Schedule};
 
+use crate::edition::{is_listed, most_rounds};
 use crate::money::{HELD, MOST_COUNTED, MOST_ROWS, OFFERED};
 use crate::terms::{period, terms_valid};
 
@@ -9,7 +10,9 @@ pub fn sound(book: &Book) -> bool {
     let totals = &book.totals;
     let money = [totals.financed, totals.repaid, totals.fees];
     let seats = u64::from(book.seats.count_ones());
-    money.iter().all(|total| HELD.contains(total))
+    let rounds = most_rounds(book.edition);
+    is_listed(book.edition)
+        && money.iter().all(|total| HELD.contains(total))
         && totals.offers <= MOST_COUNTED
         && (3_600..=2_592_000).contains(&book.window)
         && book.seats <= u32::MAX.into()
@@ -19,7 +22,7 @@ pub fn sound(book: &Book) -> bool {
         && table(book.offers.iter().map(|row| row.id))
         && book.accounts.iter().all(sound_account)
         && book.invoices.iter().all(sound_invoice)
-        && book.offers.iter().all(sound_offer)
+        && book.offers.iter().all(|row| row.rounds.len() <= rounds && sound_offer(row))
 }
 
 fn table(ids: impl ExactSizeIterator<Item = u64> + Clone) -> bool {
@@ -46,7 +49,6 @@ fn sound_offer(row: &Offer) -> bool {
         && row.status <= 5
         && HELD.contains(&row.repaid)
         && [0, 2, 3, 4].contains(&row.outcome)
-        && row.rounds.len() <= 12
         && rounds
         && row.schedule.as_ref().is_none_or(sound_schedule)
 }
@@ -68,6 +70,8 @@ mod tests {
         assert!(sound(&fresh));
         assert!(sound(&Book { accounts: vec![account(0), account(u64::MAX)], ..fresh.clone() }));
         let faults = [
+            Book { edition: 0, ..fresh.clone() },
+            Book { edition: journal::LATEST + 1, ..fresh.clone() },
             Book { threshold: 0, ..fresh.clone() },
             Book { threshold: 2, ..fresh.clone() },
             Book { seats: 1 << 32 | 1, ..fresh.clone() },

@@ -10,10 +10,15 @@ pub struct Terms {
     pub duration: u64,
 }
 
+/// The terms check has two parts: the ranges, and the amount against the invoice's.
 pub fn terms_valid(terms: &Terms) -> Test {
     test(OFFERED.contains(&terms.amount), 3)?;
     test((1..=10_000).contains(&terms.rate), 3)?;
     test((86_400..=31_536_000).contains(&terms.duration), 3)
+}
+
+pub fn within_invoice(terms: &Terms, invoiced: i64) -> Test {
+    test(terms.amount <= invoiced, 3)
 }
 
 pub fn period(code: u64) -> Option<u64> {

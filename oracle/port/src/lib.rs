@@ -11,7 +11,6 @@ use side::{Query, Reply, Side, PROGRAM_HOLDS, TOO_LONG};
 /// Names the command that starts the program, its words parted by spaces.
 pub const COMMAND: &str = "SOLGAVERNA_BRIDGE";
 
-const HEADER: [u8; 5] = [0x10, 0, 2, 0, 1];
 const MALFORMED: u64 = 13;
 
 pub struct Port {
@@ -28,8 +27,9 @@ impl Port {
 
     /// Replays a journal record by record up to its end or a malformed one, and keeps the book.
     fn replay(&mut self, journal: &[u8]) {
-        self.reset();
-        let Some(mut rest) = journal.strip_prefix(&HEADER) else { return };
+        let edition = journal::edition_of(journal);
+        self.reset(edition.unwrap_or(1));
+        let mut rest = if edition.is_some() { &journal[journal::HEADER_SIZE..] } else { &[] };
         while let [_, high, low, ..] = *rest {
             let length = 3 + usize::from(u16::from_be_bytes([high, low]));
             let Some((record, after)) = rest.split_at_checked(length) else { return };
@@ -58,9 +58,9 @@ impl Side for Port {
         "the port"
     }
 
-    fn reset(&mut self) {
+    fn reset(&mut self, edition: u64) {
         self.shown = None;
-        self.pipe.get_mut().send(Request::Fresh, &[], &[]);
+        self.pipe.get_mut().send(Request::Fresh, &[edition], &[]);
     }
 
     fn load(&mut self, book: &[u64]) {

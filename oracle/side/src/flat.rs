@@ -4,6 +4,7 @@
 //!
 //! | numbers | what |
 //! |---|---|
+//! | 1 | the edition |
 //! | 1 | paused: 0 or 1 |
 //! | 1 | window |
 //! | 1 | seats, a bit each |
@@ -37,6 +38,7 @@ impl Book {
     pub fn flat(&self, out: &mut Vec<u64>) {
         let repayment = [self.repayment.is_some().into(), self.repayment.unwrap_or(0)];
         out.clear();
+        out.push(self.edition);
         out.extend([self.paused.into(), self.window, self.seats, self.threshold]);
         out.extend(repayment);
         let totals = &self.totals;
@@ -56,10 +58,12 @@ impl Book {
     /// The book that a flat list shows, if it shows one.
     pub fn of_flat(numbers: &[u64]) -> Option<Book> {
         let mut from = Numbers(numbers);
+        let edition = from.one()?;
         let [paused, window, seats, threshold, set, repayment] = from.take()?;
         let [offers, financed, repaid, fees] = from.take()?;
         let [financed, repaid, fees] = [financed, repaid, fees].map(|sum| sum as i64);
         let mut book = Book {
+            edition,
             paused: paused == 1,
             window,
             seats,
@@ -168,7 +172,7 @@ mod test {
         let offers = vec![offer.clone(), Offer { id: 21, rounds, schedule: None, ..offer }];
         let accounts = vec![Account { id: 1, balance: -5, accepted: 4, ..Account::default() }];
         let invoices = vec![Invoice { id: 10, originator: 2, amount: 3, status: 1 }];
-        Book { repayment: Some(0), accounts, invoices, offers, ..Book::fresh() }
+        Book { edition: 2, repayment: Some(0), accounts, invoices, offers, ..Book::fresh() }
     }
 
     #[test]
@@ -178,7 +182,8 @@ mod test {
             book.flat(&mut flat);
             assert_eq!(Book::of_flat(&flat), Some(book));
         }
-        assert_eq!(flat.len(), 10 + 1 + 8 + 1 + 4 + 1 + 2 * 17 + 2 * 5);
+        assert_eq!(flat.len(), 11 + 1 + 8 + 1 + 4 + 1 + 2 * 17 + 2 * 5);
+        assert_eq!(flat[..3], [2, 0, 604_800]);
         assert_eq!(Book::of_flat(&flat[1..]), None);
     }
 }

@@ -17,14 +17,16 @@ pub use rows::{Account, Book, Invoice, Offer, Round, Schedule, Totals};
 pub trait Side {
     fn name(&self) -> &'static str;
 
-    /// Starts from a fresh book.
-    fn reset(&mut self);
+    /// Starts from a fresh book of an edition, which a side must have.
+    fn reset(&mut self, edition: u64);
 
-    /// Starts from given rows, in the flat form of `Book::flat`. They make a sound book.
+    /// Starts from given rows, in the flat form of `Book::flat`. They make a sound book of an edition
+    /// that a side must have.
     fn load(&mut self, book: &[u64]);
 
-    /// Applies one journal record (tag, length, fields) and answers with document 01's number.
-    /// Bytes that are not exactly one well-formed record give 13 and change nothing.
+    /// Applies one journal record (tag, length, fields) of the book's edition and answers with
+    /// document 01's number. Bytes that are not exactly one well-formed record give 13 and change
+    /// nothing.
     fn apply(&mut self, record: &[u8]) -> u64;
 
     /// Replaces `out` by the whole book in the flat form of `Book::flat`.
@@ -33,7 +35,8 @@ pub trait Side {
     /// Answers a query into a lent buffer.
     fn ask(&mut self, query: Query, out: &mut [u64]) -> Reply;
 
-    /// The whole output of the replay program for these input bytes, from a fresh book.
+    /// The whole output of the replay program for these input bytes, from a fresh book of the
+    /// edition that their header names.
     fn listing(&mut self, journal: &[u8]) -> Vec<u8>;
 
     /// The whole output of the program `ask` for this journal and these lines of questions: the

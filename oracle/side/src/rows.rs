@@ -2,6 +2,7 @@
 
 #[derive(Clone, Debug, Default, PartialEq, Eq)]
 pub struct Book {
+    pub edition: u64,
     pub paused: bool,
     pub window: u64,
     pub seats: u64,
@@ -81,9 +82,10 @@ pub struct Schedule {
 }
 
 impl Book {
-    /// Document 01: no rows, seat 0 alone with threshold 1, no repayment account, not paused.
+    /// Document 01, so edition 1: no rows, seat 0 alone with threshold 1, no repayment account, not
+    /// paused.
     pub fn fresh() -> Book {
-        Book { window: 604_800, seats: 1, threshold: 1, ..Book::default() }
+        Book { edition: 1, window: 604_800, seats: 1, threshold: 1, ..Book::default() }
     }
 }
 

@@ -34,24 +34,24 @@ text-of c = c .before .before .before .before .before .args .s .now
 abbrev place : tie.After-line-at Inv-loop μ-loop → ℕ
 place c = c .before .before .loop .at
 
-line-had : (c : tie.Else1 Inv-loop μ-loop) → Had (lineIn 0x61 0x80 (drop (place (c .before .before)) (text-of (c .before .before))) (place (c .before .before))) (c .before .before .line-at .result)
+line-had : (c : tie.Else1 Inv-loop μ-loop) → Had (lineIn 1 0x61 0x80 (drop (place (c .before .before)) (text-of (c .before .before))) (place (c .before .before))) (c .before .before .line-at .result)
 line-had c = had _ (c .before .before .line-at .ensures) (not-false _ (c .if1 .left))
 
 item-is : (c : tie.Else1 Inv-loop μ-loop) → questionAt (text-of (c .before .before)) (place (c .before .before)) ≡ item (line-had c .parts) (c .before .before .line-at .result .next)
-item-is c = let d = c .before .before in at-line 0x61 0x80 (text-of d) (place d) (d .before .loop-test .taken) ∙ line-had c .is
+item-is c = let d = c .before .before in at-line 1 0x61 0x80 (text-of d) (place d) (d .before .loop-test .taken) ∙ line-had c .is
 
 ahead : (c : tie.Else1 Inv-loop μ-loop) → (place (c .before .before) < c .before .before .line-at .result .next) × (c .before .before .line-at .result .next ≤ length (text-of (c .before .before)))
-ahead c = leads _ _ (onward 0x61 0x80 (text-of (c .before .before))) (item-is c)
+ahead c = leads _ _ (onward 1 0x61 0x80 (text-of (c .before .before))) (item-is c)
 
 returns : tie.Need-returns Inv-loop μ-loop
 returns c =
     let d = c .before .before in
     let l = d .before .before .loop in
     let t = text-of d in
-    let e = at-line 0x61 0x80 t (l .at) (d .before .loop-test .taken) in
+    let e = at-line 1 0x61 0x80 t (l .at) (d .before .loop-test .taken) in
     let g : d .line-at .result ≡ lineFor (questionAt t (l .at)) = rw e (d .line-at .ensures) in
-    let f = had-not (length t) (l .at) (questionAt t (l .at)) (onward 0x61 0x80 t (l .at)) (d .before .loop-test .taken) g (not-true _ (c .if1 .taken)) in
-    asked-bad _ t (stops (onward 0x61 0x80 t) (l .inv .1 .1) f)
+    let f = had-not (length t) (l .at) (questionAt t (l .at)) (onward 1 0x61 0x80 t (l .at)) (d .before .loop-test .taken) g (not-true _ (c .if1 .taken)) in
+    asked-bad _ t (stops (onward 1 0x61 0x80 t) (l .inv .1 .1) f)
 
 loop-again : tie.Need-loop-again Inv-loop μ-loop
 loop-again c =
@@ -59,13 +59,13 @@ loop-again c =
     let d = b .before .before in
     let l = d .before .before .loop in
     let a = ahead b in
-    (a .1, (omega (arith, a .0, l .inv .1 .0), goes-on (onward 0x61 0x80 (text-of d)) (l .inv .1 .1) (item-is b) (retext (c .before .before .put-answer .ensures) (question-is _ (line-had b)))))
+    (a .1, (omega (arith, a .0, l .inv .1 .0), goes-on (onward 1 0x61 0x80 (text-of d)) (l .inv .1 .1) (item-is b) (retext (c .before .before .put-answer .ensures) (question-is _ (line-had b)))))
 
 returns-2 : tie.Need-returns-2 Inv-loop μ-loop
 returns-2 c =
     let l = c .before .loop in
     let t = c .before .before .before .before .args .s .now in
-    asked-end _ t (ends (onward 0x61 0x80 t) (l .inv .1 .1) (at-end 0x61 0x80 t (l .at) (c .loop-test .left)))
+    asked-end _ t (ends (onward 1 0x61 0x80 t) (l .inv .1 .1) (at-end 1 0x61 0x80 t (l .at) (c .loop-test .left)))
 
 pub tell-spec : {M : Type 1} → statement M
 tell-spec =

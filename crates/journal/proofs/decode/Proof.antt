@@ -26,7 +26,7 @@ abbrev tag : tie.After-tags → ℕ
 tag c = getD (start c .args .s .now) (start c .args .at) 0
 
 abbrev fs : tie.After-tags → List ℕ
-fs c = fieldsOf (tag c)
+fs c = fieldsOf (start c .args .edition) (tag c)
 
 row : (c : tie.After-tags) → c .before .fields .result ≡ rowFields (fs c)
 row c = c .before .fields .ensures
@@ -52,25 +52,25 @@ held c =
     c .gather .ensures ∙ ap (λ (r : Listed). gatheredIn (take (r .0) (r .1)) b) (row d) ∙ ap (λ (l : List ℕ). gatheredIn l b) (take-padded (fs d))
 
 returns : tie.Need-returns
-returns c = at-end _ _ (c .if1 .taken)
+returns c = at-end _ _ _ (c .if1 .taken)
 
 returns-2 : tie.Need-returns-2
 returns-2 c =
     let d = c .before .before in
     let a = start d .args in
-    at-record (a .s .now) (a .at) (d .before .before .before .if1 .left) (no-head (tag d) (fs d) (a .s .now) (a .at) (begun (c .before) ∙ not-true _ (c .if2 .taken)))
+    at-record (a .edition) (a .s .now) (a .at) (d .before .before .before .if1 .left) (no-head (a .edition) (tag d) (fs d) (a .s .now) (a .at) (begun (c .before) ∙ not-true _ (c .if2 .taken)))
 
 gather-requires : tie.Need-gather-requires
 gather-requires c κs =
     let d = c .before .before in
-    (omega (arith, count d, few (tag d), within c), λ k. rw (row d) (low (tag d) k))
+    (omega (arith, count d, few (start d .args .edition) (tag d), within c), λ k. rw (row d) (low (start d .args .edition) (tag d) k))
 
 returns-3 : tie.Need-returns-3
 returns-3 c =
     let g = c .before .before .before in
     let d = g .before .before .before in
     let a = start d .args in
-    at-record (a .s .now) (a .at) (d .before .before .before .if1 .left) (not-well (tag d) (fs d) (a .s .now) (a .at) (ap (λ (x : Gathered). x .0) (sym (held g)) ∙ not-true _ (c .if3 .taken)))
+    at-record (a .edition) (a .s .now) (a .at) (d .before .before .before .if1 .left) (not-well (a .edition) (tag d) (fs d) (a .s .now) (a .at) (ap (λ (x : Gathered). x .0) (sym (held g)) ∙ not-true _ (c .if3 .taken)))
 
 good : (c : tie.Else3) → gatheredIn (fs (c .before .before .before .before .before .before)) (drop (start (c .before .before .before .before .before .before) .args .at + 3) (start (c .before .before .before .before .before .before) .args .s .now)) .0 ≡ true
 good c = ap (λ (x : Gathered). x .0) (sym (held (c .before .before .before))) ∙ not-false _ (c .if3 .left)
@@ -84,12 +84,12 @@ returns-4 c =
     let g = e .before .before .before in
     let d = g .before .before .before in
     let a = start d .args in
-    at-record (a .s .now) (a .at) (d .before .before .before .if1 .left)
+    at-record (a .edition) (a .s .now) (a .at) (d .before .before .before .if1 .left)
     (c .build .ensures
-    ∙ ap (λ (v : Values). made (tag d) v (a .at) (a .at + (3 + 11 * d .before .fields .result .0))) (c .before .named .ensures)
-    ∙ ap (λ (x : Gathered). made (tag d) (named (x .1)) (a .at) (a .at + (3 + 11 * d .before .fields .result .0))) (held g)
-    ∙ ap (λ (n : ℕ). made (tag d) (named (gatheredIn (fs d) (drop (a .at + 3) (a .s .now)) .1)) (a .at) (a .at + (3 + 11 * n))) (count d)
-    ∙ whole (tag d) (fs d) (a .s .now) (a .at) (begun (g .before .before) ∙ not-false _ (g .before .if2 .left)) (good e))
+    ∙ ap (λ (v : Values). made (a .edition) (tag d) v (a .at) (a .at + (3 + 11 * d .before .fields .result .0))) (c .before .named .ensures)
+    ∙ ap (λ (x : Gathered). made (a .edition) (tag d) (named (x .1)) (a .at) (a .at + (3 + 11 * d .before .fields .result .0))) (held g)
+    ∙ ap (λ (n : ℕ). made (a .edition) (tag d) (named (gatheredIn (fs d) (drop (a .at + 3) (a .s .now)) .1)) (a .at) (a .at + (3 + 11 * n))) (count d)
+    ∙ whole (a .edition) (tag d) (fs d) (a .s .now) (a .at) (begun (g .before .before) ∙ not-false _ (g .before .if2 .left)) (good e))
 
 pub decode-spec : {M : Type 1} → statement M
 decode-spec =
@@ -98,15 +98,15 @@ decode-spec =
     returns
     (λ c. search needs)
     (λ c κs. search needs)
-    (λ c. omega (arith, count c, few (tag c)))
+    (λ c. omega (arith, count c, few (start c .args .edition) (tag c)))
     (λ c κs. search needs)
     returns-2
     (λ c. search needs)
     gather-requires
     returns-3
     named-requires
-    (λ c. omega (arith, count (c .before .before .before .before .before .before .before), few (tag (c .before .before .before .before .before .before .before))))
-    (λ c. omega (arith, count (c .before .before .before .before .before .before .before), few (tag (c .before .before .before .before .before .before .before))))
+    (λ c. omega (arith, count (c .before .before .before .before .before .before .before), few (start (c .before .before .before .before .before .before .before) .args .edition) (tag (c .before .before .before .before .before .before .before))))
+    (λ c. omega (arith, count (c .before .before .before .before .before .before .before), few (start (c .before .before .before .before .before .before .before) .args .edition) (tag (c .before .before .before .before .before .before .before))))
     (λ c. omega (arith, count (c .before .before .before .before .before .before .before), within (c .before .before .before .before .before)))
     (λ c κs. search needs)
     returns-4)

@@ -20,16 +20,16 @@ start c = c .before .before .before
 
 -- the record, and its fields
 abbrev whole : tie.After-tags → List ℕ
-whole c = recordOf (start c .args .tag) (start c .args .values)
+whole c = recordOf (start c .args .edition) (start c .args .tag) (start c .args .values)
 
 abbrev fs : tie.After-tags → List ℕ
-fs c = fieldsOf (start c .args .tag)
+fs c = fieldsOf (start c .args .edition) (start c .args .tag)
 
 count : (c : tie.After-tags) → c .before .fields .result .0 ≡ length (fs c)
 count c = ap (λ (r : Listed). r .0) (c .before .fields .ensures)
 
 size-is : (c : tie.After-tags) → 3 + 11 * c .before .fields .result .0 ≡ length (whole c)
-size-is c = ap (λ (n : ℕ). 3 + 11 * n) (count c) ∙ sym (length-record (start c .args .tag) (start c .args .values))
+size-is c = ap (λ (n : ℕ). 3 + 11 * n) (count c) ∙ sym (length-record (start c .args .edition) (start c .args .tag) (start c .args .values))
 
 -- past the tests there is room
 room : (c : tie.Else2) → start (c .before .before) .args .at + (3 + 11 * c .before .before .before .fields .result .0) ≤ length (start (c .before .before) .args .out .now)
@@ -54,7 +54,7 @@ all-put c =
     let a = start d .args in
     _∙_ {b = stored (a .out .now) (a .at) (a .tag) (a .values) (d .before .fields .result)}
     (rw (head-put h) at (c .put-fields .ensures))
-    (parts-placed (a .tag) (a .values) (a .out .now) (a .at) (d .before .fields .ensures) (room (h .before .before)))
+    (parts-placed (a .edition) (a .tag) (a .values) (a .out .now) (a .at) (d .before .fields .ensures) (room (h .before .before)))
 
 returns : tie.Need-returns
 returns c = let d = c .before in short (start d .args .at) (whole d) (start d .args .out .now) (omega (arith, size-is d, c .if1 .taken))
@@ -66,7 +66,7 @@ put-fields-requires : tie.Need-put-fields-requires
 put-fields-requires c κs =
     let h = c .before .before .before in
     let d = h .before .before .before .before in
-    omega (arith, count d, few (start d .args .tag), head-kept h, room (h .before .before))
+    omega (arith, count d, few (start d .args .edition) (start d .args .tag), head-kept h, room (h .before .before))
 
 same-length : tie.Need-same-length
 same-length c =
@@ -85,8 +85,8 @@ encode-parts-spec =
     tie.close
     (tie.spec
     (λ c κs. search needs)
-    (λ c. omega (arith, count c, few (start c .args .tag)))
-    (λ c. omega (arith, count c, few (start c .args .tag)))
+    (λ c. omega (arith, count c, few (start c .args .edition) (start c .args .tag)))
+    (λ c. omega (arith, count c, few (start c .args .edition) (start c .args .tag)))
     returns
     (λ c. search needs)
     returns-2

@@ -9,14 +9,15 @@ use Rattle.journal.proofs.write_header.Tie as tie
 
 returns : tie.Need-returns
 unfolding headerOf fieldOf headOf bytesOf
-returns c = short 0 headerOf (c .before .before .args .out .now) (c .if1 .taken)
+returns c = let a = c .before .before .args in short 0 (headerOf (a .edition)) (a .out .now) (c .if1 .taken)
 
 returns-2 : tie.Need-returns-2
 unfolding headerOf fieldOf headOf bytesOf placed
 returns-2 c =
-    let s = c .before .before .before .before .before in
-    fitting 0 headerOf (s .before .before .args .out .now) (s .if1 .left) refl (c .before .before .copy .ensures .1)
+    let b = c .before .before .before .before .before in
+    let a = b .before .before .before .before .args in
+    fitting 0 (headerOf (a .edition)) (a .out .now) (b .before .before .if1 .left) refl (rw (b .before .byte .ensures, b .byte2 .ensures) at (c .before .before .copy .ensures .1))
 
 pub write-header-spec : {M : Type 1} → statement M
 write-header-spec =
-    tie.close (tie.spec returns (λ c. search needs) (λ c κs. search needs) (λ c. search needs) returns-2)
+    tie.close (tie.spec returns (λ c κs. search needs) (λ c κs. search needs) (λ c. search needs) (λ c κs. search needs) (λ c. search needs) returns-2)

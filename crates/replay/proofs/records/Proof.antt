@@ -27,10 +27,11 @@ use Rattle.sheet.specs.Sheet.{penAt}
 use Rattle.sheet.specs.SheetLaws.{kept}
 use Rattle.journal.specs.Format.{readAt}
 use Rattle.journal.specs.Answers.{reading, found}
-use Rattle.rules.specs.Model.{accountBy, invoiceBy, offerBy}
+use Rattle.rules.specs.Model.{freshModel, accountBy, invoiceBy, offerBy}
 use Rattle.rules.specs.Keys.{keysBy}
 use Rattle.book.specs.Stored.{modelOf, Shelved}
 use Rattle.book.specs.Turning.{bookBy, Turned, turned, fetched, counts-by, next, accounts-left, invoices-left, offers-left, steps}
+use Rattle.replay.specs.Replay.{replayFrom}
 use Rattle.replay.specs.Standing.{fresh, stepped}
 use Rattle.replay.specs.Ahead.{ahead, inside}
 use Rattle.replay.specs.Going.{Going, going, going-on, gone-bad, gone}
@@ -39,29 +40,29 @@ use Rattle.replay.proofs.records.Statement.{statement}
 use Rattle.replay.proofs.records.Tie as tie
 
 abbrev Inv-loop2 : tie.InvT-loop2
-Inv-loop2 s out ink first accounts invoices offers₀ totals settings pen at k next id io ii ia ib one t n slot j₀ offers j =
+Inv-loop2 s out ink e first accounts invoices offers₀ totals settings pen at k next id io ii ia ib one t n slot j₀ offers j =
     Moves offers₀ slot offers j
 
 abbrev μ-loop2 : tie.MeasureT-loop2
-μ-loop2 s out ink first accounts invoices offers₀ totals settings pen at k next id io ii ia ib one t n slot j₀ offers j =
+μ-loop2 s out ink e first accounts invoices offers₀ totals settings pen at k next id io ii ia ib one t n slot j₀ offers j =
     j
 
 abbrev Inv-loop : tie.InvT-loop
-Inv-loop s out₀ ink first accounts₀ invoices₀ offers₀ totals₀ settings₀ pen₀ at₀ k₀ out accounts invoices offers totals settings pen at k =
-    Going ink s first out₀ (penAt 0 false) out at k (bookBy accounts invoices offers totals settings) pen
+Inv-loop s out₀ ink e first accounts₀ invoices₀ offers₀ totals₀ settings₀ pen₀ at₀ k₀ out accounts invoices offers totals settings pen at k =
+    Going ink s (replayFrom s first (freshModel e)) out₀ (penAt 0 false) out at k (bookBy accounts invoices offers totals settings) pen
 
 abbrev μ-loop : tie.MeasureT-loop
-μ-loop s out₀ ink first accounts₀ invoices₀ offers₀ totals₀ settings₀ pen₀ at₀ k₀ out accounts invoices offers totals settings pen at k =
+μ-loop s out₀ ink e first accounts₀ invoices₀ offers₀ totals₀ settings₀ pen₀ at₀ k₀ out accounts invoices offers totals settings pen at k =
     length s - at
 
-record-read : (c : tie.After-names Inv-loop2 μ-loop2 Inv-loop μ-loop) → readAt (c .before .before .before .before .before .before .before .before .before .before .before .before .before .before .args .s .now) (c .before .before .before .before .before .loop .at) ≡ found (c .before .before .d .given .0 .0) (c .before .before .d .given .0 .1 .0)
+record-read : (c : tie.After-names Inv-loop2 μ-loop2 Inv-loop μ-loop) → readAt (c .before .before .before .before .before .loop .settings .edition) (c .before .before .before .before .before .before .before .before .before .before .before .before .before .before .args .s .now) (c .before .before .before .before .before .loop .at) ≡ found (c .before .before .d .given .0 .0) (c .before .before .d .given .0 .1 .0)
 record-read c = sym (c .before .before .before .before .read .ensures) ∙ ap reading (c .before .before .d .given .1)
 
 shelved : (c : tie.After-names Inv-loop2 μ-loop2 Inv-loop μ-loop) → Shelved (bookBy (c .before .before .before .before .before .loop .accounts) (c .before .before .before .before .before .loop .invoices) (c .before .before .before .before .before .loop .offers) (c .before .before .before .before .before .loop .totals) (c .before .before .before .before .before .loop .settings))
 shelved c = c .before .before .before .before .before .loop .inv .plays .stand .shelved
 
 more : (c : tie.After-names Inv-loop2 μ-loop2 Inv-loop μ-loop) → Fits w64 (c .before .before .before .before .before .loop .k + 1)
-more c = omega (arith, c .before .before .before .before .before .loop .inv .plays .stand .few, ahead _ _ (record-read c))
+more c = omega (arith, c .before .before .before .before .before .loop .inv .plays .stand .few, ahead _ _ _ (record-read c))
 
 below-o : (c : tie.After-spot-by Inv-loop2 μ-loop2 Inv-loop μ-loop) → c .spot-by .result .at < 64
 below-o c = spot-below (shelved (c .before .before .before .before) .offers .shelf) (omega arith) (c .before .before .before .before .names .result .offer) (c .spot-by .ensures)
@@ -129,11 +130,11 @@ slot-o c = ap (λ n. findIn (take n (c .before .before .before .before .before .
 stored-o : (c : tie.Joined5 Inv-loop2 μ-loop2 Inv-loop μ-loop) → c .if5 .offers ≡ storedDeals (next (step (c .before .before .before .before .before .before .before .before .before .before .before .before .before .before .before .before .before .before .before .before .before .before .before)) .offers)
 stored-o c = ⊎-elim (λ x. grows deals-keeping dealRow (λ r. refl) (left-o (c .before .before .before .before .before .before .before .before .before .before .before .before .before .before .before .before .before .before .before .before .before .before .before)) (wrote-o (c .before .before .before .before .before .before .before .before .before)) (x .0 .taken) (x .7 ∙ deal-let-in (x .1 .inv) (good deals-keeping dealRow (λ r. refl) (left-o (c .before .before .before .before .before .before .before .before .before .before .before .before .before .before .before .before .before .before .before .before .before .before .before)) (wrote-o (c .before .before .before .before .before .before .before .before .before))) (x .6 .result) (c .before .before .before .before .before .before .before .before .before .before .before .before .before .before .before .before .before .before .before .before .before .before .before .turn .result .near .deal .row) (few-o (record { before = (c .before); if5 = x .0 })) (rw (x .6 .ensures) (slot-o (record { before = (c .before); if5 = x .0 }))) (omega (arith, x .2 .left)) ∙ ap (λ z. storedDeals (insert (dealsOf (c .before .before .before .before .before .before .before .before .before .if2 .offers)) z (c .before .before .before .before .before .before .before .before .before .before .before .before .before .before .before .before .before .before .before .before .before .before .before .turn .result .near .deal .row))) (x .6 .ensures))) (λ x. x .1 ∙ stays deals-keeping dealRow (λ r. refl) (left-o (c .before .before .before .before .before .before .before .before .before .before .before .before .before .before .before .before .before .before .before .before .before .before .before)) (wrote-o (c .before .before .before .before .before .before .before .before .before)) (x .0 .left)) (c .if5 .came)
 
-fresh-requires : tie.Need-fresh-requires Inv-loop2 μ-loop2 Inv-loop μ-loop
-fresh-requires c κs = search needs
+of-edition-requires : tie.Need-of-edition-requires Inv-loop2 μ-loop2 Inv-loop μ-loop
+of-edition-requires c κs = search needs
 
 loop-holds : tie.Need-loop-holds Inv-loop2 μ-loop2 Inv-loop μ-loop
-loop-holds c = going (c .before .before .before .before .before .before .before .before .pre) (fresh (c .before .before .before .before .before .fresh .ensures))
+loop-holds c = going (c .before .before .before .before .before .before .before .before .pre) (fresh (c .before .before .before .before .before .of-edition .ensures))
 
 read-requires : tie.Need-read-requires Inv-loop2 μ-loop2 Inv-loop μ-loop
 read-requires c κs = search needs
@@ -309,8 +310,8 @@ mul-offers-3 c = omega (arith, c .before .loop2-test .taken, c .before .before .
 element-copy-out-offers-2 : tie.Need-element-copy-out-offers-2 Inv-loop2 μ-loop2 Inv-loop μ-loop
 element-copy-out-offers-2 c = omega (arith, c .before .loop2-test .taken, c .before .before .loop2 .inv .place .within, few-o (c .before .before .before))
 
-mul-t129 : tie.Need-mul-t129 Inv-loop2 μ-loop2 Inv-loop μ-loop
-mul-t129 c = omega (arith, c .before .before .loop2-test .taken, c .before .before .before .loop2 .inv .place .within, few-o (c .before .before .before .before))
+mul-t130 : tie.Need-mul-t130 Inv-loop2 μ-loop2 Inv-loop μ-loop
+mul-t130 c = omega (arith, c .before .before .loop2-test .taken, c .before .before .before .loop2 .inv .place .within, few-o (c .before .before .before .before))
 
 element-set-from-offers : tie.Need-element-set-from-offers Inv-loop2 μ-loop2 Inv-loop μ-loop
 element-set-from-offers c = omega (arith, c .before .before .loop2-test .taken, c .before .before .before .loop2 .inv .place .within, few-o (c .before .before .before .before))
@@ -321,8 +322,8 @@ mul-offers-4 c = omega (arith, c .before .before .loop2-test .taken, c .before .
 element-copy-out-offers-3 : tie.Need-element-copy-out-offers-3 Inv-loop2 μ-loop2 Inv-loop μ-loop
 element-copy-out-offers-3 c = omega (arith, c .before .before .loop2-test .taken, c .before .before .before .loop2 .inv .place .within, few-o (c .before .before .before .before))
 
-mul-t129-2 : tie.Need-mul-t129-2 Inv-loop2 μ-loop2 Inv-loop μ-loop
-mul-t129-2 c = omega (arith, c .before .before .before .loop2-test .taken, c .before .before .before .before .loop2 .inv .place .within, few-o (c .before .before .before .before .before))
+mul-t130-2 : tie.Need-mul-t130-2 Inv-loop2 μ-loop2 Inv-loop μ-loop
+mul-t130-2 c = omega (arith, c .before .before .before .loop2-test .taken, c .before .before .before .before .loop2 .inv .place .within, few-o (c .before .before .before .before .before))
 
 element-set-from-offers-2 : tie.Need-element-set-from-offers-2 Inv-loop2 μ-loop2 Inv-loop μ-loop
 element-set-from-offers-2 c = omega (arith, c .before .before .before .loop2-test .taken, c .before .before .before .before .loop2 .inv .place .within, few-o (c .before .before .before .before .before))
@@ -333,8 +334,8 @@ mul-offers-5 c = omega (arith, c .before .before .before .loop2-test .taken, c .
 element-copy-out-offers-4 : tie.Need-element-copy-out-offers-4 Inv-loop2 μ-loop2 Inv-loop μ-loop
 element-copy-out-offers-4 c = omega (arith, c .before .before .before .loop2-test .taken, c .before .before .before .before .loop2 .inv .place .within, few-o (c .before .before .before .before .before))
 
-mul-t129-3 : tie.Need-mul-t129-3 Inv-loop2 μ-loop2 Inv-loop μ-loop
-mul-t129-3 c = omega (arith, c .before .before .before .before .loop2-test .taken, c .before .before .before .before .before .loop2 .inv .place .within, few-o (c .before .before .before .before .before .before))
+mul-t130-3 : tie.Need-mul-t130-3 Inv-loop2 μ-loop2 Inv-loop μ-loop
+mul-t130-3 c = omega (arith, c .before .before .before .before .loop2-test .taken, c .before .before .before .before .before .loop2 .inv .place .within, few-o (c .before .before .before .before .before .before))
 
 element-set-from-offers-3 : tie.Need-element-set-from-offers-3 Inv-loop2 μ-loop2 Inv-loop μ-loop
 element-set-from-offers-3 c = omega (arith, c .before .before .before .before .loop2-test .taken, c .before .before .before .before .before .loop2 .inv .place .within, few-o (c .before .before .before .before .before .before))
@@ -379,7 +380,7 @@ add-k : tie.Need-add-k Inv-loop2 μ-loop2 Inv-loop μ-loop
 add-k c = more (c .before .before .before .before .before .before .before .before .before .before .before .before .before .before .before .before .before .before .before .before .before .before .before .before .before .before .before .before .before .before .before .before .before .before .before .before .before .before .before .before .before .before .before .before .before .before .before .before .before .before .before)
 
 loop-less : tie.Need-loop-less Inv-loop2 μ-loop2 Inv-loop μ-loop
-loop-less c = omega (arith, ahead _ _ (record-read (c .before .before .before .before .before .before .before .before .before .before .before .before .before .before .before .before .before .before .before .before .before .before .before .before .before .before .before .before .before .before .before .before .before .before .before .before .before .before .before .before .before .before .before .before .before .before .before .before .before .before .before)))
+loop-less c = omega (arith, ahead _ _ _ (record-read (c .before .before .before .before .before .before .before .before .before .before .before .before .before .before .before .before .before .before .before .before .before .before .before .before .before .before .before .before .before .before .before .before .before .before .before .before .before .before .before .before .before .before .before .before .before .before .before .before .before .before .before)))
 
 loop-again : tie.Need-loop-again Inv-loop2 μ-loop2 Inv-loop μ-loop
 loop-again c = going-on (c .before .before .before .before .before .before .before .before .before .before .before .before .before .before .before .before .before .before .before .before .before .before .before .before .before .before .before .before .before .before .before .before .before .before .before .before .before .before .before .before .before .before .before .before .before .before .before .before .before .before .before .before .before .before .before .before .loop .inv) (record-read (c .before .before .before .before .before .before .before .before .before .before .before .before .before .before .before .before .before .before .before .before .before .before .before .before .before .before .before .before .before .before .before .before .before .before .before .before .before .before .before .before .before .before .before .before .before .before .before .before .before .before .before)) (stepped (shelved (c .before .before .before .before .before .before .before .before .before .before .before .before .before .before .before .before .before .before .before .before .before .before .before .before .before .before .before .before .before .before .before .before .before .before .before .before .before .before .before .before .before .before .before .before .before .before .before .before .before .before .before)) (steps (step (c .before .before .before .before .before .before .before .before .before .before .before .before .before .before .before .before .before .before .before .before .before .before .before)) (stored-a (c .before .before .before .before .before .before)) (stored-i (c .before .before .before)) (stored-o c))) (c .before .before .before .before .before .before .before .before .before .before .before .before .before .before .before .before .before .before .before .before .before .put-answer .ensures)
@@ -388,7 +389,7 @@ enum-known-d-2 : tie.Need-enum-known-d-2 Inv-loop2 μ-loop2 Inv-loop μ-loop
 enum-known-d-2 c = search needs
 
 add-put-mark : tie.Need-add-put-mark Inv-loop2 μ-loop2 Inv-loop μ-loop
-add-put-mark c = omega (arith, c .before .before .before .before .before .loop .inv .plays .stand .few, inside _ _ (sym (c .before .before .before .before .read .ensures) ∙ ap reading (c .before .before .d2 .given .1)))
+add-put-mark c = omega (arith, c .before .before .before .before .before .loop .inv .plays .stand .few, inside _ _ _ (sym (c .before .before .before .before .read .ensures) ∙ ap reading (c .before .before .d2 .given .1)))
 
 put-mark-requires : tie.Need-put-mark-requires Inv-loop2 μ-loop2 Inv-loop μ-loop
 put-mark-requires c κs = search needs
@@ -422,7 +423,7 @@ records-spec =
     μ-loop2
     Inv-loop
     μ-loop
-    fresh-requires
+    of-edition-requires
     loop-holds
     read-requires
     enum-known-d
@@ -482,15 +483,15 @@ records-spec =
     element-write-offers
     mul-offers-3
     element-copy-out-offers-2
-    mul-t129
+    mul-t130
     element-set-from-offers
     mul-offers-4
     element-copy-out-offers-3
-    mul-t129-2
+    mul-t130-2
     element-set-from-offers-2
     mul-offers-5
     element-copy-out-offers-4
-    mul-t129-3
+    mul-t130-3
     element-set-from-offers-3
     loop2-less
     loop2-again

@@ -13,11 +13,11 @@ use Rattle.replay.proofs.walk.Tie as tie
 
 returns : tie.Need-returns
 unfolding listingOf
-returns c = let e = sym (c .before .before .before .before .before .before .before .before .before .before .before .header .ensures) ∙ ap opening (c .before .before .before .before .before .before .before .before .before .enum-told .given .1) in (c .before .before .finish .ensures .0 ∙ play-bare _ e (fresh (c .before .before .before .before .fresh .ensures)), bare _ e (fresh (c .before .before .before .before .fresh .ensures)) (c .before .before .before .before .before .before .before .put-mark .ensures) (c .before .before .finish .ensures .1))
+returns c = let e = sym (c .before .before .before .before .before .before .before .before .before .before .before .header .ensures) ∙ ap opening (c .before .before .before .before .before .before .before .before .before .enum-told .given .1) in (c .before .before .finish .ensures .0 ∙ play-bare _ e (fresh (c .before .before .before .before .of-edition .ensures)), bare _ e (fresh (c .before .before .before .before .of-edition .ensures)) (c .before .before .before .before .before .before .before .put-mark .ensures) (c .before .before .finish .ensures .1))
 
 records-requires : tie.Need-records-requires
 unfolding listingOf
-records-requires c κs = opened _ (sym (c .before .before .before .before .header .ensures) ∙ ap opening (c .before .before .h .given .1))
+records-requires c κs = opened _ (sym (c .before .before .before .before .header .ensures) ∙ ap opening (c .before .before .h .given .1)) .within
 
 returns-2 : tie.Need-returns-2
 unfolding listingOf

@@ -6,7 +6,7 @@ use Rattle.text.proofs.put_header.Statement.{statement}
 use Rattle.text.proofs.put_header.Tie as tie
 
 returns : tie.Need-returns
-returns c = retext (c .before .before .put .ensures) (c .before .before .before .before .before .before .write-header .ensures .1 ∙ header-laid)
+returns c = retext (c .before .before .put .ensures) (c .before .before .before .before .before .before .write-header .ensures .1 ∙ header-laid _)
 
 pub put-header-spec : {M : Type 1} → statement M
 put-header-spec =

@@ -16,13 +16,13 @@ abbrev zeros : List ℕ
 zeros = replicate 102 0
 
 abbrev whole : tie.After-encode-parts → List ℕ
-whole c = recordOf (c .before .before .before .args .tag) (c .before .before .before .args .numbers)
+whole c = recordOf (c .before .before .before .args .edition) (c .before .before .before .args .tag) (c .before .before .before .args .numbers)
 
 room : (c : tie.After-encode-parts) → length (whole c) ≤ length zeros
-room c = record-room (c .before .before .before .args .tag) (c .before .before .before .args .numbers)
+room c = record-room (c .before .before .before .args .edition) (c .before .before .before .args .tag) (c .before .before .before .args .numbers)
 
 put : (c : tie.After-encode-parts) {n : ℕ} → c .encode-parts .result ≡ Bytes n
-    → (n ≤ length (c .encode-parts .last .1 .1 .0)) × (take n (c .encode-parts .last .1 .1 .0) ≡ whole c)
+    → (n ≤ length (c .encode-parts .last .1 .1 .1 .0)) × (take n (c .encode-parts .last .1 .1 .1 .0) ≡ whole c)
 put c e = taken (whole c) zeros (room c) (c .encode-parts .ensures .1) (count-is (whole c) zeros (room c) (c .encode-parts .ensures .0) e)
 
 returns : tie.Need-returns

@@ -1,4 +1,5 @@
-//! How often each command gave each answer, and which refusing lines of the original were met.
+//! How often each command gave each answer, which paths were walked and, where the original answers,
+//! which of its refusing lines were met.
 
 mod lines;
 mod paths;
@@ -6,10 +7,11 @@ mod paths;
 use std::collections::BTreeMap;
 use std::fmt::Write;
 
-use journal::{Command, KINDS};
-use layer::{Source, Verdict};
+use journal::{kinds, Command};
+use layer::Source;
 use side::Book;
 
+use crate::reference::Answer;
 use lines::{refusing_lines, BEYOND};
 use paths::{names, walked};
 
@@ -43,8 +45,8 @@ pub const ALLOWED: [(u8, &[usize]); 24] = [
 
 const ANSWERS: usize = 13;
 
-#[derive(Default)]
 pub struct Coverage {
+    edition: u64,
     counts: BTreeMap<(u8, usize), u64>,
     sources: BTreeMap<Source, u64>,
     lines: BTreeMap<u32, u64>,
@@ -52,6 +54,11 @@ pub struct Coverage {
 }
 
 impl Coverage {
+    pub fn of(edition: u64) -> Coverage {
+        let (counts, sources) = (BTreeMap::new(), BTreeMap::new());
+        Coverage { edition, counts, sources, lines: BTreeMap::new(), paths: BTreeMap::new() }
+    }
+
     /// Notes the paths that a command walked from one book to the next.
     pub fn add_paths(&mut self, command: &Command, answer: u64, before: u64, books: [&Book; 2]) {
         for path in walked(command, answer, before, books) {
@@ -62,12 +69,13 @@ impl Coverage {
     /// How often each path was walked.
     pub fn paths(&self) -> String {
         let count = |path| self.paths.get(path).copied().unwrap_or(0);
-        names().map(|path| format!("{:>10} {path}\n", count(path))).collect()
+        names(self.edition).map(|path| format!("{:>10} {path}\n", count(path))).collect()
     }
 
-    pub fn add(&mut self, command: &Command, verdict: &Verdict) {
+    pub fn add(&mut self, command: &Command, answer: &Answer) {
         let tag = command.numbers().0;
-        *self.counts.entry((tag, verdict.number as usize)).or_default() += 1;
+        *self.counts.entry((tag, answer.number as usize)).or_default() += 1;
+        let Some(verdict) = answer.verdict else { return };
         *self.sources.entry(verdict.source).or_default() += 1;
         if verdict.line > 0 {
             *self.lines.entry(verdict.line).or_default() += 1;
@@ -83,7 +91,7 @@ impl Coverage {
         let mut out = format!("{:<21}", "command");
         (0..ANSWERS).for_each(|answer| write!(out, "{answer:>8}").unwrap());
         out.push('\n');
-        for kind in &KINDS {
+        for kind in kinds(self.edition) {
             write!(out, "{:02X} {:<18}", kind.tag, kind.name).unwrap();
             for answer in 0..ANSWERS {
                 match self.count(kind.tag, answer) {
@@ -96,7 +104,7 @@ impl Coverage {
         out
     }
 
-    /// Where the answers came from.
+    /// Where the original's answers came from.
     pub fn sources(&self) -> String {
         let named = |source: &Source| match source {
             Source::Accepted => "accepted",
@@ -127,14 +135,19 @@ impl Coverage {
     }
 
     pub fn unwalked(&self) -> Vec<String> {
-        let unwalked = names().filter(|path| !self.paths.contains_key(path));
+        let unwalked = names(self.edition).filter(|path| !self.paths.contains_key(path));
         unwalked.map(|path| format!("never: {path}")).collect()
+    }
+
+    /// Whether it was the original that answered.
+    pub fn of_original(&self) -> bool {
+        self.edition == layer::EDITION
     }
 
     /// The lines of the original that can refuse and never did, apart from those that no command
     /// of the journal can reach.
     pub fn unmet_lines(&self) -> Vec<String> {
-        let lines = refusing_lines();
+        let lines = if self.of_original() { refusing_lines() } else { Vec::new() };
         let unmet = lines.iter().filter(|(line, _)| !self.lines.contains_key(line));
         let owed = unmet.filter(|(line, _)| !BEYOND.iter().any(|(beyond, _)| beyond == line));
         owed.map(|(line, text)| format!("line {line} never refused: {text}")).collect()
@@ -153,6 +166,19 @@ mod test {
 
     #[test]
     fn every_command_has_its_answers() {
-        assert!(KINDS.iter().zip(ALLOWED).all(|(kind, (tag, _))| kind.tag == tag));
+        let tags = kinds(journal::LATEST).map(|kind| kind.tag);
+        assert!(tags.eq(ALLOWED.iter().map(|(tag, _)| *tag)));
+    }
+
+    #[test]
+    fn the_second_edition_owes_its_refusals() {
+        let owed = |edition| Coverage::of(edition).unwalked();
+        let new = [
+            "never: an amendment above the invoice's amount is refused",
+            "never: a counter above the invoice's amount is refused",
+            "never: an amendment is refused for its missing invoice",
+        ];
+        assert!(new.iter().all(|path| owed(2).iter().any(|owed| owed == path)));
+        assert!(new.iter().all(|path| owed(1).iter().all(|owed| owed != path)));
     }
 }

@@ -1,15 +1,18 @@
 //! Paths that a comparison of some length must have walked.
 
 use journal::{Command, Numbers};
-use side::{Book, Offer, Round};
+use plain::edition::{holds_amount, most_rounds};
+use side::{Book, Invoice, Offer, Round};
 
-/// An answered command on an offer, with the offer before and after it.
+/// An answered command on an offer, with the offer before and after it and the invoice.
 struct Walk<'a> {
     tag: u8,
     numbers: Numbers,
     answer: u64,
     was: &'a Offer,
     is: &'a Offer,
+    invoice: Option<&'a Invoice>,
+    most_rounds: usize,
 }
 
 type Terms = (u64, u64, u64);
@@ -57,6 +60,43 @@ impl Walk<'_> {
         let met = if self.tag == AMEND { self.meets_latest() } else { present == self.asked() };
         self.is_round() && met
     }
+
+    /// A round by its party and with terms within their ranges: the amount is tested next.
+    fn reaches_amount(&self, tag: u8) -> bool {
+        let (amount, rate, duration) = self.asked();
+        let ranges = (1..=1_000_000_000_000).contains(&amount)
+            && (1..=10_000).contains(&rate)
+            && (86_400..=31_536_000).contains(&duration);
+        self.tag == tag && ranges && self.by_party()
+    }
+
+    /// The lender amends, the originator counters.
+    fn by_party(&self) -> bool {
+        let originator = self.invoice.map(|row| row.originator);
+        let party = if self.tag == AMEND { Some(self.was.lender) } else { originator };
+        party == Some(self.numbers[0x02])
+    }
+
+    /// By how much the amount is above the invoice's; 0 where it is not.
+    fn above(&self) -> u64 {
+        let invoiced = self.invoice.map_or(u64::MAX, |row| row.amount as u64);
+        (self.asked().0 as i64).max(0).unsigned_abs().saturating_sub(invoiced)
+    }
+
+    /// Refused for an amount above the invoice's, whatever the tests after it would say.
+    fn refused_above(&self, tag: u8) -> bool {
+        self.reaches_amount(tag) && self.above() > 0 && self.answer == 3
+    }
+
+    fn is_invoiced(&self) -> bool {
+        self.invoice.is_some_and(|row| row.amount as u64 == self.asked().0)
+    }
+
+    /// The negotiation would refuse the round with 7: the offer is not Pending, or it is decided or over.
+    fn is_late(&self) -> bool {
+        let over = !self.was.rounds.is_empty() && self.now() > self.was.deadline;
+        self.was.status != 0 || self.was.outcome != 0 || over
+    }
 }
 
 type Path = (&'static str, fn(&Walk) -> bool);
@@ -78,9 +118,12 @@ const ON_OFFERS: [Path; 15] = [
     ("terms agree and the agreement is refused: the invoice is no longer Pending", |walk| {
         walk.agrees() && walk.was.status == 0 && walk.was.outcome == 0 && walk.answer == 7
     }),
-    ("a twelfth round is added", |walk| walk.adds_round() && walk.is.rounds.len() == 12),
-    ("a thirteenth round is refused", |walk| {
-        let last = walk.was.rounds.len() == 12 && walk.numbers[0x09] == 12;
+    ("the last round that an offer may have is added", |walk| {
+        walk.adds_round() && walk.is.rounds.len() == walk.most_rounds
+    }),
+    ("a round more is refused", |walk| {
+        let rounds = walk.was.rounds.len();
+        let last = rounds == walk.most_rounds && walk.numbers[0x09] == rounds as u64;
         walk.is_round() && last && walk.was.outcome == 0 && walk.answer == 7
     }),
     ("a round is added at the very deadline", |walk| {
@@ -100,11 +143,52 @@ const ON_OFFERS: [Path; 15] = [
     }),
 ];
 
+/// Where the amount is held to the invoice's.
+const ON_AMOUNTS: [Path; 11] = [
+    ("an amendment above the invoice's amount is refused", |walk| walk.refused_above(AMEND)),
+    ("a counter above the invoice's amount is refused", |walk| walk.refused_above(COUNTER)),
+    ("an amendment is refused for its missing invoice", |walk| {
+        let missing = walk.reaches_amount(AMEND) && walk.invoice.is_none();
+        missing && !walk.agrees() && walk.answer == 4
+    }),
+    ("an amendment one above the invoice's amount is refused", |walk| {
+        walk.refused_above(AMEND) && walk.above() == 1
+    }),
+    ("a counter one above the invoice's amount is refused", |walk| {
+        walk.refused_above(COUNTER) && walk.above() == 1
+    }),
+    ("an amendment at the invoice's amount is accepted", |walk| {
+        walk.accepted(AMEND) && walk.is_invoiced()
+    }),
+    ("a counter at the invoice's amount is accepted", |walk| {
+        walk.accepted(COUNTER) && walk.is_invoiced()
+    }),
+    (
+        "an amendment above the invoice's amount is refused for it, not for the negotiation",
+        |walk| walk.refused_above(AMEND) && walk.is_late(),
+    ),
+    ("a counter above the invoice's amount is refused for it, not for the negotiation", |walk| {
+        walk.refused_above(COUNTER) && walk.is_late()
+    }),
+    ("an amendment above the invoice's amount is refused for its caller", |walk| {
+        walk.tag == AMEND && walk.above() > 0 && walk.answer == 6
+    }),
+    ("a counter above the invoice's amount is refused for its caller", |walk| {
+        walk.tag == COUNTER && walk.above() > 0 && walk.answer == 6
+    }),
+];
+
 const FULL: &str = "a table of 64 rows refuses a row";
 const BACK: &str = "a command is accepted at an earlier time than the one before it";
 
-pub(super) fn names() -> impl Iterator<Item = &'static str> {
-    ON_OFFERS.iter().map(|(name, _)| *name).chain([FULL, BACK])
+fn on_offers(edition: u64) -> impl Iterator<Item = &'static Path> {
+    let on_amounts: &[Path] = if holds_amount(edition) { &ON_AMOUNTS } else { &[] };
+    ON_OFFERS.iter().chain(on_amounts)
+}
+
+/// The paths that are to be walked in an edition.
+pub(super) fn names(edition: u64) -> impl Iterator<Item = &'static str> {
+    on_offers(edition).map(|(name, _)| *name).chain([FULL, BACK])
 }
 
 /// The paths that an answered command walked, from the books before and after it.
@@ -116,11 +200,13 @@ pub(super) fn walked(
 ) -> Vec<&'static str> {
     let (tag, numbers) = command.numbers();
     let offer = |book: &'_ Book| book.offers.iter().position(|offer| offer.id == numbers[0x03]);
-    let mut walked = Vec::new();
+    let (mut walked, edition) = (Vec::new(), books[0].edition);
     if let (Some(was), Some(is)) = (offer(books[0]), offer(books[1])) {
         let (was, is) = (&books[0].offers[was], &books[1].offers[is]);
-        let walk = Walk { tag, numbers, answer, was, is };
-        let paths = ON_OFFERS.iter().filter(|(_, path)| path(&walk));
+        let invoice = books[0].invoices.iter().find(|row| row.id == was.invoice);
+        let most_rounds = most_rounds(edition);
+        let walk = Walk { tag, numbers, answer, was, is, invoice, most_rounds };
+        let paths = on_offers(edition).filter(|(_, path)| path(&walk));
         walked.extend(paths.map(|(name, _)| *name));
     }
     walked.extend((answer == 12).then_some(FULL));

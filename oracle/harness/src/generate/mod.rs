@@ -73,7 +73,7 @@ impl Generator {
     /// Rows that are no longer Pending are made up for.
     fn tag(&mut self, book: &Book) -> u8 {
         let invoices = book.invoices.iter().filter(|row| row.status == 0).count();
-        let offers = book.offers.iter().filter(|row| self.is_open(row)).count();
+        let offers = book.offers.iter().filter(|row| self.is_open(book, row)).count();
         let wanted = |rows: usize, live: usize, aim: usize| rows < MOST_ROWS && live < aim;
         let raised = |tag: u8, weight: u64| match tag {
             0x21 if book.accounts.len() < self.plan.accounts => 80,

@@ -1,9 +1,13 @@
 //! Commands on offers: creating, negotiating, settling, scheduling.
 
 use journal::Command;
+use plain::edition::holds_amount;
 use side::{Book, Offer};
 
 use super::{Generator, DAY, TRILLION, YEAR};
+
+/// Amount, rate and duration.
+type Terms = (i64, u32, u64);
 
 impl Generator {
     pub(super) fn create(&mut self, book: &Book) -> Command {
@@ -42,11 +46,13 @@ impl Generator {
             0x33 => Command::AcceptOffer { now, caller: originator, id },
             0x34 => Command::RejectOffer { now, caller: originator, id },
             0x35 => {
-                let (amount, rate, duration) = self.amended(offer);
+                let terms = self.amended(offer);
+                let (amount, rate, duration) = self.at_invoiced(book, offer, terms);
                 Command::AmendOffer { now, caller: offer.lender, id, amount, rate, duration, round }
             }
             0x36 => {
-                let (amount, rate, duration) = self.countered(offer);
+                let terms = self.countered(offer);
+                let (amount, rate, duration) = self.at_invoiced(book, offer, terms);
                 Command::CounterOffer { now, caller: originator, id, amount, rate, duration, round }
             }
             0x37 => Command::CloseNegotiation { now, caller: party, id },
@@ -72,7 +78,19 @@ impl Generator {
         count.clamp(1, 1_200) as u32
     }
 
-    fn amended(&mut self, offer: &Offer) -> (i64, u32, u64) {
+    /// Where the amount is held to the invoice's, it is now and then that one or a neighbour of it.
+    fn at_invoiced(&mut self, book: &Book, offer: &Offer, terms: Terms) -> Terms {
+        let invoice = book.invoices.iter().find(|row| row.id == offer.invoice);
+        match invoice {
+            Some(row) if holds_amount(book.edition) && self.chance.percent(15) => {
+                let beside = self.beside(row.amount as u64).clamp(1, TRILLION);
+                (beside as i64, terms.1, terms.2)
+            }
+            _ => terms,
+        }
+    }
+
+    fn amended(&mut self, offer: &Offer) -> Terms {
         let counters: Vec<_> = offer.rounds.iter().filter(|round| round.party == 1).collect();
         let terms = counters.iter().map(|round| (round.amount, round.rate as u32, round.duration));
         let terms: Vec<_> = terms.collect();
@@ -88,7 +106,7 @@ impl Generator {
         }
     }
 
-    fn countered(&mut self, offer: &Offer) -> (i64, u32, u64) {
+    fn countered(&mut self, offer: &Offer) -> Terms {
         if self.chance.percent(self.plan.agreeing / 2) {
             return present(offer);
         }
@@ -102,7 +120,7 @@ impl Generator {
     }
 
     /// Terms that differ from these in one figure or in all.
-    fn near(&mut self, terms: (i64, u32, u64)) -> (i64, u32, u64) {
+    fn near(&mut self, terms: Terms) -> Terms {
         let (amount, rate, duration) = terms;
         match self.chance.below(5) {
             0 => (amount % TRILLION as i64 + 1, rate, duration),
@@ -114,6 +132,6 @@ impl Generator {
     }
 }
 
-fn present(offer: &Offer) -> (i64, u32, u64) {
+fn present(offer: &Offer) -> Terms {
     (offer.amount, offer.rate as u32, offer.duration)
 }

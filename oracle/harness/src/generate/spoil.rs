@@ -1,6 +1,7 @@
 //! Spoiling one field of a command.
 
-use journal::{listed, Command, NARROW};
+use journal::{Command, NARROW};
+use plain::edition::most_rounds;
 use side::Book;
 
 use super::{Generator, DAY, MOST_HELD, TRILLION, YEAR};
@@ -9,7 +10,7 @@ impl Generator {
     /// The command with one field replaced by another's value, an edge or anything.
     pub(super) fn spoil(&mut self, command: &Command, book: &Book) -> Command {
         let (tag, mut numbers) = command.numbers();
-        let fields = listed(tag).expect("a command's tag").fields;
+        let fields = command.kind().fields(book.edition);
         let field = self.chance.pick(&fields[1..]);
         let place = &mut numbers[field as usize];
         *place = match self.chance.below(10) {
@@ -24,6 +25,7 @@ impl Generator {
     }
 
     fn spoiled_field(&mut self, field: u8, book: &Book) -> u64 {
+        let last = most_rounds(book.edition) as u64;
         match field {
             0x02 => match self.chance.below(4) {
                 0 => self.new_id(),
@@ -37,7 +39,7 @@ impl Generator {
             0x05 | 0x0F => self.edge_amount(),
             0x06 => self.chance.pick(&[0, 1, 10_000, 10_001, u32::MAX.into()]),
             0x07 => self.chance.pick(&[0, DAY - 1, DAY, YEAR, YEAR + 1, u64::MAX]),
-            0x09 => self.chance.pick(&[0, 1, 11, 12, 13, u32::MAX.into()]),
+            0x09 => self.chance.pick(&[0, 1, last - 1, last, last + 1, u32::MAX.into()]),
             0x0A => self.chance.pick(&[0, 1, 1_200, 1_201, u32::MAX.into()]),
             0x0B => self.chance.pick(&[0, 1, 2, 3, 4, 5, 6, u32::MAX.into()]),
             0x0E => self.chance.pick(&[0, 1, 2, 32, 33, u32::MAX.into()]),

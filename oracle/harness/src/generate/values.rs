@@ -1,5 +1,6 @@
 //! Times, ids, figures and rows to put into commands.
 
+use plain::edition::most_rounds;
 use side::{Book, Offer};
 
 use super::{Generator, DAY, TRILLION, YEAR};
@@ -77,14 +78,16 @@ impl Generator {
     }
 
     /// Whether rounds may still be added at the present time.
-    pub(super) fn is_open(&self, offer: &Offer) -> bool {
+    pub(super) fn is_open(&self, book: &Book, offer: &Offer) -> bool {
         let running = offer.rounds.is_empty() || self.clock <= offer.deadline;
-        offer.status == 0 && offer.outcome == 0 && running && offer.rounds.len() < 12
+        let room = offer.rounds.len() < most_rounds(book.edition);
+        offer.status == 0 && offer.outcome == 0 && running && room
     }
 
     /// The offer that this command is about: the focus, or any, preferring those in negotiation.
     pub(super) fn offer<'a>(&mut self, book: &'a Book) -> Option<&'a Offer> {
-        let running: Vec<_> = book.offers.iter().filter(|offer| self.is_open(offer)).collect();
+        let running = book.offers.iter().filter(|offer| self.is_open(book, offer));
+        let running: Vec<_> = running.collect();
         let focus = running.iter().copied().find(|offer| offer.id == self.focus);
         if focus.is_some() && self.chance.percent(70) {
             return focus;

@@ -1,15 +1,15 @@
 //! Journals with one malformed record, of each kind.
 
-use journal::{field, journal, session, Command, HEADER};
+use journal::{field, header, journal, session, Command};
 
 use super::samples::{sample, Sample};
 
 /// The session's first six commands, then a record that is malformed in one way, then its seventh.
 pub(super) fn malformed() -> Vec<Sample> {
     let session = session();
-    let before = journal(&session[..6]);
+    let before = journal(1, &session[..6]);
     let mut counter = Vec::new();
-    journal::write(&session[6], &mut counter);
+    journal::write(1, &session[6], &mut counter);
     let follow = |record: &[u8]| [&before, record, &counter].concat();
     let cut = |record: &[u8]| [&before, record].concat();
     let mut samples = Vec::new();
@@ -20,7 +20,7 @@ pub(super) fn malformed() -> Vec<Sample> {
         let record = [&[tag], &counter[1..]].concat();
         put(&format!("tag-{tag:02x}"), "an unknown command tag", follow(&record));
     }
-    put("header-again", "the header as a record", follow(&HEADER));
+    put("header-again", "the header as a record", follow(&header(1)));
     put("one-byte", "one byte at the end", cut(&counter[..1]));
     put("two-bytes", "two bytes at the end", cut(&counter[..2]));
     put("three-bytes", "a tag and a length at the end", cut(&counter[..3]));
@@ -65,7 +65,8 @@ type Fields = Vec<(u8, u64)>;
 fn wrong_insides(command: &Command) -> Vec<(&'static str, &'static str, Vec<u8>)> {
     let (_, numbers) = command.numbers();
     let number = |tag: u8| numbers[tag as usize];
-    let good: Vec<_> = command.kind().fields.iter().map(|tag| (*tag, number(*tag))).collect();
+    let tags = command.kind().fields(1).into_iter();
+    let good: Vec<_> = tags.map(|tag| (tag, number(tag))).collect();
     let inside = |fields: &[(u8, u64)]| record_of(0x36, fields)[3..].to_vec();
     let with = |change: &dyn Fn(&mut Fields)| {
         let mut fields = good.clone();

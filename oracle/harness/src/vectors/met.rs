@@ -3,10 +3,10 @@
 
 use std::collections::BTreeSet;
 
-use layer::Original;
 use side::Book;
 
 use super::samples::Sample;
+use crate::reference::Reference;
 
 /// Each kind of question with the sorts of answer that it is to draw, as `sort` numbers them.
 const OWED: [(&str, &[u64]); 20] = [
@@ -49,9 +49,9 @@ const EDGES: [(&str, &str); 9] = [
 pub(super) fn unmet(samples: &[Sample], answers: &[String]) -> Option<String> {
     let mut met = BTreeSet::new();
     for (sample, answers) in samples.iter().zip(answers) {
-        let mut original = Original::default();
-        original.replay(&sample.bytes);
-        let (book, mut lines) = (original.book(), answers.lines());
+        let mut reference = Reference::of_journal(&sample.bytes);
+        reference.side().listing(&sample.bytes);
+        let (book, mut lines) = (reference.book(), answers.lines());
         for question in sample.questions.lines() {
             let kind = question.split(' ').next().unwrap_or_default();
             let answer = lines.next().unwrap_or_default();

@@ -1,5 +1,6 @@
 //! The fixed sample: journals with the original's listings, and questions about them with the
-//! original's answers, as files that are replayed where no Rust is at hand.
+//! original's answers, as files that are replayed where no Rust is at hand. For journals of later
+//! editions than the first both come from the plain model.
 
 mod malformed;
 mod met;
@@ -9,33 +10,31 @@ mod samples;
 use std::collections::BTreeSet;
 use std::path::Path;
 
-use journal::{Command, Step as Read, HEADER, SESSION_LISTING};
-use layer::{Original, Source, Verdict};
+use journal::{Command, Step as Read, HEADER_SIZE, SESSION_LISTING};
+use layer::Source;
+use plain::Plain;
 
 use crate::coverage::ALLOWED;
 use crate::damage::answers_differ;
-use crate::script::{steps, Step};
+use crate::reference::{self, read_as, Answer, Reference};
+use crate::script::{edition, steps};
 use met::unmet;
-use plain::Plain;
 use samples::SCRIPTS;
 pub use samples::{samples, Sample};
-use side::Side;
 
 /// Answers that document 01 allows and that no journal of 32,768 bytes reaches: balances and
 /// totals near 4×10^15 and a count near 1,000,000. The comparison starts from given rows there.
 const BEYOND_A_JOURNAL: [(u8, usize); 6] =
     [(0x22, 11), (0x31, 11), (0x33, 11), (0x35, 11), (0x36, 11), (0x43, 11)];
 
-/// What the original answers to each well-formed record that the replay program would apply.
-fn answers(bytes: &[u8]) -> Vec<(Command, Verdict)> {
-    let mut original = Original::default();
-    let mut answers = Vec::new();
-    let mut at = HEADER.len();
-    if bytes.len() > side::PROGRAM_HOLDS || !journal::starts_well(bytes) {
-        return answers;
-    }
-    while let Read::Command(command, next) = journal::read(bytes, at) {
-        answers.push((command, original.run(&command)));
+/// The answers to each well-formed record that the replay program would apply.
+fn answers(bytes: &[u8]) -> Vec<(Command, Answer)> {
+    let edition = journal::edition_of(bytes).filter(|_| bytes.len() <= side::PROGRAM_HOLDS);
+    let Some(edition) = edition else { return Vec::new() };
+    let (mut reference, mut answers) = (Reference::of(edition), Vec::new());
+    let mut at = HEADER_SIZE;
+    while let Read::Command(command, next) = journal::read(edition, bytes, at) {
+        answers.push((command, reference.run(&command)));
         at = next;
     }
     answers
@@ -50,7 +49,7 @@ fn files() -> Result<Vec<(String, Vec<u8>)>, String> {
     let mut files = vec![("INDEX.md".to_string(), index(&samples).into_bytes())];
     for (sample, answers) in samples.into_iter().zip(answers) {
         let name = sample.name;
-        let listing = Original::default().replay(&sample.bytes);
+        let listing = reference::listing(&sample.bytes);
         files.push((format!("{name}.listing"), listing.into_bytes()));
         files.push((format!("{name}.journal"), sample.bytes));
         if !sample.questions.is_empty() {
@@ -61,8 +60,8 @@ fn files() -> Result<Vec<(String, Vec<u8>)>, String> {
     Ok(files)
 }
 
-/// The original's answers to each sample's questions. The plain model must give the same, and
-/// together they hold every answer that is owed.
+/// The answers to each sample's questions. Where they are the original's the plain model must give
+/// the same, and together they hold every answer that is owed.
 fn check_answers(samples: &[Sample]) -> Result<Vec<String>, String> {
     let mut all = Vec::new();
     for sample in samples {
@@ -70,7 +69,7 @@ fn check_answers(samples: &[Sample]) -> Result<Vec<String>, String> {
             let name = &sample.name;
             return Err(format!("{name}: the original answers\n{one}the plain model\n{two}"));
         }
-        all.push(Original::default().answers(&sample.bytes, &sample.questions)?);
+        all.push(reference::answers(&sample.bytes, &sample.questions)?);
     }
     match unmet(samples, &all) {
         Some(unmet) => Err(unmet),
@@ -89,7 +88,7 @@ pub fn write(folder: &str) -> Result<(), String> {
     Ok(())
 }
 
-/// Tests that a folder holds the sample as the original answers it now, and no other file.
+/// Tests that a folder holds the sample as it is answered now, and no other file.
 pub fn check_folder(folder: &str) -> Result<(), String> {
     let folder = Path::new(folder);
     let fault = |error| format!("{}: {error}", folder.display());
@@ -97,30 +96,29 @@ pub fn check_folder(folder: &str) -> Result<(), String> {
     for (name, bytes) in &files {
         let stored = std::fs::read(folder.join(name));
         if stored.map_err(|error| format!("{name}: {error}"))? != *bytes {
-            return Err(format!("{name} is not what the original gives"));
+            return Err(format!("{name} is not what the sample has"));
         }
     }
     let stored = std::fs::read_dir(folder).map_err(fault)?.count();
     if stored != files.len() {
         return Err(format!("{stored} files, not {}", files.len()));
     }
-    println!("{} files as the original gives them", files.len());
+    println!("{} files as the sample has them", files.len());
     Ok(())
 }
 
 /// The sample holds what it is for: document 01's session, answers that were worked out by hand,
 /// and every answer that a journal reaches.
 fn check(samples: &[Sample]) -> Result<(), String> {
-    let session = Original::default().replay(&samples[0].bytes);
-    if session != SESSION_LISTING {
+    if reference::listing(&samples[0].bytes) != SESSION_LISTING {
         return Err("the original's listing of the session is not document 01's".to_string());
     }
     for (name, text) in SCRIPTS {
-        by_hand(name, &steps(text))?;
+        by_hand(name, text)?;
     }
     let answered = samples.iter().flat_map(|sample| answers(&sample.bytes));
     let seen: BTreeSet<_> =
-        answered.map(|(command, verdict)| (command.numbers().0, verdict.number as usize)).collect();
+        answered.map(|(command, answer)| (command.numbers().0, answer.number as usize)).collect();
     let owed =
         ALLOWED.iter().flat_map(|(tag, answers)| answers.iter().map(|answer| (*tag, *answer)));
     let missing = owed.filter(|pair| !seen.contains(pair) && !BEYOND_A_JOURNAL.contains(pair));
@@ -130,13 +128,14 @@ fn check(samples: &[Sample]) -> Result<(), String> {
     }
 }
 
-fn by_hand(name: &str, steps: &[Step]) -> Result<(), String> {
-    let mut original = Original::default();
-    for (number, (command, expected)) in (1..).zip(steps) {
-        let answer = original.run(command).number;
-        if answer != *expected {
+fn by_hand(name: &str, text: &str) -> Result<(), String> {
+    let mut reference = Reference::of(edition(text));
+    for (number, (command, expected)) in (1..).zip(steps(text)) {
+        let answer = reference.run(&command).number;
+        if answer != expected {
+            let side = reference.side().name();
             return Err(format!(
-                "{name}, command {number}, {command}: by hand {expected}, the original {answer}"
+                "{name}, command {number}, {command}: by hand {expected}, {side} {answer}"
             ));
         }
     }
@@ -147,18 +146,21 @@ fn index(samples: &[Sample]) -> String {
     let mut out = INDEX_HEAD.to_string();
     for sample in samples {
         let answers = answers(&sample.bytes);
+        let count = |is: &dyn Fn(&Answer) -> bool| answers.iter().filter(|(_, a)| is(a)).count();
         let by = |sources: &[Source]| {
-            answers.iter().filter(|(_, verdict)| sources.contains(&verdict.source)).count()
+            count(&|answer| answer.verdict.is_some_and(|verdict| sources.contains(&verdict.source)))
         };
         out += &format!(
-            "| {} | {} | {} | {} | {} | {} | {} | {} |\n",
+            "| {} | {} | {} | {} | {} | {} | {} | {} | {} | {} |\n",
             sample.name,
+            read_as(&sample.bytes),
             sample.bytes.len(),
             sample.questions.lines().count(),
-            by(&[Source::Accepted]),
+            count(&|answer| answer.number == 0),
             by(&[Source::Code]),
             by(&[Source::Assert, Source::Other]),
             by(&[Source::Port]),
+            count(&|answer| answer.number != 0 && answer.verdict.is_none()),
             sample.what
         );
     }
@@ -167,18 +169,18 @@ fn index(samples: &[Sample]) -> String {
 
 const INDEX_HEAD: &str = "# Journals with the original's listings
 
-Made by `cargo run --release -p harness -- vectors DIR` in oracle/, from the original's text and no
-other book. NAME.journal is the replay program's input, NAME.listing everything that it prints;
-NAME.questions is the input of the program ask, which answers from that journal, NAME.answers
-everything that it prints.
+Made by `cargo run --release -p harness -- vectors DIR` in oracle/, from the original's text; those of
+later editions than the first, which the original has not, from the plain model. NAME.journal is the
+replay program's input, NAME.listing everything that it prints; NAME.questions is the input of the
+program ask, which answers from that journal, NAME.answers everything that it prints.
 
-The answers to the commands of each journal, by where they come from: accepted by the original; refused with the
+The answers to the commands of each journal, by where they come from: accepted; refused with the
 original's own code; refused by a bare assert of the original or by another contract, where it has no
-code and the number is document 01's for that test; refused by a rule that only the port has. Lines
-with 13 or 14 are the journal's and not counted.
+code and the number is document 01's for that test; refused by a rule that only the port has; refused
+by the plain model. Lines with 13 or 14 are the journal's and not counted.
 
-| journal | bytes | questions | accepted | own code | no code | port | what |
-|---|---|---|---|---|---|---|---|
+| journal | edition | bytes | questions | accepted | own code | no code | port | plain | what |
+|---|---|---|---|---|---|---|---|---|---|
 ";
 
 #[cfg(test)]
@@ -218,9 +220,8 @@ mod test {
     #[test]
     fn the_plain_model_lists_the_same() {
         for sample in samples() {
-            let plain = plain::Plain::default().listing(&sample.bytes);
-            let original = Original::default().replay(&sample.bytes);
-            assert_eq!(String::from_utf8(plain).unwrap(), original, "{}", sample.name);
+            let differ = listings_differ(&mut Plain::default(), &sample.bytes);
+            assert_eq!(differ, None, "{}", sample.name);
         }
     }
 }

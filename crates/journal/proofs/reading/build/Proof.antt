@@ -13,8 +13,8 @@ abbrev args : tie.After-struct-told2 → tie.Start
 args c = c .before .before
 
 -- in the arm of a tag
-at : (k : ℕ) (s : tie.Start) → s .args .tag ≡ k → made k (s .args .f) (s .args .at) (s .args .past) ≡ made (s .args .tag) (s .args .f) (s .args .at) (s .args .past)
-at k s e = ap (λ (t : ℕ). made t (s .args .f) (s .args .at) (s .args .past)) (sym e)
+at : (k : ℕ) (s : tie.Start) → s .args .tag ≡ k → made (s .args .edition) k (s .args .f) (s .args .at) (s .args .past) ≡ made (s .args .edition) (s .args .tag) (s .args .f) (s .args .at) (s .args .past)
+at k s e = ap (λ (t : ℕ). made (s .args .edition) t (s .args .f) (s .args .at) (s .args .past)) (sym e)
 
 amount : (c : tie.After-struct-told2) → ofBits (bitsOf (args c .args .f .amount)) ≡ args c .args .f .amount
 amount c = back (args c .args .f .amount) (c .before .struct-told .given .1 .1 .1 .1 .0 .1)
@@ -23,7 +23,7 @@ fee : (c : tie.After-struct-told2) → ofBits (bitsOf (args c .args .f .fee)) �
 fee c = back (args c .args .f .fee) (c .struct-told2 .given .1 .1 .1 .1 .1 .1 .1 .1 .1 .1 .1 .1 .1 .1 .0 .1)
 
 rest : tie.Need-returns-25
-rest c = sym (not-made (args (c .before) .args .tag) (args (c .before) .args .f) (args (c .before) .args .at) (args (c .before) .args .past) (c .match .rest))
+rest c = sym (not-made (args (c .before) .args .edition) (args (c .before) .args .tag) (args (c .before) .args .f) (args (c .before) .args .at) (args (c .before) .args .past) (c .match .rest))
 
 pub build-spec : {M : Type 1} → statement M
 unfolding made madeIn pick

@@ -1,14 +1,19 @@
 use mathlib.Core.Path.{_≡_, sym, ap, _∙_}
-use mathlib.Core.Bool.{not}
+use mathlib.Core.Bool.{not, _&&_}
+use borrow.Author.Needs.{needs}
 use Rattle.refusal.specs.Refusal.{blacklisted, invalidInput, notFound, unauthorized}
 use Rattle.refusal.specs.RefusalLaws.{fails, passes}
+use Rattle.edition.specs.Edition.{holdsAmount}
 use Rattle.terms.specs.Terms.{termsOk}
-use borrow.Author.Needs.{needs}
+use Rattle.invoice.specs.Invoice as Invoice
 use Rattle.offer.proofs.SeenDeal.counter_refusal.Statement.{statement}
 use Rattle.offer.proofs.SeenDeal.counter_refusal.Tie as tie
 
 valid : (c : tie.After-terms-valid) → not (termsOk (c .before .before .args .t)) ≡ not (c .terms-valid .result)
 valid c = ap not (sym (c .terms-valid .ensures))
+
+covered : (c : tie.After-covers) → holdsAmount (c .before .before .before .before .before .before .before .before .before .before .before .args .edition) && not (Invoice.covers (c .before .before .before .before .before .before .before .before .before .before .before .args .paper .row) (c .before .before .before .before .before .before .before .before .before .before .before .args .t)) ≡ c .before .holds-amount .result && not (c .covers .result)
+covered c = rw (c .before .holds-amount .ensures, c .covers .ensures)
 
 returns : tie.Need-returns
 returns c = fails blacklisted _ (c .if1 .taken)
@@ -41,12 +46,22 @@ returns-5 c =
 
 returns-6 : tie.Need-returns-6
 returns-6 c =
-    passes blacklisted _ (c .before .before .before .before .before .before .before .before .before .before .before .before .if1 .left)
-    (passes invalidInput _ (valid (c .before .before .before .before .before .before .before .before .before .before .before) ∙ c .before .before .before .before .before .before .before .before .before .before .if2 .left)
-    (passes notFound _ (c .before .before .before .before .before .before .before .before .if3 .left)
-    (passes notFound _ (c .before .before .before .before .before .before .if4 .left)
-    (passes unauthorized _ (c .before .before .before .before .if5 .left)
-    (c .refusal .ensures)))))
+    passes blacklisted _ (c .before .before .before .before .before .before .before .before .before .before .before .if1 .left)
+    (passes invalidInput _ (valid (c .before .before .before .before .before .before .before .before .before .before) ∙ c .before .before .before .before .before .before .before .before .before .if2 .left)
+    (passes notFound _ (c .before .before .before .before .before .before .before .if3 .left)
+    (passes notFound _ (c .before .before .before .before .before .if4 .left)
+    (passes unauthorized _ (c .before .before .before .if5 .left)
+    (fails invalidInput _ (covered (c .before) ∙ c .if6 .taken))))))
+
+returns-7 : tie.Need-returns-7
+returns-7 c =
+    passes blacklisted _ (c .before .before .before .before .before .before .before .before .before .before .before .before .before .before .before .if1 .left)
+    (passes invalidInput _ (valid (c .before .before .before .before .before .before .before .before .before .before .before .before .before .before) ∙ c .before .before .before .before .before .before .before .before .before .before .before .before .before .if2 .left)
+    (passes notFound _ (c .before .before .before .before .before .before .before .before .before .before .before .if3 .left)
+    (passes notFound _ (c .before .before .before .before .before .before .before .before .before .if4 .left)
+    (passes unauthorized _ (c .before .before .before .before .before .before .before .if5 .left)
+    (passes invalidInput _ (covered (c .before .before .before .before .before) ∙ c .before .before .before .before .if6 .left)
+    (c .refusal .ensures))))))
 
 pub counter-refusal-spec : {M : Type 1} → statement M
 counter-refusal-spec =
@@ -59,4 +74,7 @@ counter-refusal-spec =
     returns-4
     returns-5
     (λ c κs. search needs)
-    returns-6)
+    (λ c κs. search needs)
+    returns-6
+    (λ c κs. search needs)
+    returns-7)

@@ -27,6 +27,9 @@ tag c = c .before .before .tag-at .result
 abbrev bytes : tie.After-word → List ℕ
 bytes c = drop (c .before .before .before .before .args .at) (c .before .before .before .before .args .s .now)
 
+abbrev edition : tie.After-word → ℕ
+edition c = c .before .before .before .before .args .edition
+
 abbrev first : tie.After-word → ℕ
 first c = c .before .before .before .before .args .first
 
@@ -36,8 +39,8 @@ past c = c .before .before .before .before .args .past
 found : (c : tie.After-word) → tag c ≡ tagIn (first c) (past c) (bytes c)
 found c = c .before .before .tag-at .ensures
 
-here : (c : tie.After-word) → lineBy (tag c) (bytes c) (c .before .before .before .before .args .at) ≡ lineIn (first c) (past c) (bytes c) (c .before .before .before .before .args .at)
-here c = by-tag _ _ _ _ (found c)
+here : (c : tie.After-word) → lineBy (edition c) (tag c) (bytes c) (c .before .before .before .before .args .at) ≡ lineIn (edition c) (first c) (past c) (bytes c) (c .before .before .before .before .args .at)
+here c = by-tag (edition c) _ _ _ _ (found c)
 
 size-is : (c : tie.After-word) → c .word .result .0 ≡ length (wordOf (tag c))
 size-is c = ap (λ (r : Spelling). r .0) (c .word .ensures)
@@ -51,7 +54,7 @@ room c =
     omega (arith, size-is c, leads-room (wordOf (tag c)) (bytes c) (m .stands), length-drop (s .args .at) (s .args .s .now), s .pre)
 
 abbrev there-is : (c : tie.After-numbers-at) → Read
-there-is c = let w = c .before .before .before .before in numbersThere (tag w) (bytes w) (w .before .before .before .before .args .at)
+there-is c = let w = c .before .before .before .before in numbersThere (edition w) (tag w) (bytes w) (w .before .before .before .before .args .at)
 
 read : (c : tie.After-numbers-at) → c .numbers-at .result ≡ numbersFor (c .before .before .before .before .before .before .before .before .args .at + length (wordOf (tag (c .before .before .before .before)))) (there-is c)
 read c =
@@ -61,22 +64,22 @@ read c =
     let b = drop (s .args .at + w .word .result .0) (s .args .s .now) in
     c .numbers-at .ensures
     ∙ ap (λ (r : Listed). numbersFor (s .args .at + w .word .result .0) (readIn (take (r .0) (r .1)) b)) f
-    ∙ ap (λ (l : List ℕ). numbersFor (s .args .at + w .word .result .0) (readIn l b)) (take-padded (fieldsFor (tag w)))
-    ∙ ap (λ (n : ℕ). numbersFor (s .args .at + n) (readIn (fieldsFor (tag w)) (drop (s .args .at + n) (s .args .s .now)))) (size-is w)
-    ∙ ap (λ (l : List ℕ). numbersFor (s .args .at + length (wordOf (tag w))) (readIn (fieldsFor (tag w)) l)) (sym (drop-drop (length (wordOf (tag w))) (s .args .at) (s .args .s .now)))
+    ∙ ap (λ (l : List ℕ). numbersFor (s .args .at + w .word .result .0) (readIn l b)) (take-padded (fieldsFor (edition w) (tag w)))
+    ∙ ap (λ (n : ℕ). numbersFor (s .args .at + n) (readIn (fieldsFor (edition w) (tag w)) (drop (s .args .at + n) (s .args .s .now)))) (size-is w)
+    ∙ ap (λ (l : List ℕ). numbersFor (s .args .at + length (wordOf (tag w))) (readIn (fieldsFor (edition w) (tag w)) l)) (sym (drop-drop (length (wordOf (tag w))) (s .args .at) (s .args .s .now)))
 
 returns : tie.Need-returns
-returns c = c .no-line .ensures ∙ ap lineFor (nameless _ _ _ (c .before .if1 .taken) ∙ by-tag _ _ _ _ (c .before .before .tag-at .ensures))
+returns c = c .no-line .ensures ∙ ap lineFor (nameless _ _ _ _ (c .before .if1 .taken) ∙ by-tag _ _ _ _ _ (c .before .before .tag-at .ensures))
 
 numbers-at-requires : tie.Need-numbers-at-requires
 numbers-at-requires c κs =
     let w = c .before .before .before in
-    (room w, omega (arith, ap (λ (r : Listed). r .0) (c .before .before .listed .ensures), few-fields (tag w)))
+    (room w, omega (arith, ap (λ (r : Listed). r .0) (c .before .before .listed .ensures), few-fields (edition w) (tag w)))
 
 returns-2 : tie.Need-returns-2
 returns-2 c =
     let d = c .before .before .before in
-    c .no-line2 .ensures ∙ ap lineFor (numberless _ _ _ (ap (λ (x : Numbers). x .ok) (sym (read d)) ∙ not-true _ (c .before .if2 .taken)) ∙ here (d .before .before .before .before))
+    c .no-line2 .ensures ∙ ap lineFor (numberless _ _ _ _ (ap (λ (x : Numbers). x .ok) (sym (read d)) ∙ not-true _ (c .before .if2 .taken)) ∙ here (d .before .before .before .before))
 
 -- the byte past the numbers
 last : (c : tie.After-byte) → getD (bytes (c .before .before .before .before .before .before .before)) (length (wordOf (tag (c .before .before .before .before .before .before .before))) + there-is (c .before .before .before) .size) 0 ≡ c .byte .result
@@ -91,7 +94,7 @@ last c =
 returns-3 : tie.Need-returns-3
 returns-3 c =
     let b = c .before .before in
-    c .no-line3 .ensures ∙ ap lineFor (endless _ _ _ (λ e. c .before .if3 .taken (sym (last b) ∙ e)) ∙ here (b .before .before .before .before .before .before .before))
+    c .no-line3 .ensures ∙ ap lineFor (endless _ _ _ _ (λ e. c .before .if3 .taken (sym (last b) ∙ e)) ∙ here (b .before .before .before .before .before .before .before))
 
 returns-4 : tie.Need-returns-4
 returns-4 c =
@@ -103,7 +106,7 @@ returns-4 c =
     let x = d .numbers-at .result in
     let v : x .values ≡ padded (there-is d .values) = ap (λ (y : Numbers). y .values) (read d) in
     let e : x .next + 1 ≡ s .args .at + (n + there-is d .size + 1) = omega (arith, ap (λ (y : Numbers). y .next) (read d)) in
-    let z = lined _ _ _ (w .before .if1 .left) (ap (λ (y : Numbers). y .ok) (sym (read d)) ∙ not-false _ (b .before .if2 .left)) (last b ∙ c .before .before .if3 .left) ∙ here w in
+    let z = lined _ _ _ _ (w .before .if1 .left) (ap (λ (y : Numbers). y .ok) (sym (read d)) ∙ not-false _ (b .before .if2 .left)) (last b ∙ c .before .before .if3 .left) ∙ here w in
     rw (v, e) (ap lineFor z)
 
 pub line-at-spec : {M : Type 1} → statement M

@@ -23,14 +23,14 @@ slice-aggregate-put : tie.Need-slice-aggregate-put
 slice-aggregate-put c = sym (length-take-le _ _ (word-fits (wordOf (c .before .before .before .before .before .args .tag)) (c .before .before .before .word .ensures)))
 
 put-numerals-requires : tie.Need-put-numerals-requires
-put-numerals-requires c κs = omega (arith, ap (λ (r : Listed). r .0) (c .before .before .listed .ensures), few-fields (c .before .before .before .before .before .before .before .before .before .before .before .args .tag))
+put-numerals-requires c κs = omega (arith, ap (λ (r : Listed). r .0) (c .before .before .listed .ensures), few-fields (c .before .before .before .before .before .before .before .before .before .before .before .args .edition) (c .before .before .before .before .before .before .before .before .before .before .before .args .tag))
 
 returns : tie.Need-returns
 unfolding lineOf
 returns c =
     let s = c .before .before .before .before .before .before .before .before .before .before .before .before .before .before .before .before .before .before .before in
     let f = c .before .before .before .before .before .before .before .before .before .before .listed .ensures in
-    let e = ap (λ (r : Listed). numeralsOf (take (r .0) (r .1)) (s .args .numbers)) f ∙ ap (λ (l : List ℕ). numeralsOf l (s .args .numbers)) (take-padded (fieldsFor (s .args .tag))) in
+    let e = ap (λ (r : Listed). numeralsOf (take (r .0) (r .1)) (s .args .numbers)) f ∙ ap (λ (l : List ℕ). numeralsOf l (s .args .numbers)) (take-padded (fieldsFor (s .args .edition) (s .args .tag))) in
     next (retext (c .before .before .before .before .before .before .before .before .before .before .before .before .before .put .ensures) (word-in (wordOf (s .args .tag)) (c .before .before .before .before .before .before .before .before .before .before .before .before .before .before .before .before .before .word .ensures)))
     (next (retext (c .before .before .before .before .before .before .before .put-numerals .ensures) e) (c .before .before .put2 .ensures))
 

@@ -1,0 +1,28 @@
+// What each edition of the rules has.
+ghost use mathlib.Core.Path.{_≡_};
+ghost use Rattle.edition.specs.Edition.{listed, holdsAmount, freshWindow};
+
+pub const FIRST: u32 = 1;
+
+pub const LATEST: u32 = 2;
+
+// Whether there is such an edition.
+pub fn is_listed(edition: u32) -> bool
+    ensures { λ r. ⌜ r ≡ listed edition ⌝ }
+{
+    (FIRST <= edition) & (edition <= LATEST)
+}
+
+// Whether amend and counter hold the amount to the invoice's.
+pub fn holds_amount(edition: u32) -> bool
+    ensures { λ r. ⌜ r ≡ holdsAmount edition ⌝ }
+{
+    2 <= edition
+}
+
+// The window of a fresh book.
+pub fn fresh_window(edition: u32) -> u64
+    ensures { λ r. ⌜ r ≡ freshWindow edition ⌝ }
+{
+    604800
+}
