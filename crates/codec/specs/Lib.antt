@@ -1,0 +1,6 @@
+pub mod Codec
+pub mod Whole
+pub mod Columns
+pub mod Cursor
+pub mod Cursors
+pub mod Puts
