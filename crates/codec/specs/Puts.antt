@@ -29,9 +29,18 @@ module _ {ink : Bool} {l m : List ℕ} {p q : Pen} (tag : ℕ) where
   unfolding column
   puts-column h k w = record { wrote = w; fits = (h, k) }
 
+  -- a number that fits a narrower column
+  pub puts-within : {top v : ℕ} → v ≤ top → Puts ink (whole tag) v l p m q → Puts ink (column tag top) v l p m q
+  unfolding column
+  puts-within h g = record { wrote = g .wrote; fits = (h, g .fits .1) }
+
   pub puts-signed : {v : ℕ} {z : ℤ} → v ≡ bitsOf z → ofBits (bitsOf z) ≡ z → Puts ink (whole tag) v l p m q → Puts ink (signed tag) z l p m q
   unfolding signed via column
   puts-signed {v} {z} e i g = let h : Puts ink (whole tag) (bitsOf z) l p m q = rw e at g in record { wrote = h .wrote; fits = (h .fits, i) }
+
+  -- a signed argument is known by its bits
+  pub as-signed : {z : ℤ} → ofBits (bitsOf z) ≡ z → Puts ink (signed tag) (ofBits (bitsOf z)) l p m q → Puts ink (signed tag) z l p m q
+  as-signed e g = rw e at g
 
   pub puts-flag : {v : ℕ} {b : Bool} → v ≡ oneIf b → Puts ink (column tag 1) v l p m q → Puts ink (flag tag) b l p m q
   unfolding flag via column

@@ -5,7 +5,7 @@ ghost use mathlib.Core.Bool.{true};
 ghost use Prim.Native.Nat.{_-_, _^_};
 ghost use Rattle.codec.specs.Cursor.{cursor};
 ghost use Rattle.codec.specs.Cursors.{Next, Count};
-ghost use Rattle.codec.specs.Columns.{whole, half};
+ghost use Rattle.codec.specs.Columns.{whole, half, signed, flag};
 ghost use Rattle.codec.specs.Puts.{Puts};
 
 // The largest number of a column, by the type that a book holds it in.
@@ -104,4 +104,21 @@ pub fn put_half(out: &mut [u8], pen: Pen, ink: bool, tag: u8, v: u32) -> Pen
     ensures { λ r. ⌜ Puts ink (half tag) v (now (out .entry)) pen (now (out .exit)) r ⌝ }
 {
     put(out, pen, ink, tag, v as u64)
+}
+
+// The same of a signed number, by its two's complement.
+pub fn put_signed(out: &mut [u8], pen: Pen, ink: bool, tag: u8, v: i64) -> Pen
+    ensures { λ r. ⌜ Puts ink (signed tag) v (now (out .entry)) pen (now (out .exit)) r ⌝ }
+{
+    put(out, pen, ink, tag, money::bits(v))
+}
+
+// The same of a flag: 1 or 0.
+pub fn put_flag(out: &mut [u8], pen: Pen, ink: bool, tag: u8, v: bool) -> Pen
+    ensures { λ r. ⌜ Puts ink (flag tag) v (now (out .entry)) pen (now (out .exit)) r ⌝ }
+{
+    if v {
+        return put(out, pen, ink, tag, 1);
+    }
+    put(out, pen, ink, tag, 0)
 }

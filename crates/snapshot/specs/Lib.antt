@@ -1,0 +1,4 @@
+pub mod Rounds
+pub mod Layout
+pub mod Filling
+pub mod Snapshot
