@@ -1,4 +1,6 @@
 pub mod Rounds
 pub mod Layout
 pub mod Filling
+pub mod Listing
 pub mod Snapshot
+pub mod Answers
