@@ -87,6 +87,23 @@ unfolding bind
 bind-same (got x n k) e = ap (marked k) (e x n)
 bind-same (no r p) e = refl
 
+-- a refusal of both is one of either
+unmarked : {B : Type 0} (k : Bool) (h : Got B) (r p : ℕ) → marked k h ≡ no r p → h ≡ no r p
+unfolding marked
+unmarked k (got y m j) r p e = let z : _≡_ {A = ℕ} 0 1 = cc in absurd (omega arith)
+unmarked k (no a b) r p e = e
+
+pub stopped : {A B : Type 0} (g : Got A) (f : A → ℕ → Got B) (r p : ℕ) → bind g f ≡ no r p → (g ≡ no r p → 0 < r) → ((x : A) (n : ℕ) → f x n ≡ no r p → 0 < r) → 0 < r
+unfolding bind
+stopped (got x n k) f r p e h l = l x n (unmarked k (f x n) r p e)
+stopped {A} (no a b) f r p e h l =
+    let i : a ≡ r = cc in
+    let j : b ≡ p = cc in
+    h (rw (i, j))
+
+pub never-stopped : {A : Type 0} {x : A} {n : ℕ} {k : Bool} (r p : ℕ) → got x n k ≡ no r p → 0 < r
+never-stopped r p e = let z : _≡_ {A = ℕ} 0 1 = cc in absurd (omega arith)
+
 -- what holds of one value and place holds of the same ones
 pub carried : {A : Type 0} (P : A → ℕ → Type 0) {x y : A} {n m : ℕ} → got x n true ≡ got y m true → P x n → P y m
 carried {A} P {x} {y} {n} {m} e t =
@@ -137,6 +154,8 @@ pub record Codec (A : Type 0) : Type 1 where
   -- writing then reading, and reading then writing
   pub back : (s : List ℕ) (at : ℕ) (x : A) → Fits x → Stands s at (out x) → into s at ≡ got x (at + length (out x)) true
   pub same : (s : List ℕ) (at : ℕ) (x : A) (n : ℕ) → Bytes s → into s at ≡ got x n true → Read s at (out x) n × Fits x
+  -- a refusal has a number
+  pub stops : (s : List ℕ) (at r p : ℕ) → into s at ≡ no r p → 0 < r
 
 -- ── One column: a field of eight bytes whose number is at most `top`
 unfoldable pub columnIn : ℕ → ℕ → List ℕ → ℕ → Got ℕ
@@ -178,6 +197,19 @@ module _ (tag top : ℕ) (s : List ℕ) (at : ℕ) where
       go true g false u e = let z : _≡_ {A = ℕ} 0 1 = cc in absurd (omega arith)
       go false g u w e = let z : _≡_ {A = ℕ} 0 1 = cc in absurd (omega arith)
 
+module _ (tag top : ℕ) (s : List ℕ) (at : ℕ) where
+  pub column-stops : (r p : ℕ) → columnIn tag top s at ≡ no r p → 0 < r
+  unfolding columnIn pick
+  column-stops r p e = go (begins tag 8 (drop at s)) (leb v top) e
+    where
+      v : ℕ
+      v = numberAt 8 (drop (at + 3) s)
+
+      go : (t u : Bool) → pick t (pick u (got v (at + 11) true) (got 0 (at + 11) false)) (no (number journalMalformed) at) ≡ no r p → 0 < r
+      go true true e = never-stopped r p e
+      go true false e = never-stopped r p e
+      go false u e = let i : number journalMalformed ≡ r = cc in omega (arith, i)
+
 unfoldable pub column : (tag top : ℕ) → Codec ℕ
 column tag top = record {
   out = λ x. fieldOf tag (bytesOf 8 x);
@@ -185,6 +217,7 @@ column tag top = record {
   Fits = ColumnFits top;
   back = column-back tag top;
   same = column-same tag top;
+  stops = column-stops tag top;
 }
 
 -- ── One after the other ───────────────────────────────────────────
@@ -216,6 +249,11 @@ module _ {A B : Type 0} (a : Codec A) (b : Codec B) where
       let h = b .same s (c .place) (d .value) (d .place) k (d .first) in
       carried (λ p n. Read s at (pairOut p) n × PairFits p) (d .rest) (read-both (g .0) (h .0), (g .1, h .1))
 
+  pub pair-stops : (s : List ℕ) (at r p : ℕ) → pairIn s at ≡ no r p → 0 < r
+  unfolding pairIn
+  pair-stops s at r p e =
+      stopped _ _ r p e (a .stops s at r p) (λ x n e. stopped _ _ r p e (b .stops s n r p) (λ y m e. never-stopped r p e))
+
 infixr 5 _then_
 unfoldable pub _then_ : {A B : Type 0} → Codec A → Codec B → Codec (A × B)
 _then_ a b = record {
@@ -224,6 +262,7 @@ _then_ a b = record {
   Fits = PairFits a b;
   back = pair-back a b;
   same = pair-same a b;
+  stops = pair-stops a b;
 }
 
 -- ── A value by another's codec: a struct by its columns, a signed number by its bits
@@ -251,6 +290,10 @@ module _ {A B : Type 0} (f : A → B) (g : B → A) (a : Codec A) (h : (x : A) �
       written : (x : A) (m : ℕ) → g (f x) ≡ x → Read s at (a .out x) m × a .Fits x → Read s at (a .out (g (f x))) m × (a .Fits (g (f x)) × (f (g (f x)) ≡ f x))
       written x m i r = rw i (r .0, (r .1, refl))
 
+  pub via-stops : (s : List ℕ) (at r p : ℕ) → viaIn s at ≡ no r p → 0 < r
+  unfolding viaIn
+  via-stops s at r p e = stopped _ _ r p e (a .stops s at r p) (λ x n e. never-stopped r p e)
+
 unfoldable pub via : {A B : Type 0} (f : A → B) (g : B → A) (a : Codec A) → ((x : A) → a .Fits x → g (f x) ≡ x) → Codec B
 via f g a h = record {
   out = viaOut f g a h;
@@ -258,6 +301,7 @@ via f g a h = record {
   Fits = ViaFits f g a h;
   back = via-back f g a h;
   same = via-same f g a h;
+  stops = via-stops f g a h;
 }
 
 -- ── A table: the number of its rows, at most `most`, then the rows ─
@@ -299,6 +343,11 @@ module _ {A : Type 0} (a : Codec A) where
       let g = a .same s at (c .value) (c .place) k (c .first) in
       let h = some-same n s (c .place) (d .value) (d .place) k (d .first) in
       carried (λ xs m. Rows (suc n) s at xs m) (d .rest) record { count = ap suc (h .count); read = read-both (g .0) (h .read); fit = (g .1, h .fit) }
+
+  pub some-stops : (n : ℕ) (s : List ℕ) (at r p : ℕ) → someIn n s at ≡ no r p → 0 < r
+  unfolding someIn
+  some-stops zero s at r p e = never-stopped r p e
+  some-stops (suc n) s at r p e = stopped _ _ r p e (a .stops s at r p) (λ x q e. stopped _ _ r p e (some-stops n s q r p) (λ xs q e. never-stopped r p e))
 
   -- the rows before the last, and the last
   pub some-last : (n : ℕ) (s : List ℕ) (at : ℕ) → someIn (suc n) s at ≡ bind (someIn n s at) (λ xs p. bind (a .into s p) (λ x q. got (xs ++ (x ∷ [])) q true))
@@ -355,6 +404,17 @@ module _ {A : Type 0} (tag most : ℕ) (a : Codec A) where
           (read-both (rw (z, y) at (r .0)) (h .read), ((omega (arith, leb-true v most l), omega (arith, r .1)), h .fit))
       counted v p w q i false l g h = let z : _≡_ {A = ℕ} 0 1 = cc in absurd (omega arith)
 
+  pub rows-stops : (s : List ℕ) (at r p : ℕ) → rowsIn s at ≡ no r p → 0 < r
+  unfolding rowsIn countIn pick
+  rows-stops s at r p e = stopped _ _ r p e counts (λ n q e. some-stops a n s q r p e)
+    where
+      past : (t : Bool) (n q : ℕ) → pick t (got n q true) (no (number bookUnsound) 0) ≡ no r p → 0 < r
+      past true n q e = never-stopped r p e
+      past false n q e = let i : number bookUnsound ≡ r = cc in omega (arith, i)
+
+      counts : countIn tag most s at ≡ no r p → 0 < r
+      counts e = stopped _ _ r p e (column-stops tag (2 ^ 64 - 1) s at r p) (λ n q e. past (leb n most) n q e)
+
 unfoldable pub rows : {A : Type 0} → ℕ → ℕ → Codec A → Codec (List A)
 rows tag most a = record {
   out = rowsOut tag most a;
@@ -362,4 +422,5 @@ rows tag most a = record {
   Fits = RowsFit tag most a;
   back = rows-back tag most a;
   same = rows-same tag most a;
+  stops = rows-stops tag most a;
 }

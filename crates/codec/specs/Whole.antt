@@ -2,7 +2,7 @@
 use mathlib.Core.Path.{_≡_, refl, sym, ap, _∙_}
 use mathlib.Core.Bool.{Bool, true, false, _&&_}
 use mathlib.Core.List.{List, _++_, append-nil}
-use Prim.Native.Nat.{ℕ, _+_}
+use Prim.Native.Nat.{ℕ, _+_, _<_}
 use native.Mathlib.Nat.{zero-add}
 use native.Mathlib.Omega.{arith}
 use lib.ListN.{length, drop}
@@ -68,3 +68,17 @@ module _ {A : Type 0} (c : Codec A) (sound : A → Bool) where
       go : (g : Got A) → c .into s 0 ≡ g → closing sound (length s) g ≡ loaded m → Canonical s m
       go (got x n v) i e = ended x n v i (eqb n (length s)) refl (v && sound x) refl e
       go (no r p) i e = let z : _≡_ {A = ℕ} 0 1 = cc (e) in absurd (omega arith)
+
+  -- A REFUSAL has a number
+  pub reading-stops : (s : List ℕ) (n at : ℕ) → readingOf s ≡ refused n at → 0 < n
+  unfolding readingOf closing pick
+  reading-stops s n at e = go (c .into s 0) refl e
+    where
+      known : (x : A) (p : ℕ) (t u : Bool) → pick t (pick u (loaded x) (refused (number bookUnsound) 0)) (refused (number journalMalformed) p) ≡ refused n at → 0 < n
+      known x p true true e = let z : _≡_ {A = ℕ} 0 1 = cc (e) in absurd (omega arith)
+      known x p true false e = let i : number bookUnsound ≡ n = cc (e) in omega (arith, i)
+      known x p false u e = let i : number journalMalformed ≡ n = cc (e) in omega (arith, i)
+
+      go : (g : Got A) → c .into s 0 ≡ g → closing sound (length s) g ≡ refused n at → 0 < n
+      go (got x p v) i e = known x p (eqb p (length s)) (v && sound x) e
+      go (no r p) i e = let j : r ≡ n = cc (e) in rw j at (c .stops s 0 r p i)

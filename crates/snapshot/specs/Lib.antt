@@ -4,3 +4,4 @@ pub mod Filling
 pub mod Listing
 pub mod Snapshot
 pub mod Answers
+pub mod Trips

@@ -6,10 +6,9 @@ mod writing;
 use book::Book;
 use codec::Cursor;
 ghost use mathlib.Core.Path.{_≡_};
-ghost use Rattle.book.specs.Stored.{modelOf};
 ghost use Rattle.codec.specs.Whole.{refused};
-ghost use Rattle.snapshot.specs.Layout.{layout};
-ghost use Rattle.snapshot.specs.Snapshot.{writing, readBack, reading, loadedAs};
+ghost use Rattle.snapshot.specs.Snapshot.{reading, loadedAs};
+ghost use Rattle.snapshot.specs.Trips.{Saved};
 
 // The number of a refusal and its offset, with the first edition's fresh book; or 0 and the book.
 pub struct Loaded {
@@ -74,8 +73,7 @@ pub fn read(s: &[u8]) -> Loaded
 // Writes a book's snapshot at the start of a lent buffer; the buffer stays as it is where the book is unsound or there is no room. A
 // book that was written is one that can be read back.
 pub fn write(book: Book, out: &mut [u8]) -> Written
-    ensures written { λ r. ⌜ (r, now (out .exit)) ≡ writing book (now (out .entry)) ⌝ }
-    ensures fits { λ r. ⌜ (r .number ≡ 0 → layout .Fits (readBack (modelOf book))) ⌝ }
+    ensures { λ r. ⌜ Saved book (now (out .entry)) r (now (out .exit)) ⌝ }
 {
     if !book.sound() {
         return Written {

@@ -15,13 +15,25 @@ tested : (c : tie.Else1) → bookTest (c .before .before .before .args .book) �
 tested c = sym (c .before .sound .ensures .0) ∙ not-false _ (c .if1 .left)
 
 returns : tie.Need-returns
-returns c = (write-unsound _ _ (sym (c .before .sound .ensures .0) ∙ not-true _ (c .if1 .taken)), λ z. let y : _≡_ {A = ℕ} 15 0 = z in absurd (omega (arith, y)))
+returns c = record {
+  is = write-unsound _ _ (sym (c .before .sound .ensures .0) ∙ not-true _ (c .if1 .taken));
+  fits = λ z. let y : _≡_ {A = ℕ} 15 0 = z in absurd (omega (arith, y));
+  shelved = λ z. let y : _≡_ {A = ℕ} 15 0 = z in absurd (omega (arith, y));
+}
 
 returns-2 : tie.Need-returns-2
-returns-2 c = (write-short _ _ (tested (c .before .before .before .before .before)) (c .before .before .before .put-book .ensures) (c .if2 .taken), λ z. let y : _≡_ {A = ℕ} 14 0 = z in absurd (omega (arith, y)))
+returns-2 c = record {
+  is = write-short _ _ (tested (c .before .before .before .before .before)) (c .before .before .before .put-book .ensures) (c .if2 .taken);
+  fits = λ z. let y : _≡_ {A = ℕ} 14 0 = z in absurd (omega (arith, y));
+  shelved = λ z. let y : _≡_ {A = ℕ} 14 0 = z in absurd (omega (arith, y));
+}
 
 returns-3 : tie.Need-returns-3
-returns-3 c = (write-whole _ _ (tested (c .before .before .before .before .before .before .before .before .before)) (c .before .before .before .before .before .before .before .put-book .ensures) (c .before .before .before .before .if2 .left) (c .before .before .put-book2 .ensures), λ z. c .before .before .put-book2 .ensures .fits)
+returns-3 c = record {
+  is = write-whole _ _ (tested (c .before .before .before .before .before .before .before .before .before)) (c .before .before .before .before .before .before .before .put-book .ensures) (c .before .before .before .before .if2 .left) (c .before .before .put-book2 .ensures);
+  fits = λ z. c .before .before .put-book2 .ensures .fits;
+  shelved = λ z. c .before .before .before .before .before .before .before .before .before .before .sound .ensures .1 (not-false _ (c .before .before .before .before .before .before .before .before .before .if1 .left));
+}
 
 pub write-spec : {M : Type 1} → statement M
 write-spec =
