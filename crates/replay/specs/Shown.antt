@@ -1,4 +1,4 @@
--- The two ends of `listing`, and that any two results that its contract allows are one. Assumes nothing.
+-- The two ends of a listing, and that any two results that a contract allows are one. Assumes nothing.
 use mathlib.Core.Path.{_≡_, refl, sym, ap, _∙_}
 use mathlib.Core.Bool.{true, false}
 use mathlib.Core.List.{List}
@@ -12,7 +12,7 @@ use Rattle.sheet.specs.declared.Pen.{Pen}
 use Rattle.sheet.specs.Sheet.{Wrote, penAt}
 use Rattle.sheet.specs.Laid.{dry, wet}
 use Rattle.replay.specs.declared.Listed.{Listed}
-use Rattle.replay.specs.declared.Listed.the-variants.{Done, Short}
+use Rattle.replay.specs.declared.Listed.the-variants.{Done, Short, Unsound}
 use Rattle.replay.specs.Text.{listingSays}
 use Rattle.sheet.specs.Shown.{listedIn, shownIn}
 
@@ -37,9 +37,14 @@ in-space {t} {l} {m} {n} {q} {r} w h x = in-room (ltb-false (length l) (length t
 -- the number and the count say which answer it is
 pub same-listed : (x y : Listed) → listingSays x ≡ listingSays y → x ≡ y
 same-listed (Done m) (Done n) e = ap Done (ap (λ (p : ℕ × ℕ). p .1) e)
-same-listed (Done m) Short e = let z = ap (λ (p : ℕ × ℕ). p .0) e in absurd (omega arith)
-same-listed Short (Done n) e = let z = ap (λ (p : ℕ × ℕ). p .0) e in absurd (omega arith)
 same-listed Short Short e = refl
+same-listed Unsound Unsound e = refl
+same-listed (Done m) Short e = let z = ap (λ (p : ℕ × ℕ). p .0) e in absurd (omega arith)
+same-listed (Done m) Unsound e = let z = ap (λ (p : ℕ × ℕ). p .0) e in absurd (omega arith)
+same-listed Short (Done n) e = let z = ap (λ (p : ℕ × ℕ). p .0) e in absurd (omega arith)
+same-listed Short Unsound e = let z = ap (λ (p : ℕ × ℕ). p .0) e in absurd (omega arith)
+same-listed Unsound (Done n) e = let z = ap (λ (p : ℕ × ℕ). p .0) e in absurd (omega arith)
+same-listed Unsound Short e = let z = ap (λ (p : ℕ × ℕ). p .0) e in absurd (omega arith)
 
-pub one-listing : (t l : List ℕ) {m n : List ℕ} {x y : Listed} → (listingSays x ≡ listedIn t l) × (m ≡ shownIn t l) → (listingSays y ≡ listedIn t l) × (n ≡ shownIn t l) → (x ≡ y) × (m ≡ n)
-one-listing t l {x = x} {y = y} p q = (same-listed x y (p .0 ∙ sym (q .0)), p .1 ∙ sym (q .1))
+pub one-listing : {w : ℕ × ℕ} {l m n : List ℕ} {x y : Listed} → (listingSays x ≡ w) × (m ≡ l) → (listingSays y ≡ w) × (n ≡ l) → (x ≡ y) × (m ≡ n)
+one-listing {x = x} {y = y} p q = (same-listed x y (p .0 ∙ sym (q .0)), p .1 ∙ sym (q .1))
