@@ -3,7 +3,6 @@ use Prim.Native.Nat.{ℕ}
 use mathlib.Core.Path.{_≡_, refl, sym, ap, _∙_}
 use mathlib.Core.Bool.{true}
 use mathlib.Core.List.{List, [], _∷_, _++_}
-use Rattle.refusal.specs.ChoiceLaws.{pick-on}
 use Rattle.edition.specs.Edition.{listed}
 use Rattle.settings.specs.Laws.{settings-ranges}
 use Rattle.command.specs.declared.Command.{Command}
@@ -13,8 +12,7 @@ use Rattle.book.specs.Stored.{modelOf, stored, bookTest}
 use Rattle.soundness.specs.Played.{answerTo, obeyed, played, answersOf}
 use Rattle.soundness.specs.Staying.{edition-kept}
 use Rattle.soundness.specs.Books.{Typed, model-sound}
-use Rattle.replay.specs.declared.Outcome.{Outcome}
-use Rattle.replay.specs.Replay.{atEnd, Replayed, replayOn, outcomeOf, replayedFrom}
+use Rattle.replay.specs.Replay.{Replayed, replayOn, replayedFrom}
 use Rattle.corollary.specs.Journals.{journalOf, AllHeld}
 use Rattle.corollary.specs.Replayed.{whole, journal-on, left-model, left-sound, from-left}
 
@@ -39,3 +37,15 @@ module _ (e : ℕ) (l : listed e ≡ true) (m : Model) (q : m .settings .edition
       ∙ ap (andThen (whole m cs)) (journal-on e l (played m cs) (edition-kept m cs ∙ q) ds k)
       ∙ played-in-parts m cs ds
       ∙ sym (journal-on e l m q (cs ++ ds) (all-held e cs ds h k))
+
+-- so do two calls of `replay_from`, the second with the book that the first gave back
+module _ (b : Book) (y : Typed b) (t : bookTest b ≡ true) (e : ℕ) (q : b .settings .edition ≡ e) (cs ds : List Command) (h : AllHeld e cs) (k : AllHeld e ds) where
+  pub books-in-parts : replayedFrom (replayedFrom b (journalOf e cs) .book) (journalOf e ds) .book ≡ replayedFrom b (journalOf e (cs ++ ds)) .book
+  books-in-parts =
+      let m = model-sound b y t in
+      let l : listed e ≡ true = rw q at (settings-ranges (m .settings) .edition-in) in
+      let first = from-left b (journalOf e cs) t refl in
+      from-left (replayedFrom b (journalOf e cs) .book) (journalOf e ds) (left-sound m (journalOf e cs) first) refl
+      ∙ ap (λ x. stored (replayOn x (journalOf e ds) .model)) (left-model m (journalOf e cs) first)
+      ∙ ap (λ (r : Replayed). stored (r .model)) (in-parts e l (modelOf b) q cs ds h k)
+      ∙ sym (from-left b (journalOf e (cs ++ ds)) t refl)

@@ -90,19 +90,19 @@ module _ {m : Model} (y : ModelSound m) (s : List ℕ) {b : Book} (e : b ≡ sto
       subst (λ (x : Model). MeetsSince m (from m cs .history) x) (run-played (record { history = []; model = m }) cs ∙ sym (left-model ∙ replay-on m s)) (since m y cs)
 
 -- what `replay_from` leaves
-module _ (b : Book) (y : Typed b) (t : bookTest b ≡ true) (s : List ℕ) (r : Outcome) (e : r ≡ replayedFrom b s) where
-  pub from-left : r .book ≡ stored (replayOn (modelOf b) s .model)
-  unfolding replayedFrom outcomeOf
-  from-left = ap (λ (x : Outcome). x .book) (e ∙ pick-on _ _ t)
+pub from-left : (b : Book) (s : List ℕ) {r : Outcome} → bookTest b ≡ true → r ≡ replayedFrom b s → r .book ≡ stored (replayOn (modelOf b) s .model)
+unfolding replayedFrom outcomeOf
+from-left b s t e = ap (λ (x : Outcome). x .book) (e ∙ pick-on _ _ t)
 
+module _ (b : Book) (y : Typed b) (t : bookTest b ≡ true) (s : List ℕ) (r : Outcome) (e : r ≡ replayedFrom b s) where
   pub from-sound : bookTest (r .book) ≡ true
-  from-sound = left-sound (model-sound b y t) s from-left
+  from-sound = left-sound (model-sound b y t) s (from-left b s t e)
 
   pub from-shelved : Shelved (r .book)
-  from-shelved = left-shelved (model-sound b y t) s from-left
+  from-shelved = left-shelved (model-sound b y t) s (from-left b s t e)
 
   pub replay-since : MeetsSince (modelOf b) (from (modelOf b) (commandsOn (b .settings .edition) s) .history) (modelOf (r .book))
-  replay-since = left-since (model-sound b y t) s from-left
+  replay-since = left-since (model-sound b y t) s (from-left b s t e)
 
 -- ── Its case at a fresh book ──────────────────────────────────────
 pub replay-model : (s : List ℕ) → replayOf s .model ≡ played (freshModel (editionOf s)) (commandsIn s)
