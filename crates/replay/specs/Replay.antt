@@ -1,5 +1,5 @@
--- Document 01, "Journal and replay": the commands of a journal obeyed in turn, with each answer, and where replay stops; from a given book (document 02, a), and from
--- a fresh one of the journal's edition.
+-- Document 01, "Journal and replay": the commands of a journal obeyed in turn, with each answer, and where replay stops; from a fresh book of its edition, or from one that
+-- is given (document 02, a).
 use mathlib.Core.Bool.{Bool, _&&_}
 use mathlib.Core.List.{List, [], _∷_}
 use Prim.Native.Nat.{ℕ, zero, suc, _+_}
@@ -16,7 +16,7 @@ use Rattle.soundness.specs.Played.{answerTo, obeyed}
 use Rattle.book.specs.Stored.{modelOf, stored, bookTest}
 use Rattle.replay.specs.declared.Outcome.{Outcome}
 
--- replay stops at the journal's end, at a header that is none, or at a malformed record, whose tag is at an offset
+-- replay stops at the journal's end, at a header that is bad or another edition's, or at a malformed record, whose tag is at an offset
 pub data Stop : Type 0 where
   atEnd : Stop
   atHeader : Stop

@@ -1,12 +1,12 @@
 -- How long a listing can be: what each record takes in the journal holds its line. Assumes nothing.
-use mathlib.Core.Path.{_≡_, refl, ap, _∙_}
+use mathlib.Core.Path.{_≡_, refl, _∙_}
 use mathlib.Core.Bool.{Bool, true, false}
 use mathlib.Core.List.{List, [], _∷_, _++_}
 use Prim.Native.Nat.{ℕ, zero, suc, _+_, _-_, _*_, _≤_, _<_}
 use native.Mathlib.Omega.{arith}
 use lib.Dec.{eqb, leb}
 use lib.ListN.{length, length-append}
-use borrow.Author.Tests.{eqb-true, leb-true, le-leb}
+use borrow.Author.Tests.{leb-true, le-leb}
 use Rattle.refusal.specs.Choice.{pick}
 use Rattle.refusal.specs.ChoiceLaws.{pick-on}
 use Rattle.refusal.specs.Refusal.{Refusal, paused, blacklisted, invalidInput, notFound, alreadyExists, unauthorized, invalidTransition, offerExpired, allowanceShort, balanceShort, outOfRange, noRoom, journalMalformed, bufferShort, bookUnsound, number, Check, first}

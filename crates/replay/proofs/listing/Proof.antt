@@ -1,4 +1,3 @@
-use Rattle.sheet.specs.Shown.{listedIn, shownIn}
 use Rattle.replay.specs.Text.{listingOf}
 use Rattle.replay.specs.Standing.{fresh}
 use Rattle.replay.specs.Heading.{edition-known}
