@@ -146,7 +146,7 @@ fn listing_of(data: &[u8], n: usize, out: &mut [u8; 65536]) -> usize {
     let r = replay::listing(&data[..n], out);
     match r {
         Listed::Done(k) => k,
-        Listed::Short => 0,
+        _ => 0,
     }
 }
 

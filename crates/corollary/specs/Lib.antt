@@ -1,3 +1,4 @@
 pub mod Journals
 pub mod JournalLaws
 pub mod Replayed
+pub mod Parts

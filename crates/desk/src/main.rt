@@ -33,7 +33,7 @@ fn list(s: &[u8], out: &mut [u8]) -> usize
     let r = replay::listing(s, out);
     match r {
         Listed::Done(k) => k,
-        Listed::Short => 0,
+        _ => 0,
     }
 }
 

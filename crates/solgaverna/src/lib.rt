@@ -40,6 +40,7 @@ pub extern "C" fn solgaverna_listing(journal: &[u8], out: &mut [u8]) -> u64
     match r {
         Listed::Done(n) => { n as u64 }
         Listed::Short => { refused(refusal::BUFFER_SHORT) }
+        Listed::Unsound => { refused(refusal::BOOK_UNSOUND) }
     }
 }
 
