@@ -15,6 +15,7 @@ mod queries;
 mod reading;
 mod repayment;
 mod settlement;
+pub mod snapshot;
 mod sound;
 mod terms;
 
