@@ -1,7 +1,7 @@
 //! Readers and writers of snapshots with a mistake, each of which the comparison finds.
 
-use harness::compare::compare;
-use harness::snapshots::{compare_damaged, samples, unsound_alike, written_alike};
+use harness::compare::{compare, Found};
+use harness::snapshots::{compare_damaged, compare_samples, samples, unsound_alike, written_alike};
 use plain::edition::{fresh, OF_SNAPSHOTS};
 use plain::snapshot::{examine, read, write, write_within, Refusal};
 use plain::Plain;
@@ -140,6 +140,19 @@ fn every_mistake_in_a_reader_is_found() {
     }
 }
 
+/// No damage goes uncompared: neither where a side cannot be started nor where it breaks off.
+#[test]
+fn every_sample_is_compared() {
+    let plain = || Ok(Box::<Plain>::default() as Box<dyn Side>);
+    assert_eq!(compare_samples(&plain, 64).map(|damaged| damaged.len()), Ok(3));
+    let breaks_off = || {
+        let reader: Reader = |_, bytes| panic!("no answer to {} bytes", bytes.len());
+        Ok(Box::new(Mistaken::reading(reader)) as Box<dyn Side>)
+    };
+    assert!(compare_samples(&breaks_off, 64).is_err());
+    assert!(compare_samples(&|| Err("not started".to_string()), 64).is_err());
+}
+
 /// A fresh book with this writer: whether a sound book is written as it should be, and whether
 /// unsound ones are refused so.
 fn passes(writer: Writer) -> [bool; 2] {
@@ -158,14 +171,16 @@ fn every_mistake_in_a_writer_is_found() {
     assert_eq!(passes(|_, room| write_within(&fresh(OF_SNAPSHOTS), room)), [true, false]);
 }
 
-/// In every edition the comparison writes, reads and spoils snapshots.
+/// In every edition the comparison writes and reads snapshots, and cuts a difference down.
 #[test]
 fn the_comparison_finds_mistakes() {
     let reader: Reader = |plain, bytes| plain.restore(bytes).map(|()| plain.reset(OF_SNAPSHOTS));
     let writer: Writer = |book, room| write_within(&Book { paused: false, ..book.clone() }, room);
     for edition in 1..=OF_SNAPSHOTS {
         for mut side in [Mistaken::reading(reader), Mistaken::writing(writer)] {
-            assert!(compare(&mut side, edition, 1, 5_000).1.is_some(), "edition {edition}");
+            let (_, found) = compare(&mut side, edition, 1, 5_000);
+            let Some(Found::Run(failure)) = found else { panic!("not found in edition {edition}") };
+            assert_eq!(failure.commands.len(), 1, "{}", failure.what);
         }
     }
 }

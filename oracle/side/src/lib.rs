@@ -11,7 +11,7 @@ pub use asking::answered;
 pub use listing::{answer_line, edition_line, malformed_line, tables, PROGRAM_HOLDS, TOO_LONG};
 pub use query::{Query, Reply};
 pub use rows::{Account, Book, Invoice, Offer, Round, Schedule, Totals};
-pub use snapshot::{Reading, Refused, Restored, LONGEST_SNAPSHOT};
+pub use snapshot::{Reading, Refused, Restored};
 
 /// One implementation of the book. A library of another language fits behind this trait with a
 /// handful of functions on numbers and slices: `load` and `dump` pass the whole book as one flat
@@ -23,7 +23,7 @@ pub trait Side {
     fn reset(&mut self, edition: u64);
 
     /// Starts from given rows, in the flat form of `Book::flat`. They make a sound book of an edition
-    /// that a side must have.
+    /// that a side must have; a side with snapshots takes an unsound one too, which is 15 from then on.
     fn load(&mut self, book: &[u64]);
 
     /// Applies one journal record (tag, length, fields) of the book's edition and answers with

@@ -3,9 +3,6 @@
 /// A refused snapshot: 13 with the offset of the first wrong field's tag, or 15 with 0.
 pub type Refused = (u64, u64);
 
-/// The longest snapshot: 64 rows in each table, twelve rounds on each offer.
-pub const LONGEST_SNAPSHOT: usize = 62_799;
-
 /// Bytes to read as a snapshot.
 #[derive(Clone, Debug)]
 pub struct Reading {

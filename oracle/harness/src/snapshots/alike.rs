@@ -58,8 +58,12 @@ pub fn unsound_alike(side: &mut dyn Side, book: &Book) -> Result<u64, String> {
         side.load(&flat);
         let answers = [write(&faulty), side.snapshot(WIDE), side.snapshot(0)];
         if answers.iter().any(|answer| *answer != Err(UNSOUND)) {
-            let numbers = answers.map(|answer| answer.map_or_else(|number| number, |_| 0));
-            return Err(format!("{name}: {} and the plain model answer {numbers:?}", side.name()));
+            let [one, two, short] = answers.map(|answer| answer.err().unwrap_or(0));
+            let name = format!("a book with {name} is written");
+            return Err(format!(
+                "{name}: plainly {one}, {} {two}, without room {short}",
+                side.name()
+            ));
         }
         planted += 1;
     }

@@ -58,8 +58,8 @@ pub fn compare_samples(start: Start, one_in: usize) -> Result<Vec<(Sample, Count
     };
     std::thread::scope(|scope| {
         let runs = samples().map(|sample| scope.spawn(move || damaged(sample)));
-        let ended = runs.map(|run| run.join().map_err(|_| "a side broke off".to_string()));
-        ended.into_iter().flatten().collect()
+        let ended = runs.map(|run| run.join().unwrap_or(Err("a side broke off".to_string())));
+        ended.into_iter().collect()
     })
 }
 

@@ -152,6 +152,23 @@ fn every_column_has_its_field() {
     assert_eq!(read(&SAMPLE), Ok(sample()));
 }
 
+/// 64 rows in each table, twelve rounds on each offer: (10 + 3 + 64 × (8 + 4 + 17 + 12 × 5)) × 11.
+#[test]
+fn a_full_book_is_the_longest() {
+    let Book { accounts, invoices, offers, .. } = sample();
+    let (account, invoice, offer) = (accounts[0], invoices[0], &offers[0]);
+    let rounds = vec![offer.rounds[0]; 12];
+    let full = Book {
+        accounts: (0..64).map(|id| Account { id, ..account }).collect(),
+        invoices: (0..64).map(|id| Invoice { id, ..invoice }).collect(),
+        offers: (0..64).map(|id| Offer { id, rounds: rounds.clone(), ..offer.clone() }).collect(),
+        ..sample()
+    };
+    let bytes = write(&full).unwrap();
+    assert_eq!(bytes.len(), 62_799);
+    assert_eq!(read(&bytes), Ok(full));
+}
+
 #[test]
 fn the_book_of_an_earlier_edition_is_read_in_edition_3() {
     for edition in [1, 2] {
