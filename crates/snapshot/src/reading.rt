@@ -221,12 +221,12 @@ fn read_rounds(s: &[u8], c: Cursor) -> ReadRounds
     ensures { λ r. ⌜ Reads laidRounds (rows 0x97 roundSlots round) (now (s .entry)) c (r .rows, r .n) (r .c) ⌝ }
 {
     let k = codec::count(s, c, tags::ROUNDS, 12);
-    let n = k.x as usize;
+    let len = k.x as usize;
     let none = Negotiation::none();
     let mut rows = none.rounds;
     let mut d = k;
     let mut i: usize = 0;
-    while i < n {
+    while i < len {
         let g = read_round(s, d);
         let row = g.row;
         let e = g.c;
