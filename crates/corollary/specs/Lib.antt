@@ -2,3 +2,4 @@ pub mod Journals
 pub mod JournalLaws
 pub mod Replayed
 pub mod Parts
+pub mod Snapshots
