@@ -1,6 +1,6 @@
 -- What each edition of the rules has beside all that the earlier ones have (document 02). Every other definition asks here, and none compares an edition's number itself.
 use Prim.Native.Nat.{ℕ}
-use mathlib.Core.Bool.{Bool, _&&_}
+use mathlib.Core.Bool.{Bool, _&&_, cond}
 use lib.Dec.{leb}
 
 -- document 01's edition, and the latest that there is
@@ -8,7 +8,7 @@ abbrev pub firstEdition : ℕ
 firstEdition = 1
 
 abbrev pub latestEdition : ℕ
-latestEdition = 2
+latestEdition = 3
 
 unfoldable pub listed : ℕ → Bool
 listed e = leb firstEdition e && leb e latestEdition
@@ -17,6 +17,6 @@ listed e = leb firstEdition e && leb e latestEdition
 unfoldable pub holdsAmount : ℕ → Bool
 holdsAmount e = leb 2 e
 
--- the window of a fresh book
+-- the window of a fresh book, shorter from edition 3 on (e)
 unfoldable pub freshWindow : ℕ → ℕ
-freshWindow e = 604800
+freshWindow e = cond (leb 3 e) 259200 604800

@@ -4,7 +4,7 @@ ghost use Rattle.edition.specs.Edition.{listed, holdsAmount, freshWindow
 
 pub const FIRST: u32 = 1;
 
-pub const LATEST: u32 = 2;
+pub const LATEST: u32 = 3;
 
 // Whether there is such an edition.
 pub fn is_listed(edition: u32) -> bool
@@ -24,5 +24,8 @@ pub fn holds_amount(edition: u32) -> bool
 pub fn fresh_window(edition: u32) -> u64
     ensures { λ r. ⌜ r ≡ freshWindow edition ⌝ }
 {
+    if 3 <= edition {
+        return 259200;
+    }
     604800
 }

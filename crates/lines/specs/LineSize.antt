@@ -18,7 +18,11 @@ use Rattle.totals.specs.Totals.{totalsSound}
 use Rattle.totals.specs.Laws.{totals-ranges}
 use Rattle.sheet.specs.Decimal.{spaced, numbersOf}
 use Rattle.sheet.specs.Size.{decimal-most, decimal-two, Small, numbers-most}
-use Rattle.lines.specs.Lines.{accountWord, totalsWord, answerLine, markLine, accountLine, accountLines, totalsLine}
+use Rattle.lines.specs.Lines.{editionWord, accountWord, totalsWord, editionLine, answerLine, markLine, accountLine, accountLines, totalsLine}
+
+pub edition-most : (e : ℕ) → e < 100 → length (editionLine e) ≤ 11
+unfolding editionLine numbersOf spaced
+edition-most e h = simp length-append (omega (arith, decimal-two e h))
 
 pub answer-most : (n answer : ℕ) → n < 18446744073709551616 → answer < 100 → length (answerLine n answer) ≤ 24
 unfolding answerLine numbersOf spaced

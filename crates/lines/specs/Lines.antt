@@ -8,12 +8,19 @@ use Rattle.account.specs.declared.Account.{Account}
 use Rattle.totals.specs.declared.Totals.{Totals}
 use Rattle.sheet.specs.Decimal.{decimalOf, numbersOf}
 
--- "account", "totals"
+-- "edition", "account", "totals"
+abbrev pub editionWord : List ℕ
+editionWord = 101 ∷ 100 ∷ 105 ∷ 116 ∷ 105 ∷ 111 ∷ 110 ∷ []
+
 abbrev pub accountWord : List ℕ
 accountWord = 97 ∷ 99 ∷ 99 ∷ 111 ∷ 117 ∷ 110 ∷ 116 ∷ []
 
 abbrev pub totalsWord : List ℕ
 totalsWord = 116 ∷ 111 ∷ 116 ∷ 97 ∷ 108 ∷ 115 ∷ []
+
+-- the edition of a journal's rules (document 02, e)
+unfoldable pub editionLine : ℕ → List ℕ
+editionLine e = editionWord ++ numbersOf (e ∷ [])
 
 -- a record's number and its answer
 unfoldable pub answerLine : ℕ → ℕ → List ℕ

@@ -5,7 +5,16 @@ use totals::Totals;
 ghost use mathlib.Core.Path.{_≡_};
 ghost use Rattle.sheet.specs.Sheet.{Wrote};
 ghost use Rattle.table.specs.Shelf.{tableOf};
-ghost use Rattle.lines.specs.Lines.{answerLine, markLine, accountLine, accountLines, totalsLine};
+ghost use Rattle.lines.specs.Lines.{editionLine, answerLine, markLine, accountLine, accountLines, totalsLine};
+
+// The edition of a journal's rules.
+pub fn put_edition(out: &mut [u8], pen: Pen, ink: bool, edition: u64) -> Pen
+    ensures { λ r. ⌜ Wrote ink (editionLine edition) (now (out .entry)) pen (now (out .exit)) r ⌝ }
+{
+    let past = sheet::put(out, pen, ink, b"edition");
+    let xs = [edition];
+    sheet::put_numbers(out, past, ink, &xs)
+}
 
 // A record's number and its answer.
 pub fn put_answer(out: &mut [u8], pen: Pen, ink: bool, n: u64, answer: u64) -> Pen

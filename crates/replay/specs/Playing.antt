@@ -42,6 +42,9 @@ pub play-bare : (s : List ℕ) {at : ℕ} {b : Book} → openingOf s ≡ badHead
 unfolding outcomeOf
 play-bare s o f = rw (replay-bare s o, f .stores)
 
+pub play-headed : (s : List ℕ) {e at : ℕ} {b : Book} → openingOf s ≡ goodHeader e at → Holds (freshModel e) b → outcomeOf 0 (replayFrom s at (modelOf b)) ≡ outcomeOf 0 (replayOf s)
+play-headed s o f = rw (replay-headed s o, f .model)
+
 pub play-begins : (s : List ℕ) (at : ℕ) {m : Model} {b : Book} → at ≤ length s → Holds m b → Playing s (outcomeOf 0 (replayFrom s at m)) at 0 b
 play-begins s at h f = record { stand = stands h f; completes = ap (λ x. outcomeOf 0 (replayFrom s at x)) (f .model) }
 

@@ -1,7 +1,7 @@
 -- How long a listing can be: what each record takes in the journal holds its line. Assumes nothing.
 use mathlib.Core.Path.{_≡_, refl, ap, _∙_}
 use mathlib.Core.Bool.{Bool, true, false}
-use mathlib.Core.List.{List, [], _∷_}
+use mathlib.Core.List.{List, [], _∷_, _++_}
 use Prim.Native.Nat.{ℕ, zero, suc, _+_, _-_, _*_, _≤_, _<_}
 use native.Mathlib.Omega.{arith}
 use lib.Dec.{eqb, leb}
@@ -11,7 +11,8 @@ use Rattle.refusal.specs.Choice.{pick}
 use Rattle.refusal.specs.ChoiceLaws.{pick-on}
 use Rattle.refusal.specs.Refusal.{Refusal, paused, blacklisted, invalidInput, notFound, alreadyExists, unauthorized, invalidTransition, offerExpired, allowanceShort, balanceShort, outOfRange, noRoom, journalMalformed, bufferShort, bookUnsound, number, Check, first}
 use Rattle.refusal.specs.Rule.{after}
-use Rattle.edition.specs.Edition.{firstEdition, listed}
+use Rattle.money.specs.Facts.{both}
+use Rattle.edition.specs.Edition.{firstEdition, latestEdition, listed}
 use Rattle.table.specs.Tables.{keys}
 use Rattle.command.specs.declared.Command.{Command}
 use Rattle.journal.specs.Answers.{Opening, Reading, found, refused, ended}
@@ -19,8 +20,8 @@ use Rattle.journal.specs.Format.{openingOf, readAt}
 use Rattle.journal.specs.Ahead.{Goes, goes}
 use Rattle.sheet.specs.declared.Pen.{Pen}
 use Rattle.sheet.specs.Sheet.{Wrote, penAt}
-use Rattle.lines.specs.Lines.{answerLine, markLine, accountLines}
-use Rattle.lines.specs.LineSize.{answer-most, mark-most, accounts-most, totals-most}
+use Rattle.lines.specs.Lines.{editionLine, answerLine, markLine, accountLines}
+use Rattle.lines.specs.LineSize.{edition-most, answer-most, mark-most, accounts-most, totals-most}
 use Rattle.rules.specs.Model.{Model, freshModel}
 use Rattle.command.specs.Shape.{Shape, shapeOf}
 use Rattle.rules.specs.Rules.{ruled}
@@ -30,16 +31,16 @@ use Rattle.replay.specs.Replay.{atHeader, halted, follow, replayBy, repl
 use Rattle.soundness.specs.Played.{answerTo, obeyed}
 use Rattle.replay.specs.declared.Listed.{Listed}
 use Rattle.replay.specs.declared.Listed.the-variants.{Done}
-use Rattle.replay.specs.Text.{bookText, textOf, listingOf, listingSays}
+use Rattle.replay.specs.Text.{bookText, textOf, openingLine, listingOf, listingSays}
 use Rattle.sheet.specs.Shown.{listedIn, shownIn}
 use Rattle.replay.specs.TextLaws.{text-heard, text-bad, text-bare, text-end}
 use Rattle.replay.specs.Ahead.{opened}
 use Rattle.replay.specs.Shown.{in-room, same-listed}
 use Rattle.replay.specs.Records.{Low, OpensLow, low-ruled, Weighs, weighs}
 
--- a line for a malformed record, 64 lines of accounts and one of totals
+-- a line for the edition, one for a malformed record, 64 lines of accounts and one of totals
 abbrev pub extra : ℕ
-extra = 45 + (64 * 113 + 70)
+extra = 11 + (45 + (64 * 113 + 70))
 
 -- a record has 25 bytes at least, and its line 24 at most
 unfoldable pub listingRoom : ℕ → ℕ
@@ -101,10 +102,10 @@ book-most {m} b =
 module _ (s : List ℕ) (short : length s < 18446744073709551616) where
   -- what is printed from a place on, where k records stood before it
   abbrev Most : ℕ → Type 0
-  Most n = (at k : ℕ) (m : Model) → Bounded m → k ≤ at → at ≤ length s → length (textOf k (replayBy n s at m)) + at ≤ listingRoom (length s)
+  Most n = (at k : ℕ) (m : Model) → Bounded m → k ≤ at → at ≤ length s → length (textOf k (replayBy n s at m)) + at + 11 ≤ listingRoom (length s)
 
   follow-most : (n : ℕ) → Most n → (at k : ℕ) (m : Model) → Bounded m → k ≤ at → at ≤ length s → (d : Reading) → Goes s at d → Weighs at d
-      → length (textOf k (follow (replayBy n s) m d)) + at ≤ listingRoom (length s)
+      → length (textOf k (follow (replayBy n s) m d)) + at + 11 ≤ listingRoom (length s)
   unfolding Goes Weighs listingRoom
   follow-most n i at k m b h l (found c next) g w =
       rw (text-heard k (answerTo m c) (replayBy n s next (obeyed m c)), length-append (answerLine (k + 1) (answerTo m c)))
@@ -119,16 +120,20 @@ module _ (s : List ℕ) (short : length s < 18446744073709551616) where
   walk-most (suc n) at k m b h l = follow-most n (walk-most n) at k m b h l (readAt (m .settings .edition) s at) (goes (m .settings .edition) s at) (weighs (m .settings .edition) s at)
 
   pub listing-most : length (listingOf s) ≤ listingRoom (length s)
-  unfolding listingOf replayOf replayFrom listingRoom pick listed
+  unfolding listingOf openingLine replayOf replayFrom listingRoom pick listed
   listing-most = go (eqb (openingOf s .answer) 0) refl
     where
       o : Opening
       o = openingOf s
 
-      go : (t : Bool) → eqb (o .answer) 0 ≡ t → length (textOf 0 (pick t (replayBy (length s) s (o .first) (freshModel (o .edition))) (halted atHeader (freshModel firstEdition)))) ≤ listingRoom (length s)
+      below : (e : ℕ) → listed e ≡ true → e < 100
+      below e h = omega (arith, leb-true e latestEdition (both (leb firstEdition e) _ h .1))
+
+      go : (t : Bool) → eqb (o .answer) 0 ≡ t → length (pick t (editionLine (o .edition)) [] ++ textOf 0 (pick t (replayBy (length s) s (o .first) (freshModel (o .edition))) (halted atHeader (freshModel firstEdition)))) ≤ listingRoom (length s)
       go true e =
           let h = opened s (ap (λ (x : ℕ). record { answer = x; edition = o .edition; first = o .first }) (eqb-true (o .answer) 0 e)) in
-          omega (arith, walk-most (length s) (o .first) 0 (freshModel (o .edition)) (fresh-bounded (o .edition) (h .known)) (omega arith) (h .within))
+          rw (length-append (editionLine (o .edition)))
+          (omega (arith, edition-most (o .edition) (below (o .edition) (h .known)), walk-most (length s) (o .first) 0 (freshModel (o .edition)) (fresh-bounded (o .edition) (h .known)) (omega arith) (h .within)))
       go false e = rw (text-bare (freshModel firstEdition), length-append (markLine 0 0)) (omega (arith, mark-most 0 0 (omega arith) (omega arith), book-most (fresh-bounded firstEdition refl)))
 
 -- a buffer with the room for it, as the code tests that: k bytes, and past them as many as the journal has

@@ -15,8 +15,7 @@ ghost use mathlib.Core.Bool.{false};
 ghost use Prim.Native.Nat.{_≤_};
 ghost use lib.ListN.{length};
 ghost use Rattle.sheet.specs.Sheet.{Wrote, penAt};
-ghost use Rattle.book.specs.Stored.{modelOf};
-ghost use Rattle.rules.specs.Model.{freshModel};
+ghost use Rattle.book.specs.Stored.{modelOf, Shelved};
 ghost use Rattle.replay.specs.Replay.{replayFrom, replayOf, outcomeOf, ending};
 ghost use Rattle.replay.specs.Text.{bookText, textOf, listingOf, listingSays};
 ghost use Rattle.sheet.specs.Shown.{listedIn, shownIn};
@@ -79,22 +78,18 @@ fn finish(
 }
 
 // The records from a place on. The tables are locals: the rows that a command names are read where they stand, turned, and written
-// back there, and a row that came is let in. The book is fresh and each step keeps it sound, so that soundness is never tested.
-fn records(s: &[u8], out: &mut [u8], ink: bool, edition: u32, first: usize) -> Told
-    requires { ⌜ first ≤ length (now s) ⌝ }
-    ensures outcome { λ r. ⌜ r .outcome ≡ outcomeOf 0 (replayFrom (now (s .entry)) first (freshModel edition)) ⌝ }
-    ensures wrote { λ r. ⌜ Wrote ink (textOf 0 (replayFrom (now (s .entry)) first (freshModel edition))) (now (out .entry)) (penAt 0 false) (now (out .exit)) (r .pen) ⌝ }
+// back there, and a row that came is let in. Each step keeps the tables as they must be, so that soundness is never tested.
+fn records(s: &[u8], out: &mut [u8], ink: bool, start: Pen, book: Book, first: usize) -> Told
+    requires { ⌜ (first ≤ length (now s)) × Shelved book ⌝ }
+    ensures outcome { λ r. ⌜ r .outcome ≡ outcomeOf 0 (replayFrom (now (s .entry)) first (modelOf book)) ⌝ }
+    ensures wrote { λ r. ⌜ Wrote ink (textOf 0 (replayFrom (now (s .entry)) first (modelOf book))) (now (out .entry)) start (now (out .exit)) (r .pen) ⌝ }
 {
-    let book = Book::of_edition(edition);
     let mut accounts = book.accounts;
     let mut invoices = book.invoices;
     let mut offers = book.offers;
     let mut totals = book.totals;
     let mut settings = book.settings;
-    let mut pen = Pen {
-        at: 0,
-        short: false,
-    };
+    let mut pen = start;
     let mut at = first;
     let mut k: usize = 0;
     loop {
@@ -236,17 +231,19 @@ fn walk(s: &[u8], out: &mut [u8], ink: bool) -> Told
     ensures outcome { λ r. ⌜ r .outcome ≡ outcomeOf 0 (replayOf (now (s .entry))) ⌝ }
     ensures wrote { λ r. ⌜ Wrote ink (listingOf (now (s .entry))) (now (out .entry)) (penAt 0 false) (now (out .exit)) (r .pen) ⌝ }
 {
+    let pen = Pen {
+        at: 0,
+        short: false,
+    };
     let h = journal::header(s);
     let Opened::Records(edition, first) = h else {
-        let pen = Pen {
-            at: 0,
-            short: false,
-        };
         let p = lines::put_mark(out, pen, ink, 0, 0);
         let fresh = Book::of_edition(edition::FIRST);
         return finish(out, p, ink, fresh, 0, refusal::JOURNAL_MALFORMED, 0);
     };
-    records(s, out, ink, edition, first)
+    let past = lines::put_edition(out, pen, ink, edition as u64);
+    let book = Book::of_edition(edition);
+    records(s, out, ink, past, book, first)
 }
 
 // A fresh book of the journal's edition and then its commands, up to its end or to a malformed record.
@@ -259,7 +256,7 @@ pub fn replay(s: &[u8]) -> Outcome
 }
 
 // A listing has at most so many bytes more than its journal.
-const ROOM: usize = 7347;
+const ROOM: usize = 7358;
 
 // Writes the listing where it fits, else leaves the buffer as it is. It is measured first only where it might be short.
 pub fn listing(s: &[u8], out: &mut [u8]) -> Listed

@@ -1,7 +1,8 @@
 -- What the crates above need: a fresh book's settings are sound, and every rule leaves sound ones sound.
 use Prim.Native.Nat.{ℕ}
 use mathlib.Core.Path.{_≡_, refl}
-use mathlib.Core.Bool.{Bool, true}
+use mathlib.Core.Bool.{Bool, true, false, cond}
+use lib.Dec.{leb}
 use borrow.Author.Needs.{needs}
 use borrow.Author.Tests.{not-false}
 use Rattle.money.specs.Facts.{both}
@@ -13,7 +14,11 @@ use Rattle.settings.specs.Settings.{freshSettings, inWindow, settingsSou
 
 pub fresh-sound : (e : ℕ) → listed e ≡ true → settingsSound (freshSettings e) ≡ true
 unfolding settingsSound thresholdOk countSeats countBelow freshWindow
-fresh-sound e h = rw h
+fresh-sound e h = rw (h, within (leb 3 e))
+  where
+    within : (t : Bool) → inWindow (cond t 259200 604800) ≡ true
+    within true = refl
+    within false = refl
 
 -- what soundness says of the settings
 pub record SettingsRanges (s : Settings) : Type 0 where

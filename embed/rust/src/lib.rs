@@ -5,7 +5,7 @@
 //!
 //! let mut journal = Journal::new();
 //! journal.write("open-account 100 1\ndeposit 100 1 5000\n").unwrap();
-//! assert_eq!(journal.listing(), "1 0\n2 0\naccount 1 5000 0 0 0\ntotals 0 0 0\n");
+//! assert_eq!(journal.listing(), "edition 1\n1 0\n2 0\naccount 1 5000 0 0 0\ntotals 0 0 0\n");
 //! assert_eq!(journal.lender(1).unwrap().offered, 0);
 //! assert_eq!(journal.ask("account 1\ncount\n").unwrap(), "0 5000 0 0 0\n0 0\n");
 //! ```
@@ -139,7 +139,7 @@ impl Journal {
     /// What a replay prints: an answer for each command, the accounts, the totals.
     pub fn listing(&self) -> String {
         let mut out = vec![0; self.0.len() + 8192];
-        let size = calls::listing(&self.0, &mut out).expect("a listing has at most 7,347 bytes more than its journal");
+        let size = calls::listing(&self.0, &mut out).expect("a listing has at most 7,358 bytes more than its journal");
         out.truncate(size);
         String::from_utf8(out).expect("words, digits and spaces")
     }

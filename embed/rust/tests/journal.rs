@@ -16,6 +16,7 @@ accept 100 2 20
 ";
 
 const LISTING: &str = "\
+edition 1
 1 0
 2 0
 3 0

@@ -22,7 +22,7 @@ pub fn given(edition: u64, chance: &mut Chance) -> Book {
     Book {
         edition,
         paused: chance.percent(5),
-        window: chance.pick(&[3_600, 604_800, 2_592_000]),
+        window: chance.pick(&[3_600, 259_200, 604_800, 2_592_000]),
         seats: next,
         threshold: chance.within(1, seats),
         repayment: chance.percent(80).then(|| chance.pick(&accounts)),

@@ -1,4 +1,4 @@
-//! What edition 2 answers otherwise than edition 1, with the smallest input of each: the plain model,
+//! What an edition answers otherwise than the one before, with the smallest input of each: the plain model,
 //! and the proved book where its command is named.
 
 use harness::script::steps;
@@ -103,6 +103,20 @@ fn terms_above_the_invoice_may_stand() {
     book.offers[0].rounds.push(round);
     book.offers[0].deadline = 200;
     assert_eq!(with(&book, "amend caller=1 id=20 amount=5 rate=1 round=1 : 0"), [0, 3]);
+}
+
+/// A fresh window ends the negotiation after seven days, from edition 3 on after three.
+#[test]
+fn a_fresh_window_is_shorter_from_edition_3_on() {
+    let first = [OFFER, "counter now=100 caller=2 id=20 amount=1 rate=2 round=0 : 0\n"].concat();
+    for (seconds, answers) in
+        [(259_200, [0, 0, 0]), (259_201, [0, 0, 7]), (604_800, [0, 0, 7]), (604_801, [7, 7, 7])]
+    {
+        let at = 100 + seconds;
+        let line = format!("counter now={at} caller=2 id=20 amount=1 rate=3 round=1 : 0");
+        let text = [first.as_str(), &line].concat();
+        assert_eq!([1, 2, 3].map(|edition| last(edition, None, &text)), answers, "{seconds}");
+    }
 }
 
 #[test]

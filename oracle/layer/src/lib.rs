@@ -169,7 +169,10 @@ impl Original {
         self.reset(edition.unwrap_or(EDITION));
         let mut out = String::new();
         match edition {
-            Some(_) => self.replay_records(journal, &mut out),
+            Some(edition) => {
+                side::edition_line(edition, &mut out);
+                self.replay_records(journal, &mut out);
+            }
             None => side::malformed_line(0, 0, &mut out),
         }
         side::tables(&self.book(), &mut out);

@@ -7,7 +7,8 @@ use side::Side;
 #[test]
 fn the_original_gives_document_01s_listing() {
     let listing = Original::default().listing(&journal(1, &session()));
-    assert_eq!(String::from_utf8(listing).unwrap(), SESSION_LISTING);
+    let expected = format!("edition 1\n{SESSION_LISTING}");
+    assert_eq!(String::from_utf8(listing).unwrap(), expected);
 }
 
 #[test]

@@ -13,8 +13,12 @@ pub fn holds_amount(edition: u64) -> bool {
 }
 
 /// The window of a fresh book, in seconds.
-pub fn fresh_window(_edition: u64) -> u64 {
-    604_800
+pub fn fresh_window(edition: u64) -> u64 {
+    if edition >= 3 {
+        259_200
+    } else {
+        604_800
+    }
 }
 
 /// The number of rounds that an offer has at most.

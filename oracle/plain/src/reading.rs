@@ -170,6 +170,7 @@ pub fn listing(plain: &mut Plain, journal: &[u8]) -> String {
     match opened(journal) {
         Some((edition, records)) => {
             plain.reset(edition);
+            lines.push(format!("edition {edition}"));
             records_of(plain, records, &mut lines);
         }
         None => lines.push("0 13 0".to_string()),
@@ -208,7 +209,7 @@ mod tests {
     fn document_01s_session() {
         for edition in 1..=journal::LATEST {
             let text = listing(&mut Plain::default(), &journal(edition, &session()));
-            assert_eq!(text, SESSION_LISTING);
+            assert_eq!(text, format!("edition {edition}\n{SESSION_LISTING}"));
         }
     }
 
@@ -224,11 +225,13 @@ mod tests {
         assert_eq!(listing(&mut plain, &[]), fresh);
         assert_eq!(listing(&mut plain, &[0x10, 0, 2, 0]), fresh);
         assert_eq!(listing(&mut plain, &[0x10, 0, 3, 0, 0, 1]), fresh);
-        assert_eq!(listing(&mut plain, &[0x10, 0, 2, 0, 1]), "totals 0 0 0\n");
-        assert_eq!(listing(&mut plain, &[0x10, 0, 2, 0, 2]), "totals 0 0 0\n");
-        assert_eq!(plain.book().edition, 2);
+        for edition in 1..next {
+            let text = listing(&mut plain, &[0x10, 0, 2, 0, edition]);
+            assert_eq!(text, format!("edition {edition}\ntotals 0 0 0\n"));
+            assert_eq!(plain.book().edition, u64::from(edition));
+        }
         let trailing = [0x10, 0, 2, 0, 1, 0x21];
-        assert_eq!(listing(&mut plain, &trailing), "1 13 5\ntotals 0 0 0\n");
+        assert_eq!(listing(&mut plain, &trailing), "edition 1\n1 13 5\ntotals 0 0 0\n");
         assert_eq!(listing(&mut plain, &[0; 32_769]), "0 14\n");
     }
 }

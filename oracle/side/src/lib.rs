@@ -7,7 +7,7 @@ mod query;
 mod rows;
 
 pub use asking::answered;
-pub use listing::{answer_line, malformed_line, tables, PROGRAM_HOLDS, TOO_LONG};
+pub use listing::{answer_line, edition_line, malformed_line, tables, PROGRAM_HOLDS, TOO_LONG};
 pub use query::{Query, Reply};
 pub use rows::{Account, Book, Invoice, Offer, Round, Schedule, Totals};
 

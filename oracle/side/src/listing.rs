@@ -9,6 +9,11 @@ use crate::rows::Book;
 pub const PROGRAM_HOLDS: usize = 32_768;
 pub const TOO_LONG: &str = "0 14\n";
 
+/// The first line of a journal whose header is good.
+pub fn edition_line(edition: u64, out: &mut String) {
+    writeln!(out, "edition {edition}").expect("a string takes every line");
+}
+
 pub fn answer_line(number: usize, answer: u64, out: &mut String) {
     writeln!(out, "{number} {answer}").expect("a string takes every line");
 }

@@ -23,16 +23,15 @@ use Rattle.shelves.specs.OfferLaws.{deals-keeping}
 use Rattle.shelves.specs.Moving.{Moves, moves, moves-on, deal-let-in}
 use Rattle.shelves.specs.Placing.{accounts-wrote, invoice-wrote, deal-read, deal-there, deal-gone, came-new, was-by, room-count, deal-here, deal-away, seenAs}
 use Rattle.shelves.specs.Seeing.{accountRow, invoiceRow, dealRow}
-use Rattle.sheet.specs.Sheet.{penAt}
 use Rattle.sheet.specs.SheetLaws.{kept}
 use Rattle.journal.specs.Format.{readAt}
 use Rattle.journal.specs.Answers.{reading, found}
-use Rattle.rules.specs.Model.{freshModel, accountBy, invoiceBy, offerBy}
+use Rattle.rules.specs.Model.{accountBy, invoiceBy, offerBy}
 use Rattle.rules.specs.Keys.{keysBy}
 use Rattle.book.specs.Stored.{modelOf, Shelved}
 use Rattle.book.specs.Turning.{bookBy, Turned, turned, fetched, counts-by, next, accounts-left, invoices-left, offers-left, steps}
 use Rattle.replay.specs.Replay.{replayFrom}
-use Rattle.replay.specs.Standing.{fresh, stepped}
+use Rattle.replay.specs.Standing.{held, stepped}
 use Rattle.replay.specs.Ahead.{ahead, inside}
 use Rattle.replay.specs.Going.{Going, going, going-on, gone-bad, gone}
 use Rattle.table.specs.Tables.{insert}
@@ -40,22 +39,22 @@ use Rattle.replay.proofs.records.Statement.{statement}
 use Rattle.replay.proofs.records.Tie as tie
 
 abbrev Inv-loop2 : tie.InvT-loop2
-Inv-loop2 s out ink e first accounts invoices offers₀ totals settings pen at k next id io ii ia ib one t n slot j₀ offers j =
+Inv-loop2 s out ink first accounts invoices offers₀ totals settings pen at k next id io ii ia ib one t n slot j₀ offers j =
     Moves offers₀ slot offers j
 
 abbrev μ-loop2 : tie.MeasureT-loop2
-μ-loop2 s out ink e first accounts invoices offers₀ totals settings pen at k next id io ii ia ib one t n slot j₀ offers j =
+μ-loop2 s out ink first accounts invoices offers₀ totals settings pen at k next id io ii ia ib one t n slot j₀ offers j =
     j
 
 abbrev Inv-loop : tie.InvT-loop
-Inv-loop s out₀ ink e first accounts₀ invoices₀ offers₀ totals₀ settings₀ pen₀ at₀ k₀ out accounts invoices offers totals settings pen at k =
-    Going ink s (replayFrom s first (freshModel e)) out₀ (penAt 0 false) out at k (bookBy accounts invoices offers totals settings) pen
+Inv-loop s out₀ ink first accounts₀ invoices₀ offers₀ totals₀ settings₀ pen₀ at₀ k₀ out accounts invoices offers totals settings pen at k =
+    Going ink s (replayFrom s first (modelOf (bookBy accounts₀ invoices₀ offers₀ totals₀ settings₀))) out₀ pen₀ out at k (bookBy accounts invoices offers totals settings) pen
 
 abbrev μ-loop : tie.MeasureT-loop
-μ-loop s out₀ ink e first accounts₀ invoices₀ offers₀ totals₀ settings₀ pen₀ at₀ k₀ out accounts invoices offers totals settings pen at k =
+μ-loop s out₀ ink first accounts₀ invoices₀ offers₀ totals₀ settings₀ pen₀ at₀ k₀ out accounts invoices offers totals settings pen at k =
     length s - at
 
-record-read : (c : tie.After-names Inv-loop2 μ-loop2 Inv-loop μ-loop) → readAt (c .before .before .before .before .before .loop .settings .edition) (c .before .before .before .before .before .before .before .before .before .before .before .before .before .before .args .s .now) (c .before .before .before .before .before .loop .at) ≡ found (c .before .before .d .given .0 .0) (c .before .before .d .given .0 .1 .0)
+record-read : (c : tie.After-names Inv-loop2 μ-loop2 Inv-loop μ-loop) → readAt (c .before .before .before .before .before .loop .settings .edition) (c .before .before .before .before .before .before .before .before .before .before .before .before .before .args .s .now) (c .before .before .before .before .before .loop .at) ≡ found (c .before .before .d .given .0 .0) (c .before .before .d .given .0 .1 .0)
 record-read c = sym (c .before .before .before .before .read .ensures) ∙ ap reading (c .before .before .d .given .1)
 
 shelved : (c : tie.After-names Inv-loop2 μ-loop2 Inv-loop μ-loop) → Shelved (bookBy (c .before .before .before .before .before .loop .accounts) (c .before .before .before .before .before .loop .invoices) (c .before .before .before .before .before .loop .offers) (c .before .before .before .before .before .loop .totals) (c .before .before .before .before .before .loop .settings))
@@ -130,11 +129,8 @@ slot-o c = ap (λ n. findIn (take n (c .before .before .before .before .before .
 stored-o : (c : tie.Joined5 Inv-loop2 μ-loop2 Inv-loop μ-loop) → c .if5 .offers ≡ storedDeals (next (step (c .before .before .before .before .before .before .before .before .before .before .before .before .before .before .before .before .before .before .before .before .before .before .before)) .offers)
 stored-o c = ⊎-elim (λ x. grows deals-keeping dealRow (λ r. refl) (left-o (c .before .before .before .before .before .before .before .before .before .before .before .before .before .before .before .before .before .before .before .before .before .before .before)) (wrote-o (c .before .before .before .before .before .before .before .before .before)) (x .0 .taken) (x .7 ∙ deal-let-in (x .1 .inv) (good deals-keeping dealRow (λ r. refl) (left-o (c .before .before .before .before .before .before .before .before .before .before .before .before .before .before .before .before .before .before .before .before .before .before .before)) (wrote-o (c .before .before .before .before .before .before .before .before .before))) (x .6 .result) (c .before .before .before .before .before .before .before .before .before .before .before .before .before .before .before .before .before .before .before .before .before .before .before .turn .result .near .deal .row) (few-o (record { before = (c .before); if5 = x .0 })) (rw (x .6 .ensures) (slot-o (record { before = (c .before); if5 = x .0 }))) (omega (arith, x .2 .left)) ∙ ap (λ z. storedDeals (insert (dealsOf (c .before .before .before .before .before .before .before .before .before .if2 .offers)) z (c .before .before .before .before .before .before .before .before .before .before .before .before .before .before .before .before .before .before .before .before .before .before .before .turn .result .near .deal .row))) (x .6 .ensures))) (λ x. x .1 ∙ stays deals-keeping dealRow (λ r. refl) (left-o (c .before .before .before .before .before .before .before .before .before .before .before .before .before .before .before .before .before .before .before .before .before .before .before)) (wrote-o (c .before .before .before .before .before .before .before .before .before)) (x .0 .left)) (c .if5 .came)
 
-of-edition-requires : tie.Need-of-edition-requires Inv-loop2 μ-loop2 Inv-loop μ-loop
-of-edition-requires c κs = search needs
-
 loop-holds : tie.Need-loop-holds Inv-loop2 μ-loop2 Inv-loop μ-loop
-loop-holds c = going (c .before .before .before .before .before .before .before .before .pre) (fresh (c .before .before .before .before .before .of-edition .ensures))
+loop-holds c = going (c .before .before .before .before .before .before .before .pre .0) (held (c .before .before .before .before .before .before .before .pre .1))
 
 read-requires : tie.Need-read-requires Inv-loop2 μ-loop2 Inv-loop μ-loop
 read-requires c κs = search needs
@@ -423,7 +419,6 @@ records-spec =
     μ-loop2
     Inv-loop
     μ-loop
-    of-edition-requires
     loop-holds
     read-requires
     enum-known-d

@@ -110,8 +110,8 @@ pub fn check_folder(folder: &str) -> Result<(), String> {
 /// The sample holds what it is for: document 01's session, answers that were worked out by hand,
 /// and every answer that a journal reaches.
 fn check(samples: &[Sample]) -> Result<(), String> {
-    if reference::listing(&samples[0].bytes) != SESSION_LISTING {
-        return Err("the original's listing of the session is not document 01's".to_string());
+    if reference::listing(&samples[0].bytes) != format!("edition 1\n{SESSION_LISTING}") {
+        return Err("the original's listing of the session is not the documents'".to_string());
     }
     for (name, text) in SCRIPTS {
         by_hand(name, text)?;
