@@ -4,3 +4,4 @@ pub mod Columns
 pub mod Cursor
 pub mod Cursors
 pub mod Puts
+pub mod Weight

@@ -3,6 +3,7 @@ use mathlib.Core.Path.{_≡_, refl, sym, ap, _∙_}
 use mathlib.Core.Bool.{Bool, true, false, _&&_}
 use mathlib.Core.List.{List, _++_}
 use Prim.Native.Nat.{ℕ, _≤_, _<_}
+use native.Mathlib.Omega.{arith}
 use lib.Dec.{eqb, leb}
 use lib.ListN.{length, drop}
 use borrow.Author.Tests.{eq-eqb, ne-eqb, le-leb, lt-leb, leb-true, ltb-true, ltb-false}
@@ -31,6 +32,7 @@ use Rattle.codec.specs.Cursors.{shows, from, Takes}
 use Rattle.codec.specs.Puts.{Puts}
 use Rattle.codec.specs.declared.Cursor.{Cursor}
 use Rattle.snapshot.specs.Layout.{layout, settings}
+use Rattle.snapshot.specs.Size.{snapshotMost, weighs-layout}
 use Rattle.snapshot.specs.Snapshot.{snapshotOf, readBack, written, writing, soundIn, modelIn, loadedAs, reading}
 
 -- ── Reading ───────────────────────────────────────────────────────
@@ -86,6 +88,10 @@ module _ (b : Book) (l : List ℕ) where
         let d = dry measured in
         let h : length l < length fields = ltb-true (length l) (length fields) (sym (d .1) ∙ s) in
         ap (λ (n : List ℕ). (written (number bufferShort) 0, n)) (d .0) ∙ sym (pick-on _ _ k ∙ pick-off _ _ (lt-leb (length fields) (length l) h))
+
+    -- no buffer of so many bytes is short
+    pub write-room : q .short ≡ true → snapshotMost ≤ length l → ⊥
+    write-room s h = omega (arith, h, ltb-true (length l) (length fields) (sym (dry measured .1) ∙ s), weighs-layout .most (readBack (modelOf b)) (w .fits), ap length (same-fields (modelOf b)))
 
     pub write-whole : {o : List ℕ} {r : Pen} → q .short ≡ false → Puts true layout (readBack (modelOf b)) n (penAt 0 false) o r → (written 0 (r .at), o) ≡ writing b l
     unfolding writing

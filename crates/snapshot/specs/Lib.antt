@@ -3,5 +3,6 @@ pub mod Layout
 pub mod Filling
 pub mod Listing
 pub mod Snapshot
+pub mod Size
 pub mod Answers
 pub mod Trips

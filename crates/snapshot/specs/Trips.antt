@@ -41,6 +41,7 @@ use Rattle.soundness.specs.Books.{Typed}
 use Rattle.codec.specs.Codec.{AllFit, _then_, via, rows}
 use Rattle.codec.specs.Whole.{Reading, loaded, refused, readingOf, read-back, canonical, reading-stops}
 use Rattle.snapshot.specs.Layout.{settings, settingsFrom, settingsParts, negotiation, negotiationFrom, negotiationParts, deal, layout}
+use Rattle.snapshot.specs.Size.{snapshotMost}
 use Rattle.snapshot.specs.Snapshot.{snapshotOf, readBack, written, writing, soundIn, modelIn, loadedAs, reading}
 use Rattle.snapshot.specs.Answers.{same-fields}
 use Rattle.snapshot.specs.declared.Loaded.{Loaded}
@@ -171,6 +172,8 @@ pub record Saved (b : Book) (l : List ℕ) (r : Written) (m : List ℕ) : Type 0
   pub is : (r, m) ≡ writing b l
   pub fits : r .number ≡ 0 → layout .Fits (readBack (modelOf b))
   pub shelved : r .number ≡ 0 → Shelved b
+  -- a buffer that holds a full book's is never short
+  pub room : snapshotMost ≤ length l → r .number ≡ number bufferShort → ⊥
 
 -- where it answers 0 the book is sound, and its fields stand at the buffer's start
 record Stood (b : Book) (r : Written) (m : List ℕ) : Type 0 where

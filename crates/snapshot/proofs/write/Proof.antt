@@ -6,7 +6,7 @@ use borrow.Author.Needs.{needs}
 use borrow.Author.Tests.{not-true, not-false}
 use Rattle.book.specs.Stored.{bookTest}
 use Rattle.codec.specs.Puts.{puts-kept}
-use Rattle.snapshot.specs.Answers.{write-unsound, write-short, write-whole}
+use Rattle.snapshot.specs.Answers.{write-unsound, write-short, write-room, write-whole}
 use Rattle.snapshot.proofs.write.Statement.{statement}
 use Rattle.snapshot.proofs.write.Tie as tie
 
@@ -19,6 +19,7 @@ returns c = record {
   is = write-unsound _ _ (sym (c .before .sound .ensures .0) ∙ not-true _ (c .if1 .taken));
   fits = λ z. let y : _≡_ {A = ℕ} 15 0 = z in absurd (omega (arith, y));
   shelved = λ z. let y : _≡_ {A = ℕ} 15 0 = z in absurd (omega (arith, y));
+  room = λ h z. let y : _≡_ {A = ℕ} 15 14 = z in omega (arith, y);
 }
 
 returns-2 : tie.Need-returns-2
@@ -26,6 +27,7 @@ returns-2 c = record {
   is = write-short _ _ (tested (c .before .before .before .before .before)) (c .before .before .before .put-book .ensures) (c .if2 .taken);
   fits = λ z. let y : _≡_ {A = ℕ} 14 0 = z in absurd (omega (arith, y));
   shelved = λ z. let y : _≡_ {A = ℕ} 14 0 = z in absurd (omega (arith, y));
+  room = λ h z. write-room _ _ (tested (c .before .before .before .before .before)) (c .before .before .before .put-book .ensures) (c .if2 .taken) h;
 }
 
 returns-3 : tie.Need-returns-3
@@ -33,6 +35,7 @@ returns-3 c = record {
   is = write-whole _ _ (tested (c .before .before .before .before .before .before .before .before .before)) (c .before .before .before .before .before .before .before .put-book .ensures) (c .before .before .before .before .if2 .left) (c .before .before .put-book2 .ensures);
   fits = λ z. c .before .before .put-book2 .ensures .fits;
   shelved = λ z. c .before .before .before .before .before .before .before .before .before .before .sound .ensures .1 (not-false _ (c .before .before .before .before .before .before .before .before .before .if1 .left));
+  room = λ h z. let y : _≡_ {A = ℕ} 0 14 = z in omega (arith, y);
 }
 
 pub write-spec : {M : Type 1} → statement M
