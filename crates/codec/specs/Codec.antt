@@ -1,6 +1,6 @@
 -- Codecs over bytes, composed: what is written, what is read, and that the two undo each other. Assumes nothing.
 --
--- A codec says both ways of one kind of value, and carries the two laws. `column`, `pair`, `rows`, `via` and `given` make larger
+-- A codec says both ways of one kind of value, and carries its laws. `column`, `_then_`, `via` and `rows` make larger
 -- codecs of smaller ones, laws included, so that a format is one expression and needs no proof of its own.
 use mathlib.Core.Path.{_≡_, refl, sym, ap, _∙_}
 use mathlib.Core.Bool.{Bool, true, false, _&&_}

@@ -17,7 +17,7 @@ use Rattle.money.specs.Facts.{bits-of-bits}
 use lib.IntN.{ℤ}
 use Rattle.codec.specs.Codec.{Got, got, no, marked, mark-bind, bind, Codec, columnIn, column, countIn, someIn, some-last, rowsIn, rows, pairIn, viaIn, _then_, via}
 use Rattle.codec.specs.Columns.{whole, signed, flag, isOne, oneIf, flag-back}
-use Rattle.codec.specs.Cursor.{cursor, nextOf, countOf}
+use Rattle.codec.specs.Cursor.{cursor, landed, nextOf, countOf}
 use Rattle.codec.specs.declared.Cursor.{Cursor}
 
 -- what a cursor says of x, and what reading on from it gives
@@ -72,16 +72,16 @@ module _ (s : List ℕ) (c : Cursor) (tag top : ℕ) (e : c .code ≡ 0) where
   found i = sym (pick-on _ _ zero-code ∙ ap (marked (c .ok)) i)
 
   is-wrong : begins tag 8 (drop (c .at) s) ≡ false → cursor (number journalMalformed) (c .at) (c .ok) 0 ≡ nextOf s c tag top
-  unfolding nextOf
-  is-wrong b = on _ zero-code (off _ b refl)
+  unfolding nextOf landed columnIn
+  is-wrong b = on _ zero-code (sym (ap (landed c) (pick-off _ _ b)))
 
   is-high : begins tag 8 (drop (c .at) s) ≡ true → top < numberAt 8 (drop (c .at + 3) s) → cursor 0 (c .at + 11) false 0 ≡ nextOf s c tag top
-  unfolding nextOf
-  is-high b h = on _ zero-code (on _ b (off _ (lt-leb _ _ h) refl))
+  unfolding nextOf landed columnIn
+  is-high b h = on _ zero-code (ap (λ (k : Bool). cursor 0 (c .at + 11) k 0) (sym (and-false (c .ok))) ∙ sym (ap (landed c) (pick-on _ _ b ∙ pick-off _ _ (lt-leb _ _ h))))
 
   is-in : {x : ℕ} → begins tag 8 (drop (c .at) s) ≡ true → x ≡ numberAt 8 (drop (c .at + 3) s) → x ≤ top → cursor 0 (c .at + 11) (c .ok) x ≡ nextOf s c tag top
-  unfolding nextOf
-  is-in b i h = on _ zero-code (on _ b (on _ (le-leb _ top (rw i at h)) (ap (cursor 0 (c .at + 11) (c .ok)) i)))
+  unfolding nextOf landed columnIn
+  is-in {x} b i h = on _ zero-code (ap (λ (k : Bool). cursor 0 (c .at + 11) k x) (sym (and-true (c .ok))) ∙ ap (cursor 0 (c .at + 11) (c .ok && true)) i ∙ sym (ap (landed c) (pick-on _ _ b ∙ pick-on _ _ (le-leb _ top (rw i at h)))))
 
   pub next-wrong : begins tag 8 (drop (c .at) s) ≡ false → Next s c tag top (cursor (number journalMalformed) (c .at) (c .ok) 0)
   unfolding shows columnIn column marked pick
@@ -154,23 +154,48 @@ unfolding flag column
 takes-flag tag n = takes-via isOne oneIf (λ x f. flag-back x (f .0)) (n .takes)
 
 -- ── The number of rows ────────────────────────────────────────────
+-- what a number that was read says of the rows
+module _ (c : Cursor) (most : ℕ) where
+  limit : ℕ → ℕ → Got ℕ
+  limit v p = pick (leb v most) (got v p true) (no (number bookUnsound) 0)
+
+  landed-in : (g : Got ℕ) → landed c g .x ≤ most → landed c g ≡ landed c (bind g limit)
+  unfolding landed bind marked limit
+  landed-in (got x n j) h = rw (pick-on (got x n true) (no (number bookUnsound) 0) (le-leb x most h)) (ap (λ (z : Bool). cursor 0 n (c .ok && z) x) (sym (and-true j)))
+  landed-in (no r p) h = refl
+
+  landed-past : (g : Got ℕ) → most < landed c g .x → cursor (number bookUnsound) 0 (c .ok) 0 ≡ landed c (bind g limit)
+  unfolding landed bind marked limit
+  landed-past (got x n j) h = rw (pick-off (got x n true) (no (number bookUnsound) 0) (lt-leb x most h))
+  landed-past (no r p) h = absurd (omega (arith, h))
+
 module _ (s : List ℕ) (c : Cursor) (tag most : ℕ) (k : Cursor) (n : Next s c tag (2 ^ 64 - 1) k) where
   within : ℕ → List ℕ → ℕ → Got ℕ
   within v l p = pick (leb v most) (got v p true) (no (number bookUnsound) 0)
 
-  is-past : most < k .x → cursor (number bookUnsound) 0 (k .ok) 0 ≡ countOf s c tag most
-  unfolding countOf
-  is-past h = rw (← n .is) (off _ (lt-leb (k .x) most h) refl)
+  is-past : most < k .x → cursor (number bookUnsound) 0 (c .ok) 0 ≡ countOf s c tag most
+  unfolding countOf countIn nextOf limit pick
+  is-past h = go (eqb (c .code) 0) (rw (n .is) at h)
+    where
+      go : (t : Bool) → most < pick t (landed c (columnIn tag (2 ^ 64 - 1) s (c .at))) (cursor (c .code) (c .at) (c .ok) 0) .x
+          → cursor (number bookUnsound) 0 (c .ok) 0 ≡ pick t (landed c (bind (columnIn tag (2 ^ 64 - 1) s (c .at)) (limit c most))) (cursor (c .code) (c .at) (c .ok) 0)
+      go true h = landed-past c most (columnIn tag (2 ^ 64 - 1) s (c .at)) h
+      go false h = absurd (omega (arith, h))
 
   is-within : k .x ≤ most → k ≡ countOf s c tag most
-  unfolding countOf
-  is-within h = rw (← n .is) (on _ (le-leb (k .x) most h) refl)
+  unfolding countOf countIn nextOf limit pick
+  is-within h = n .is ∙ go (eqb (c .code) 0) (rw (n .is) at h)
+    where
+      go : (t : Bool) → pick t (landed c (columnIn tag (2 ^ 64 - 1) s (c .at))) (cursor (c .code) (c .at) (c .ok) 0) .x ≤ most
+          → pick t (landed c (columnIn tag (2 ^ 64 - 1) s (c .at))) (cursor (c .code) (c .at) (c .ok) 0) ≡ pick t (landed c (bind (columnIn tag (2 ^ 64 - 1) s (c .at)) (limit c most))) (cursor (c .code) (c .at) (c .ok) 0)
+      go true h = landed-in c most (columnIn tag (2 ^ 64 - 1) s (c .at)) h
+      go false h = refl
 
-  pub count-past : most < k .x → Count s c tag most (cursor (number bookUnsound) 0 (k .ok) 0)
+  pub count-past : most < k .x → Count s c tag most (cursor (number bookUnsound) 0 (c .ok) 0)
   unfolding within countIn column shows from marked pick
   count-past h = record { is = is-past h; walks = walks-on within (n .takes .walks) (past (eqb (k .code) 0) refl); low = omega arith }
     where
-      past : (t : Bool) → eqb (k .code) 0 ≡ t → Walks s k (within (k .x)) (cursor (number bookUnsound) 0 (k .ok) 0) 0
+      past : (t : Bool) → eqb (k .code) 0 ≡ t → Walks s k (within (k .x)) (cursor (number bookUnsound) 0 (c .ok) 0) 0
       past true e = record { is = sym (pick-on _ _ e ∙ ap (marked (k .ok)) (pick-off _ _ (lt-leb (k .x) most h))) }
       past false e = absurd (omega (arith, n .idle e))
 

@@ -5,3 +5,4 @@ pub mod Cursor
 pub mod Cursors
 pub mod Puts
 pub mod Weight
+pub mod OneResult

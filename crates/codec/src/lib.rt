@@ -84,7 +84,7 @@ pub fn count(s: &[u8], c: Cursor, tag: u8, most: u64) -> Cursor
         return Cursor {
             code: refusal::BOOK_UNSOUND,
             at: 0,
-            ok: k.ok,
+            ok: c.ok,
             x: 0,
         };
     }

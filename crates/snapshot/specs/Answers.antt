@@ -32,8 +32,8 @@ use Rattle.codec.specs.Cursors.{shows, from, Takes}
 use Rattle.codec.specs.Puts.{Puts}
 use Rattle.codec.specs.declared.Cursor.{Cursor}
 use Rattle.snapshot.specs.Layout.{layout, settings}
-use Rattle.snapshot.specs.Size.{snapshotMost, weighs-layout}
-use Rattle.snapshot.specs.Snapshot.{snapshotOf, readBack, written, writing, soundIn, modelIn, loadedAs, reading}
+use Rattle.snapshot.specs.Size.{weighs-layout}
+use Rattle.snapshot.specs.Snapshot.{snapshotOf, snapshotMost, readBack, written, writing, soundIn, modelIn, loadedAs, reading}
 
 -- ── Reading ───────────────────────────────────────────────────────
 module _ (s : List ℕ) (c : Cursor) (m : Model) (t : Takes s (cursor 0 0 true 0) layout c m) where

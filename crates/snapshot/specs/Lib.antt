@@ -1,8 +1,8 @@
 pub mod Rounds
 pub mod Layout
-pub mod Filling
-pub mod Listing
 pub mod Snapshot
 pub mod Size
+pub mod Filling
+pub mod Listing
 pub mod Answers
 pub mod Trips

@@ -1,10 +1,11 @@
--- How long a snapshot can be: a full book has 62,799 bytes.
+-- How long a snapshot can be: at most what a full book takes.
 use Prim.Native.Nat.{ℕ, _≤_}
 use native.Mathlib.Omega.{arith}
 use lib.ListN.{length}
 use Rattle.rules.specs.Model.{Model}
 use Rattle.codec.specs.Codec.{_then_}
 use Rattle.codec.specs.Weight.{Weighs, weighs-column, weighs-then, weighs-via, weighs-signed, weighs-flag, weighs-rows}
+use Rattle.snapshot.specs.Snapshot.{snapshotMost}
 use Rattle.snapshot.specs.Layout.{settings, totals, purse, account, invoice, terms, offer, round, negotiation, schedule, deal, layout}
 
 weighs-settings : Weighs settings 66
@@ -50,9 +51,6 @@ weighs-schedule = weighs-via _ _ _ (weighs-then (weighs-column _ _) (weighs-then
 weighs-deal : Weighs deal 847
 unfolding deal
 weighs-deal = weighs-via _ _ _ (weighs-then (weighs-column _ _) (weighs-then weighs-offer (weighs-then weighs-negotiation weighs-schedule)))
-
-abbrev pub snapshotMost : ℕ
-snapshotMost = 62799
 
 pub weighs-layout : Weighs layout snapshotMost
 unfolding layout

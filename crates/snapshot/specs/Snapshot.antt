@@ -1,7 +1,8 @@
 -- Document 02, request a: what writing a book answers and leaves, and what reading bytes answers.
+use mathlib.Core.Path.{_≡_}
 use mathlib.Core.Bool.{Bool}
 use mathlib.Core.List.{List, _++_}
-use Prim.Native.Nat.{ℕ}
+use Prim.Native.Nat.{ℕ, _≤_}
 use lib.Dec.{leb}
 use lib.ListN.{length, drop}
 use Rattle.refusal.specs.Choice.{pick}
@@ -9,7 +10,7 @@ use Rattle.refusal.specs.Refusal.{number, bufferShort, bookUnsound}
 use Rattle.edition.specs.Edition.{firstEdition}
 use Rattle.rules.specs.Model.{Model, freshModel}
 use Rattle.book.specs.declared.Book.{Book}
-use Rattle.book.specs.Stored.{modelOf, stored, bookTest}
+use Rattle.book.specs.Stored.{modelOf, stored, bookTest, Shelved}
 use Rattle.codec.specs.Whole.{Reading, loaded, refused, readingOf}
 use Rattle.snapshot.specs.Layout.{layout, settingsFrom, settingsParts}
 use Rattle.snapshot.specs.declared.Loaded.{Loaded}
@@ -34,11 +35,23 @@ writing b l =
 abbrev pub readBack : Model → Model
 readBack m = record { accounts = m .accounts; invoices = m .invoices; offers = m .offers; totals = m .totals; settings = settingsFrom (settingsParts (m .settings)) }
 
+-- a full book's has so many bytes
+abbrev pub snapshotMost : ℕ
+snapshotMost = 62799
+
+-- what `write` ensures: the answer and the buffer; of a book that was written, that each number fits its field and each array is a table; and that a buffer which holds a full book's is
+-- never short
+pub record Saved (b : Book) (l : List ℕ) (r : Written) (m : List ℕ) : Type 0 where
+  pub is : (r, m) ≡ writing b l
+  pub fits : r .number ≡ 0 → layout .Fits (readBack (modelOf b))
+  pub shelved : r .number ≡ 0 → Shelved b
+  pub room : snapshotMost ≤ length l → r .number ≡ number bufferShort → ⊥
+
 -- ── Reading ───────────────────────────────────────────────────────
--- 13 at the first wrong field; 15 at once for a count past its limit, and for a book that is not sound; else its model
 unfoldable pub soundIn : Model → Bool
 soundIn m = bookTest (stored m)
 
+-- 13 at the first wrong field, 15 at once for a count past its limit; with all fields there, 15 for a book that is not sound, else its model
 unfoldable pub modelIn : List ℕ → Reading Model
 modelIn s = readingOf layout soundIn s
 

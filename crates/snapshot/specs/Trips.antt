@@ -41,8 +41,7 @@ use Rattle.soundness.specs.Books.{Typed}
 use Rattle.codec.specs.Codec.{AllFit, _then_, via, rows}
 use Rattle.codec.specs.Whole.{Reading, loaded, refused, readingOf, read-back, canonical, reading-stops}
 use Rattle.snapshot.specs.Layout.{settings, settingsFrom, settingsParts, negotiation, negotiationFrom, negotiationParts, deal, layout}
-use Rattle.snapshot.specs.Size.{snapshotMost}
-use Rattle.snapshot.specs.Snapshot.{snapshotOf, readBack, written, writing, soundIn, modelIn, loadedAs, reading}
+use Rattle.snapshot.specs.Snapshot.{snapshotOf, readBack, written, writing, Saved, soundIn, modelIn, loadedAs, reading}
 use Rattle.snapshot.specs.Answers.{same-fields}
 use Rattle.snapshot.specs.declared.Loaded.{Loaded}
 use Rattle.snapshot.specs.declared.Written.{Written}
@@ -167,18 +166,14 @@ module _ (b : Book) (t : bookTest b ≡ true) (y : Shelved b) where
       ∙ ap loadedAs (read-back layout soundIn (readBack (modelOf b)) f (ap bookTest (sym again-stored) ∙ again-sound))
       ∙ ap (λ (x : Book). record { number = 0; at = 0; book = x }) (sym again-stored)
 
--- what `write` ensures
-pub record Saved (b : Book) (l : List ℕ) (r : Written) (m : List ℕ) : Type 0 where
-  pub is : (r, m) ≡ writing b l
-  pub fits : r .number ≡ 0 → layout .Fits (readBack (modelOf b))
-  pub shelved : r .number ≡ 0 → Shelved b
-  -- a buffer that holds a full book's is never short
-  pub room : snapshotMost ≤ length l → r .number ≡ number bufferShort → ⊥
-
 -- where it answers 0 the book is sound, and its fields stand at the buffer's start
 record Stood (b : Book) (r : Written) (m : List ℕ) : Type 0 where
   pub sound : bookTest b ≡ true
   pub fields : take (r .size) m ≡ snapshotOf (modelOf b)
+
+-- any two answers that it allows coincide
+pub one-saved : {b : Book} {l : List ℕ} {r t : Written} {m n : List ℕ} → Saved b l r m → Saved b l t n → _≡_ {A = Written × List ℕ} (r, m) (t, n)
+one-saved x y = x .is ∙ sym (y .is)
 
 stood : (b : Book) (l : List ℕ) (r : Written) (m : List ℕ) → (r, m) ≡ writing b l → r .number ≡ 0 → Stood b r m
 unfolding writing pick

@@ -7,8 +7,7 @@ use book::Book;
 use codec::Cursor;
 ghost use mathlib.Core.Path.{_≡_};
 ghost use Rattle.codec.specs.Whole.{refused};
-ghost use Rattle.snapshot.specs.Snapshot.{reading, loadedAs};
-ghost use Rattle.snapshot.specs.Trips.{Saved};
+ghost use Rattle.snapshot.specs.Snapshot.{Saved, reading, loadedAs};
 
 // The number of a refusal and its offset, with the first edition's fresh book; or 0 and the book.
 pub struct Loaded {
