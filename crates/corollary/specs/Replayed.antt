@@ -8,6 +8,7 @@ use native.Mathlib.Omega.{arith}
 use lib.ListN.{length}
 use Rattle.refusal.specs.Choice.{pick}
 use Rattle.refusal.specs.ChoiceLaws.{pick-on}
+use Rattle.refusal.specs.Refusal.{number, bookUnsound}
 use Rattle.edition.specs.Edition.{listed}
 use Rattle.command.specs.declared.Command.{Command}
 use Rattle.journal.specs.Answers.{Reading, found, refused, ended}
@@ -16,7 +17,8 @@ use Rattle.journal.specs.RoundTrip.{header-long, header-back}
 use Rattle.rules.specs.Model.{Model, freshModel}
 use Rattle.book.specs.declared.Book.{Book}
 use Rattle.book.specs.Stored.{modelOf, stored, bookTest, Shelved}
-use Rattle.book.specs.Shelving.{shelved-stored, model-stored}
+use Rattle.book.specs.Shelving.{back, shelved-stored, model-stored}
+use Rattle.book.specs.Tested.{shelved-of}
 use Rattle.soundness.specs.Sound.{ModelSound, fresh-model}
 use Rattle.soundness.specs.Played.{answerTo, obeyed, played, answersOf}
 use Rattle.soundness.specs.Staying.{edition-stays}
@@ -28,7 +30,7 @@ use Rattle.history.specs.Demand.{since}
 use Rattle.history.specs.Meets.{Meets}
 use Rattle.history.specs.Stored.{stored-meets}
 use Rattle.replay.specs.declared.Outcome.{Outcome}
-use Rattle.replay.specs.Replay.{atEnd, atHeader, Replayed, halted, heard, follow, replayBy, replayFrom, headed, replayOn, editionOf, replayOf, outcomeOf, replayedFrom}
+use Rattle.replay.specs.Replay.{atEnd, atHeader, Replayed, halted, heard, follow, replayBy, replayFrom, headed, replayOn, editionOf, replayOf, outcomeOf, ending, replayedFrom}
 use Rattle.replay.specs.ReplayLaws.{replay-headed}
 use Rattle.replay.specs.Heading.{edition-known}
 use Rattle.corollary.specs.Journals.{taking, commandsBy, commandsOn, commandsIn, recordsOf, journalOf, AllHeld}
@@ -103,6 +105,17 @@ module _ (b : Book) (y : Typed b) (t : bookTest b ≡ true) (s : List ℕ) (r : 
 
   pub replay-since : MeetsSince (modelOf b) (from (modelOf b) (commandsOn (b .settings .edition) s) .history) (modelOf (r .book))
   replay-since = left-since (model-sound b y t) s (from-left b s t e)
+
+-- a journal whose header is bad or of another edition leaves the very book, sound or not
+module _ (b : Book) (y : Typed b) (s : List ℕ) (h : headed (b .settings .edition) s ≡ false) where
+  header-leaves : (t : Bool) → bookTest b ≡ t → pick t (outcomeOf 0 (replayOn (modelOf b) s)) (ending b 0 (number bookUnsound) 0) .book ≡ b
+  unfolding pick outcomeOf replayOn
+  header-leaves true t = rw h (sym (back (shelved-of b (y .accounts) (y .invoices) (y .offers) t)))
+  header-leaves false t = refl
+
+  pub header-returns : replayedFrom b s .book ≡ b
+  unfolding replayedFrom
+  header-returns = header-leaves (bookTest b) refl
 
 -- ── Its case at a fresh book ──────────────────────────────────────
 pub replay-model : (s : List ℕ) → replayOf s .model ≡ played (freshModel (editionOf s)) (commandsIn s)

@@ -1,4 +1,4 @@
-// The tag of each field; the journal's own where it has the field.
+// The tag of each field; that of the journal's field of the same name where there is one.
 pub(crate) const TIME: u8 = 0x01;
 
 pub(crate) const ID: u8 = 0x03;
