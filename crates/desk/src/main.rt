@@ -10,7 +10,9 @@ ghost use Rattle.replay.specs.Text.{listingOn, listingOf};
 ghost use Rattle.sheet.specs.Shown.{shownIn};
 
 fn usage() {
-    files::say(b"usage: ./run desk < JOURNAL\n       ./run desk --from SNAPSHOT < JOURNAL\n       ./run desk --help\n");
+    files::say(
+        b"usage: ./run desk < JOURNAL\n       ./run desk --from SNAPSHOT < JOURNAL\n       ./run desk --help\n",
+    );
     files::failed();
 }
 

@@ -57,7 +57,11 @@ pub fn load(path: &[u8]) -> Given
     }
     let mut bytes: [u8; 65536] = [0; 65536];
     let n = io::read_full(fd, &mut bytes);
-    if !files::ends(fd, path, b"more than 65,536 bytes; no snapshot is so long (13)") {
+    if !files::ends(
+        fd,
+        path,
+        b"more than 65,536 bytes; no snapshot is so long (13)",
+    ) {
         return none();
     }
     read(path, &bytes[..n])

@@ -168,7 +168,11 @@ fn read_journal(start: Given, journal: &[u8], out: &[u8]) {
     }
     let mut bytes: [u8; 32768] = [0; 32768];
     let n = io::read_full(fd, &mut bytes);
-    if files::ends(fd, journal, b"more than 32,768 bytes (14); nothing was written") {
+    if files::ends(
+        fd,
+        journal,
+        b"more than 32,768 bytes (14); nothing was written",
+    ) {
         keep(start, journal, &bytes[..n], out);
     }
 }
