@@ -187,6 +187,10 @@ fn run(start: Given, first: usize, second: usize) {
         usage();
         return;
     }
+    if check::same(&journal[..n], &out[..k]) {
+        files::complain(&out[..k], b"is the journal itself; nothing was written");
+        return;
+    }
     read_journal(start, &journal[..n], &out[..k]);
 }
 
