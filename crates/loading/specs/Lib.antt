@@ -1,0 +1,2 @@
+-- The book that reading bytes answers.
+pub mod Read
