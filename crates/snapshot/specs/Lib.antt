@@ -6,3 +6,4 @@ pub mod Filling
 pub mod Listing
 pub mod Answers
 pub mod Trips
+pub mod ReadSound

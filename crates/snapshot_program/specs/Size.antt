@@ -10,8 +10,7 @@ use Rattle.refusal.specs.ChoiceLaws.{either}
 use Rattle.book.specs.declared.Book.{Book}
 use Rattle.book.specs.Stored.{modelOf, bookTest}
 use Rattle.snapshot.specs.declared.Written.{Written}
-use Rattle.snapshot.specs.Snapshot.{snapshotOf, writing}
-use Rattle.snapshot.specs.Trips.{Saved}
+use Rattle.snapshot.specs.Snapshot.{snapshotOf, writing, Saved}
 
 within : (b : Book) (l : List ℕ) → writing b l .0 .size ≤ length l
 unfolding writing

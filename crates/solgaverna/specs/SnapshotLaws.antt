@@ -1,28 +1,21 @@
 -- Where each answer of the functions on snapshots comes from. Assumes nothing.
 use mathlib.Core.Path.{_≡_, refl, sym, ap, _∙_}
-use mathlib.Core.Bool.{Bool, true, false, _&&_}
+use mathlib.Core.Bool.{Bool, true, false}
 use mathlib.Core.List.{List, _++_}
 use Prim.Native.Nat.{ℕ}
-use native.Mathlib.Omega.{arith}
 use lib.Dec.{eqb, leb}
 use lib.ListN.{length, drop}
-use borrow.Author.Tests.{eqb-true}
 use Rattle.refusal.specs.Choice.{pick}
 use Rattle.refusal.specs.ChoiceLaws.{on, off, pick-on}
-use Rattle.refusal.specs.Refusal.{number, journalMalformed, bufferShort, bookUnsound}
+use Rattle.refusal.specs.Refusal.{number, journalMalformed, bufferShort}
 use Rattle.sheet.specs.Shown.{listedIn, shownIn}
 use Rattle.book.specs.declared.Book.{Book}
-use Rattle.book.specs.Stored.{modelOf, stored, bookTest}
-use Rattle.rules.specs.Model.{Model}
-use Rattle.wire.specs.FieldLaws.{and-right}
-use Rattle.codec.specs.Codec.{Got, got, no}
-use Rattle.codec.specs.Whole.{Reading, loaded, refused, readingOf, closing, reading-stops}
+use Rattle.book.specs.Stored.{modelOf, bookTest}
 use Rattle.replay.specs.Text.{listedFrom, shownFrom}
-use Rattle.snapshot.specs.Layout.{layout}
 use Rattle.snapshot.specs.declared.Loaded.{Loaded}
 use Rattle.snapshot.specs.declared.Written.{Written}
-use Rattle.snapshot.specs.Snapshot.{snapshotOf, written, writing, soundIn, modelIn, loadedAs, reading}
-use Rattle.snapshot.specs.Trips.{Saved}
+use Rattle.snapshot.specs.Snapshot.{snapshotOf, written, writing, Saved, reading}
+use Rattle.snapshot.specs.ReadSound.{reading-sound}
 use Rattle.solgaverna.specs.Answers.{minus, coded}
 use Rattle.solgaverna.specs.AnswerLaws.{sizes}
 use Rattle.solgaverna.specs.Snapshots.{snapshotFor, listingFor, ofSnapshot, wrongField}
@@ -64,25 +57,8 @@ module _ {b : Book} {l m : List ℕ} {w : Written} (t : bookTest b ≡ true) (s 
   put-whole h k = ap (λ (x : ℕ). (x, m)) (on _ h k) ∙ ap saved (s .is) ∙ snapshot-saved b l t
 
 -- a book that was read is sound
-closed-sound : (x : Got Model) (n : ℕ) (m : Model) → closing soundIn n x ≡ loaded m → bookTest (stored m) ≡ true
-unfolding closing pick soundIn
-closed-sound (got x p k) n m e = go (eqb p n) (k && soundIn x) refl e
-  where
-    go : (t u : Bool) → k && soundIn x ≡ u → pick t (pick u (loaded x) (refused (number bookUnsound) 0)) (refused (number journalMalformed) p) ≡ loaded m → bookTest (stored m) ≡ true
-    go true true h i = let q : x ≡ m = cc (i) in rw (← q) (and-right k (soundIn x) h)
-    go true false h i = let z : _≡_ {A = ℕ} 0 1 = cc (i) in absurd (omega arith)
-    go false u h i = let z : _≡_ {A = ℕ} 0 1 = cc (i) in absurd (omega arith)
-closed-sound (no r p) n m e = let z : _≡_ {A = ℕ} 0 1 = cc (e) in absurd (omega arith)
-
-module _ (f : List ℕ) where
-  found-sound : (g : Reading Model) → modelIn f ≡ g → loadedAs g .number ≡ 0 → bookTest (loadedAs g .book) ≡ true
-  unfolding loadedAs modelIn readingOf
-  found-sound (loaded m) i z = closed-sound (layout .into f 0) (length f) m i
-  found-sound (refused n at) i z = absurd (omega (arith, reading-stops layout soundIn f n at i, z))
-
-  pub read-sound : {r : Loaded} → r ≡ reading f → eqb (r .number) 0 ≡ true → bookTest (r .book) ≡ true
-  unfolding reading
-  read-sound {r} e z = rw e (found-sound (modelIn f) refl (ap (λ (x : Loaded). x .number) (sym e) ∙ eqb-true (r .number) 0 z))
+pub read-sound : (f : List ℕ) {r : Loaded} → r ≡ reading f → eqb (r .number) 0 ≡ true → bookTest (r .book) ≡ true
+read-sound f e z = rw e (reading-sound f)
 
 -- a listing from a sound book
 pub listing-told : (b : Book) (s l : List ℕ) {x : ℕ × ℕ} {m : List ℕ} {r : ℕ} → bookTest b ≡ true → r ≡ coded (x .0) (x .1)

@@ -1,5 +1,5 @@
 use borrow.Author.Needs.{needs}
-use Rattle.loading.specs.Read.{fresh-sound}
+use Rattle.snapshot.specs.ReadSound.{fresh-sound}
 use Rattle.loading.proofs.none.Statement.{statement}
 use Rattle.loading.proofs.none.Tie as tie
 

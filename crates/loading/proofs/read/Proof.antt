@@ -1,5 +1,5 @@
 use borrow.Author.Needs.{needs}
-use Rattle.loading.specs.Read.{reading-sound}
+use Rattle.snapshot.specs.ReadSound.{reading-sound}
 use Rattle.loading.proofs.read.Statement.{statement}
 use Rattle.loading.proofs.read.Tie as tie
 

@@ -1,2 +1,0 @@
--- The book that reading bytes answers.
-pub mod Read
