@@ -92,12 +92,17 @@ fn maps(runs: usize, journal: &Journal, asked: &[Offer]) {
     });
 }
 
-/// The time of many less the time of none, which is the replay before them.
 fn show(runs: usize, what: &str, many: u64, work: &dyn Fn(u64) -> u64) {
-    let mut times: Vec<_> = (0..runs).map(|_| seconds(work, many) - seconds(work, 0)).collect();
-    times.sort_by(f64::total_cmp);
-    let each = |at: usize| times[at] * 1e9 / many as f64;
+    let times = lowest_first(runs, many, work);
+    let each = |at: usize| times[at] * 1e9;
     println!("{what:32} {:8.1} {:8.1} {:8.1}", each(0), each(runs / 2), each(runs - 1));
+}
+
+/// Seconds for one: the time of many less the time of none, which is what stands before them.
+pub fn lowest_first(runs: usize, many: u64, work: &dyn Fn(u64) -> u64) -> Vec<f64> {
+    let mut times: Vec<_> = (0..runs).map(|_| (seconds(work, many) - seconds(work, 0)) / many as f64).collect();
+    times.sort_by(f64::total_cmp);
+    times
 }
 
 fn seconds(work: &dyn Fn(u64) -> u64, times: u64) -> f64 {

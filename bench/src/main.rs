@@ -1,7 +1,8 @@
-//! Replays the same journals through the original and through the proved library, and times single lookups.
+//! Replays the same journals through the original and through the proved library, and times single lookups and snapshots.
 
 mod journals;
 mod lookups;
+mod snapshots;
 
 use std::time::Instant;
 
@@ -53,6 +54,7 @@ fn measure(runs: usize, journals: &[Vec<u8>]) {
     let ratio: Vec<_> = original.iter().zip(&port).map(|(one, two)| two / one).collect();
     println!("library / original, replay and listing: {:.2} (middles)", middle(&ratio));
     lookups::measure(runs, &journals[0]);
+    snapshots::measure(runs, journals);
 }
 
 fn timed<T>(work: impl FnOnce() -> T) -> (f64, T) {

@@ -1,20 +1,27 @@
-/* The session of the README from its text: a journal, its listing, the lender's figures and the offer, and questions. */
+/* The session of the README from its text: a journal, its listing, the lender's figures and the offer, and questions. Then the
+ * session in edition 3, in two parts with a snapshot between them. */
 #include <stdio.h>
 #include <string.h>
 
 #include "solgaverna.h"
 
-static const char session[] =
-    "open-account 100 1\n"
-    "open-account 100 2\n"
-    "deposit 100 1 5000\n"
-    "approve 100 1 5000\n"
-    "register 100 2 10 2000\n"
-    "create 100 1 20 10 1000 500 86400 0\n"
+#define MORNING                               \
+    "open-account 100 1\n"                    \
+    "open-account 100 2\n"                    \
+    "deposit 100 1 5000\n"                    \
+    "approve 100 1 5000\n"                    \
+    "register 100 2 10 2000\n"                \
+    "create 100 1 20 10 1000 500 86400 0\n"   \
     "counter 100 2 20 900 500 86400 0\n"
-    "amend 100 1 20 900 500 86400 0\n"
-    "amend 100 1 20 900 500 86400 1\n"
-    "accept 100 2 20\n";
+#define AFTERNOON                        \
+    "amend 100 1 20 900 500 86400 0\n"   \
+    "amend 100 1 20 900 500 86400 1\n"   \
+    "accept 100 2 20\n"
+
+static const char session[] = MORNING AFTERNOON;
+static const char morning[] = "edition 3\n" MORNING;
+static const char afternoon[] = "edition 3\n" AFTERNOON;
+static const char nothing[] = "edition 3\n";
 
 static const char questions[] =
     "offer 20\n"
@@ -61,6 +68,38 @@ static int print_answers(const uint8_t *journal, size_t size) {
     return 0;
 }
 
+/* The session in two parts: a snapshot after the first, the rest from it, and the snapshot after that, which reads back. */
+static int print_parts(void) {
+    static uint8_t journal[4096], first[1024], last[1024], again[1024], text[4096];
+    int64_t size = solgaverna_journal((const uint8_t *)morning, strlen(morning), journal, sizeof journal);
+    int64_t kept = size < 0 ? size : solgaverna_snapshot(journal, size, first, sizeof first);
+    size = solgaverna_journal((const uint8_t *)afternoon, strlen(afternoon), journal, sizeof journal);
+    if (kept < 0 || size < 0) {
+        fprintf(stderr, "refused\n");
+        return 1;
+    }
+    printf("snapshot of %lld bytes\n", (long long)kept);
+    int64_t written = solgaverna_listing_from(first, kept, journal, size, text, sizeof text);
+    fwrite(text, 1, written < 0 ? 0 : written, stdout);
+    written = solgaverna_ask_from(first, kept, journal, size, (const uint8_t *)questions, strlen(questions), text, sizeof text);
+    fwrite(text, 1, written < 0 ? 0 : written, stdout);
+    written = solgaverna_snapshot_from(first, kept, journal, size, last, sizeof last);
+    printf("snapshot of %lld bytes\n", (long long)written);
+    size = solgaverna_journal((const uint8_t *)nothing, strlen(nothing), journal, sizeof journal);
+    if (written < 0 || size < 0 || solgaverna_snapshot_from(last, written, journal, size, again, sizeof again) != written ||
+        memcmp(last, again, written) != 0) {
+        fprintf(stderr, "not read back\n");
+        return 1;
+    }
+    if (solgaverna_snapshot_from(first, kept - 1, journal, size, last, sizeof last) != -13 ||
+        solgaverna_faulty_snapshot(first, kept) != UINT64_MAX) {
+        fprintf(stderr, "not told\n");
+        return 1;
+    }
+    printf("field %llu is cut\n", (unsigned long long)solgaverna_faulty_snapshot(first, kept - 1));
+    return 0;
+}
+
 int main(void) {
     static uint8_t journal[4096], listing[4096];
     uint64_t figures[4], offer[10];
@@ -80,5 +119,5 @@ int main(void) {
     printf("lender 1 offered %llu accepted %llu\n", (unsigned long long)figures[0], (unsigned long long)figures[1]);
     printf("offer %llu amount %llu status %llu\n", (unsigned long long)offer[0], (unsigned long long)offer[3],
            (unsigned long long)offer[7]);
-    return print_answers(journal, size);
+    return print_answers(journal, size) || print_parts();
 }

@@ -1,11 +1,12 @@
-/* The proved book for C. The bytes of a journal go in; its listing, its offers, its figures or answers to questions come out
- * in a lent buffer.
+/* The proved book for C. The bytes of a journal go in, with a snapshot before it or not; its listing, its offers, its figures,
+ * answers to questions or a snapshot come out in a lent buffer.
  *
  * Every function answers on every input. At least 0: how many bytes, offers, numbers or answers were written. Below 0: minus
  * the number of a refusal, and the buffer is as it was:
  *    3  a list that is none, or an unlisted status
- *   13  the journal or the text is malformed, or a line is no question
+ *   13  the journal, the text or the snapshot is malformed, or a line is no question
  *   14  the buffer is too short
+ *   15  the snapshot is of no sound book
  * Room past an answer is untouched. Nothing is kept between calls. Give a thread that calls it 1 MiB of stack or more: a
  * replay was measured to take between 448 and 480 KiB on Arm, and no proof bounds it.
  *
@@ -72,5 +73,22 @@ enum {
 };
 int64_t solgaverna_answers(const uint8_t *journal, size_t journal_len, const uint64_t *questions, size_t questions_len,
                            uint64_t *out, size_t out_len);
+
+/* The snapshot of the book after the journal: the whole book in bytes (docs/SNAPSHOT.md), 62,799 of them at most. */
+int64_t solgaverna_snapshot(const uint8_t *journal, size_t journal_len, uint8_t *out, size_t out_len);
+
+/* A journal that goes on from the book of a snapshot. That book is of edition 3, and so must the journal be. First the snapshot
+ * is refused (13 or 15), then the journal (13), then the buffer (14). What comes out is the snapshot of the book after it, the
+ * listing, where a bad header, another edition's or a malformed record is said and is no refusal, or the answers to questions,
+ * as of `solgaverna_ask`. After a journal without commands the snapshot is `from` again, byte for byte. */
+int64_t solgaverna_snapshot_from(const uint8_t *from, size_t from_len, const uint8_t *journal, size_t journal_len,
+                                 uint8_t *out, size_t out_len);
+int64_t solgaverna_listing_from(const uint8_t *from, size_t from_len, const uint8_t *journal, size_t journal_len,
+                                uint8_t *out, size_t out_len);
+int64_t solgaverna_ask_from(const uint8_t *from, size_t from_len, const uint8_t *journal, size_t journal_len,
+                            const uint8_t *questions, size_t questions_len, uint8_t *out, size_t out_len);
+
+/* Where a snapshot is malformed: the offset of its first wrong field, UINT64_MAX where it is not. */
+uint64_t solgaverna_faulty_snapshot(const uint8_t *from, size_t from_len);
 
 #endif

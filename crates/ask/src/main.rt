@@ -1,5 +1,10 @@
-// Replays the journal that its argument names, and answers the questions on standard input, each line as it comes.
+// Replays the journal that its argument names, from a fresh book or on a snapshot's, and answers the questions on standard input, each line
+// as it comes.
 use book::Book;
+use files::failed;
+use files::say;
+use journal::Opened;
+use loading::Given;
 use text::Answer;
 ghost use mathlib.Core.Path.{_≡_};
 ghost use mathlib.Core.Bool.{true};
@@ -8,24 +13,16 @@ ghost use lib.ListN.{length};
 ghost use Rattle.text.specs.declared.Answer.the-variants.{Done};
 ghost use Rattle.book.specs.Stored.{bookTest, Shelved};
 
-// A journal has at most so many bytes, and a question's line never so many.
-const JOURNAL: usize = 32768;
-
+// A question's line never has so many bytes.
 const LINE: usize = 1024;
 
-// Where a program that cannot end with a status says that it failed: ./run listens there.
-const STATUS: i32 = 9;
-
-fn failed() {
-    io::write_all(STATUS, b"1");
-}
-
-fn say(words: &[u8]) {
-    io::write_all(libc::STDERR_FILENO, words);
-}
-
 fn usage() {
-    say(b"usage: ./run ask JOURNAL < QUESTIONS\n       ./run ask --help\n");
+    say(
+        b"usage: ./run ask JOURNAL < QUESTIONS
+       ./run ask --from SNAPSHOT JOURNAL < QUESTIONS
+       ./run ask --help
+",
+    );
     failed();
 }
 
@@ -33,7 +30,8 @@ fn help() {
     io::write_all(
         1,
         b"./run ask JOURNAL < QUESTIONS
-Replays a journal and answers questions about its book, one a line:
+./run ask --from SNAPSHOT JOURNAL < QUESTIONS
+Replays a journal, from a fresh book or on that of a snapshot, and answers questions about its book, one a line:
   offer ID                      0 and ten numbers, or 4
   offers-by-invoice ID          0 COUNT, then a line of ten numbers each
   offers-by-lender ID
@@ -57,11 +55,6 @@ negotiation's status and outcome: 0 none, 1 Open, 2 Closed, 3 Accepted, 4 Expire
 1 weekly, 2 fortnightly, 3 thirty days. Seats are a bit each.
 ",
     );
-}
-
-// Whether a word is --help or -h.
-fn asks_help(word: &[u8]) -> bool {
-    check::same(word, b"--help") | check::same(word, b"-h")
 }
 
 // What was read of standard input and not yet answered, the number of the next line, and whether to go on.
@@ -299,42 +292,99 @@ fn answer_from(journal: &[u8]) {
     serve(book);
 }
 
-// The journal of a file, up to its limit.
-fn read_journal(path: &[u8]) {
-    let fd = os::open_read(path);
+// A journal of another edition leaves the snapshot's book as it is.
+fn warn_from(journal: &[u8], answered: usize, at: usize) {
+    if at != 0 {
+        warn(answered, at);
+        return;
+    }
+    say(b"warning: record 0 at offset 0, the header, ");
+    let h = journal::header(journal);
+    if let Opened::Records(named, _) = h {
+        say(b"is of edition ");
+        files::say_number(named as u64);
+        say(b", not the snapshot's");
+    } else {
+        say(b"is malformed");
+    }
+    say(b" (13); answers are from the snapshot's book\n");
+}
+
+// The same on a sound book.
+fn answer_on(book: Book, journal: &[u8])
+    requires { ⌜ bookTest book ≡ true ⌝ }
+{
+    let outcome = replay::replay_from(book, journal);
+    let left = outcome.book;
+    if outcome.number != 0 {
+        warn_from(journal, outcome.count, outcome.at);
+    }
+    serve(left);
+}
+
+// The journal of a file, up to its limit, on the given book or on a fresh one.
+fn read_journal(start: Given, path: &[u8])
+    requires { ⌜ bookTest (start .book) ≡ true ⌝ }
+{
+    let fd = files::open(path);
     if fd < 0 {
-        os::fail(path);
-        failed();
         return;
     }
     let mut journal: [u8; 32768] = [0; 32768];
     let n = io::read_full(fd, &mut journal);
-    let mut more = [0u8; 1];
-    let over = libc::read(fd, &mut more);
-    libc::close(fd);
-    if over < 0 {
-        os::fail(path);
-        failed();
+    if !files::ends(fd, path, b"more than 32,768 bytes (14)") {
         return;
     }
-    if over > 0 {
-        say(b"the journal has more than 32,768 bytes (14)\n");
-        failed();
+    let book = start.book;
+    if start.here {
+        answer_on(book, &journal[..n]);
         return;
     }
     answer_from(&journal[..n]);
 }
 
-fn main() {
+// The journal that a word names.
+fn run(start: Given, place: usize)
+    requires { ⌜ bookTest (start .book) ≡ true ⌝ }
+{
     let mut word = io::buffer();
-    let size = os::arg(1, &mut word);
-    if (os::arg_count() != 2) | (size == 0) {
+    let size = os::arg(place, &mut word);
+    if size == 0 {
         usage();
         return;
     }
-    if asks_help(&word[..size]) {
+    read_journal(start, &word[..size]);
+}
+
+fn run_from() {
+    let mut word = io::buffer();
+    let size = os::arg(2, &mut word);
+    if size == 0 {
+        usage();
+        return;
+    }
+    let start = loading::load(&word[..size]);
+    if start.here {
+        run(start, 3);
+    }
+}
+
+fn main() {
+    let mut word = io::buffer();
+    let size = os::arg(1, &mut word);
+    let count = os::arg_count();
+    if files::asks_help(&word[..size]) & (count == 2) {
         help();
         return;
     }
-    read_journal(&word[..size]);
+    let from = check::same(&word[..size], b"--from");
+    if from & (count == 4) {
+        run_from();
+        return;
+    }
+    if from | (count != 2) {
+        usage();
+        return;
+    }
+    run(loading::none(), 1);
 }

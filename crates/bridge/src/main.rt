@@ -1,11 +1,13 @@
 // Serves the proved book over standard input and output, so that a program of another language can hold it beside its own. A
 // request is a frame of 128 bytes: numbers of eight bytes, of which the first says what is asked, and the record of a command from
-// byte 32 on. A book or a journal follows its frame in 65,536 bytes. An answer is its length in bytes, its own eight included, and
-// then its numbers.
+// byte 32 on. A book or a journal follows its frame in 65,536 bytes, a snapshot of at most 4,096 in so many. An answer is its length
+// in bytes, its own eight included, and then its numbers; a text or a snapshot follows it.
 use book::Book;
 use book::Step;
 use journal::Decoded;
 use replay::Listed;
+use snapshot::Loaded;
+use snapshot::Written;
 ghost use mathlib.Core.Path.{_≡_};
 ghost use lib.ListN.{length};
 ghost use Rattle.journal.specs.Format.{readAt};
@@ -25,6 +27,15 @@ const LIST: u64 = 5;
 const ASK: u64 = 6;
 
 const LISTING: u64 = 7;
+
+const WRITE: u64 = 8;
+
+const READ: u64 = 9;
+
+const LISTING_FROM: u64 = 10;
+
+// A snapshot of so many bytes follows its frame in so many.
+const SMALL: u64 = 4096;
 
 // The book after a request, and whether another may follow.
 struct Turn {
@@ -77,6 +88,14 @@ fn send_part(out: &[u8], at: usize) {
 fn send_number(n: u64) {
     let mut out: [u8; 65536] = io::large_buffer();
     let at = bridge_words::put(&mut out, 8, n);
+    bridge_words::put(&mut out, 0, at as u64);
+    send(&out, at);
+}
+
+fn send_pair(one: u64, two: u64) {
+    let mut out: [u8; 65536] = io::large_buffer();
+    let past = bridge_words::put(&mut out, 8, one);
+    let at = bridge_words::put(&mut out, past, two);
     bridge_words::put(&mut out, 0, at as u64);
     send(&out, at);
 }
@@ -146,7 +165,7 @@ fn listing_of(data: &[u8], n: usize, out: &mut [u8; 65536]) -> usize {
     let r = replay::listing(&data[..n], out);
     match r {
         Listed::Done(k) => k,
-        Listed::Short => 0,
+        _ => 0,
     }
 }
 
@@ -163,6 +182,116 @@ fn listing(frame: [u8; 128]) {
     let k = listing_in(&data, n as usize, &mut out);
     send_number(k as u64);
     send(&out, k);
+}
+
+// The same of a journal that goes on from the book.
+fn listing_on(book: Book, data: &[u8], n: usize, out: &mut [u8; 65536]) -> usize {
+    if data.len() < n {
+        return 0;
+    }
+    let r = replay::listing_from(book, &data[..n], out);
+    match r {
+        Listed::Done(k) => k,
+        _ => 0,
+    }
+}
+
+fn listing_on_in(book: Book, data: &[u8; 65536], n: usize, out: &mut [u8; 65536]) -> usize {
+    listing_on(book, data, n, out)
+}
+
+// The book that such a journal leaves.
+fn book_after(book: Book, data: &[u8], n: usize) -> Book {
+    if data.len() < n {
+        return book;
+    }
+    let o = replay::replay_from(book, &data[..n]);
+    o.book
+}
+
+fn book_after_in(book: Book, data: &[u8; 65536], n: usize) -> Book {
+    book_after(book, data, n)
+}
+
+fn continued(book: Book, frame: [u8; 128]) -> Book {
+    let n = wire::number(&frame, 8);
+    let mut data: [u8; 65536] = io::large_buffer();
+    io::read_full(0, &mut data);
+    let mut out: [u8; 65536] = io::large_buffer();
+    let k = listing_on_in(book, &data, n as usize, &mut out);
+    send_number(k as u64);
+    send(&out, k);
+    book_after_in(book, &data, n as usize)
+}
+
+// Writes the book's snapshot into the first bytes of a buffer.
+fn save_part(book: Book, room: usize, out: &mut [u8]) -> Written {
+    if out.len() < room {
+        return Written {
+            number: refusal::BUFFER_SHORT,
+            size: 0,
+        };
+    }
+    snapshot::write(book, &mut out[..room])
+}
+
+fn save_in(book: Book, room: usize, out: &mut [u8; 65536]) -> Written {
+    save_part(book, room, out)
+}
+
+// A snapshot: its number and its size, then its bytes.
+fn saved(book: Book, frame: [u8; 128]) {
+    let room = wire::number(&frame, 8);
+    let mut out: [u8; 65536] = io::large_buffer();
+    let w = save_in(book, room as usize, &mut out);
+    send_pair(w.number, w.size as u64);
+    send(&out, w.size);
+}
+
+// What the first n bytes are a snapshot of.
+fn read_part(data: &[u8], n: usize) -> Loaded {
+    if data.len() < n {
+        return snapshot::read(data);
+    }
+    snapshot::read(&data[..n])
+}
+
+fn read_from_large(data: &[u8; 65536], n: usize) -> Loaded {
+    read_part(data, n)
+}
+
+fn read_from_small(data: &[u8; 4096], n: usize) -> Loaded {
+    read_part(data, n)
+}
+
+fn read_large(n: usize) -> Loaded {
+    let mut data: [u8; 65536] = io::large_buffer();
+    io::read_full(0, &mut data);
+    read_from_large(&data, n)
+}
+
+fn read_small(n: usize) -> Loaded {
+    let mut data: [u8; 4096] = [0; 4096];
+    io::read_full(0, &mut data);
+    read_from_small(&data, n)
+}
+
+fn read_of(n: u64) -> Loaded {
+    if SMALL < n {
+        return read_large(n as usize);
+    }
+    read_small(n as usize)
+}
+
+// Reads a snapshot: the number and the offset, and the book where the number is 0.
+fn restored(book: Book, frame: [u8; 128]) -> Book {
+    let l = read_of(wire::number(&frame, 8));
+    send_pair(l.number, l.at as u64);
+    if l.number != 0 {
+        return book;
+    }
+    let next = l.book;
+    next
 }
 
 fn fresh(edition: u64) -> Book {
@@ -192,6 +321,15 @@ fn served(book: Book, frame: [u8; 128]) -> Book {
     }
     if what == LISTING {
         listing(frame);
+    }
+    if what == WRITE {
+        saved(book, frame);
+    }
+    if what == READ {
+        return restored(book, frame);
+    }
+    if what == LISTING_FROM {
+        return continued(book, frame);
     }
     book
 }

@@ -1,25 +1,24 @@
 -- The commands of the journal of commands are these, and its edition is theirs.
-use mathlib.Core.Path.{_≡_, refl, sym, ap}
-use mathlib.Core.Bool.{Bool, true, false}
+use mathlib.Core.Path.{_≡_, refl, sym, ap, _∙_}
+use mathlib.Core.Bool.{true}
 use mathlib.Core.List.{List, [], _∷_, _++_, append-assoc}
 use Prim.Native.Nat.{ℕ, zero, suc, _+_, _≤_}
 use native.Mathlib.Omega.{arith}
-use lib.Dec.{eqb}
 use lib.ListN.{length, length-append}
-use borrow.Author.Tests.{eqb-true, le-leb}
+use borrow.Author.Tests.{eq-eqb, le-leb}
 use Rattle.refusal.specs.Choice.{pick}
 use Rattle.refusal.specs.ChoiceLaws.{pick-on}
-use Rattle.edition.specs.Edition.{firstEdition, listed}
+use Rattle.edition.specs.Edition.{listed}
 use Rattle.command.specs.declared.Command.{Command}
-use Rattle.journal.specs.Answers.{Opening, found, ended}
-use Rattle.journal.specs.Format.{headerOf, openingOf, readAt, bytesFor}
+use Rattle.journal.specs.Answers.{found, ended}
+use Rattle.journal.specs.Format.{headerOf, readAt, bytesFor}
 use Rattle.journal.specs.Held.{Held}
 use Rattle.journal.specs.RoundTrip.{header-long, header-back, read-back}
 use Rattle.journal.specs.WriteLaws.{length-for}
-use Rattle.replay.specs.Ahead.{opened}
-use Rattle.corollary.specs.Journals.{commandsBy, editionOf, commandsIn, recordsOf, journalOf, AllHeld}
+use Rattle.replay.specs.Replay.{headed, editionOf}
+use Rattle.replay.specs.Heading.{edition-good}
+use Rattle.corollary.specs.Journals.{commandsBy, commandsOn, commandsIn, recordsOf, journalOf, AllHeld}
 
--- ── A journal of commands holds them ──────────────────────────────
 pub none-left : (e : ℕ) (p : List ℕ) → readAt e (p ++ []) (length p) ≡ ended
 unfolding readAt
 none-left e p = pick-on _ _ (le-leb (length (p ++ [])) (length p) (omega (arith, length-append p [])))
@@ -52,23 +51,13 @@ module _ (e : ℕ) where
   unfolding journalOf
   enough-bytes cs = omega (arith, fewer cs, length-append (headerOf e) (recordsOf e cs))
 
-  pub commands-of-journal : listed e ≡ true → (cs : List Command) → AllHeld e cs → commandsIn (journalOf e cs) ≡ cs
-  unfolding commandsIn journalOf pick
-  commands-of-journal l cs h = rw (header-back e (recordsOf e cs) l) (rw (header-long e) at (commands-back cs (length (journalOf e cs)) (headerOf e) h (enough-bytes cs)))
+  pub commands-on-journal : listed e ≡ true → (cs : List Command) → AllHeld e cs → commandsOn e (journalOf e cs) ≡ cs
+  unfolding commandsOn headed journalOf pick
+  commands-on-journal l cs h = rw (header-back e (recordsOf e cs) l, eq-eqb e e refl) (rw (header-long e) at (commands-back cs (length (journalOf e cs)) (headerOf e) h (enough-bytes cs)))
 
   pub edition-of-journal : listed e ≡ true → (cs : List Command) → editionOf (journalOf e cs) ≡ e
-  unfolding editionOf journalOf pick
-  edition-of-journal l cs = rw (header-back e (recordsOf e cs) l)
+  unfolding journalOf
+  edition-of-journal l cs = edition-good (journalOf e cs) (header-back e (recordsOf e cs) l)
 
--- ── Any bytes ─────────────────────────────────────────────────────
--- a journal's edition is one that there is
-pub edition-known : (s : List ℕ) → listed (editionOf s) ≡ true
-unfolding editionOf pick listed
-edition-known s = go (eqb (openingOf s .answer) 0) refl
-  where
-    o : Opening
-    o = openingOf s
-
-    go : (t : Bool) → eqb (o .answer) 0 ≡ t → listed (pick t (o .edition) firstEdition) ≡ true
-    go true e = opened s (ap (λ (x : ℕ). record { answer = x; edition = o .edition; first = o .first }) (eqb-true (o .answer) 0 e)) .known
-    go false e = refl
+  pub commands-of-journal : listed e ≡ true → (cs : List Command) → AllHeld e cs → commandsIn (journalOf e cs) ≡ cs
+  commands-of-journal l cs h = ap (λ x. commandsOn x (journalOf e cs)) (edition-of-journal l cs) ∙ commands-on-journal l cs h

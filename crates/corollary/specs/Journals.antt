@@ -1,14 +1,13 @@
--- The edition and the commands that a journal holds, and the journal of commands in an edition: its header, then the record of each.
+-- The commands that a journal holds for a book of an edition, and the journal of commands in an edition: its header, then the record of each.
 use mathlib.Core.List.{List, [], _∷_, _++_}
 use Prim.Native.Nat.{ℕ, zero, suc, _+_}
-use lib.Dec.{eqb}
 use lib.ListN.{length}
 use Rattle.refusal.specs.Choice.{pick}
-use Rattle.edition.specs.Edition.{firstEdition}
 use Rattle.command.specs.declared.Command.{Command}
 use Rattle.journal.specs.Answers.{Reading, found, refused, ended}
 use Rattle.journal.specs.Format.{headerOf, openingOf, readAt, bytesFor}
 use Rattle.journal.specs.Held.{Held}
+use Rattle.replay.specs.Replay.{headed, editionOf}
 
 -- those up to the end, or up to a malformed record; at most n, in an edition
 abbrev pub taking : (ℕ → List Command) → Reading → List Command
@@ -20,12 +19,13 @@ unfoldable pub commandsBy : ℕ → ℕ → List ℕ → ℕ → List Command
 commandsBy e zero s at = []
 commandsBy e (suc n) s at = taking (commandsBy e n s) (readAt e s at)
 
--- a journal without its header holds none, in the first edition
-unfoldable pub editionOf : List ℕ → ℕ
-editionOf s = pick (eqb (openingOf s .answer) 0) (openingOf s .edition) firstEdition
+-- none where its header is bad or names another edition
+unfoldable pub commandsOn : ℕ → List ℕ → List Command
+commandsOn e s = pick (headed e s) (commandsBy e (length s) s (openingOf s .first)) []
 
-unfoldable pub commandsIn : List ℕ → List Command
-commandsIn s = pick (eqb (openingOf s .answer) 0) (commandsBy (openingOf s .edition) (length s) s (openingOf s .first)) []
+-- those for a fresh book of the journal's edition
+abbrev pub commandsIn : List ℕ → List Command
+commandsIn s = commandsOn (editionOf s) s
 
 -- the journal of commands
 unfoldable pub recordsOf : ℕ → List Command → List ℕ

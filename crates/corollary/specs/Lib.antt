@@ -1,3 +1,5 @@
 pub mod Journals
 pub mod JournalLaws
 pub mod Replayed
+pub mod Parts
+pub mod Snapshots

@@ -20,3 +20,7 @@ holdsAmount e = leb 2 e
 -- the window of a fresh book, shorter from edition 3 on (e)
 unfoldable pub freshWindow : ℕ → ℕ
 freshWindow e = cond (leb 3 e) 259200 604800
+
+-- the edition of a book that is read from a snapshot, which has no field for it (a)
+abbrev pub snapshotEdition : ℕ
+snapshotEdition = 3

@@ -6,6 +6,9 @@ pub const FIRST: u32 = 1;
 
 pub const LATEST: u32 = 3;
 
+// A snapshot's book is of this one.
+pub const SNAPSHOT: u32 = 3;
+
 // Whether there is such an edition.
 pub fn is_listed(edition: u32) -> bool
     ensures { λ r. ⌜ r ≡ listed edition ⌝ }

@@ -26,15 +26,15 @@ module _ (e : ℕ) (s : List ℕ) (at : ℕ) where
   inside r = let g = rw r at (goes e s at) in (g .1 .0, g .1 .1)
 
 -- a journal that opens is of an edition that there is, and its first record stands within it
-pub record Headed (s : List ℕ) (e at : ℕ) : Type 0 where
+pub record Opens (s : List ℕ) (e at : ℕ) : Type 0 where
   pub known : listed e ≡ true
   pub within : at ≤ length s
 
-pub opened : (s : List ℕ) {e at : ℕ} → openingOf s ≡ goodHeader e at → Headed s e at
+pub opened : (s : List ℕ) {e at : ℕ} → openingOf s ≡ goodHeader e at → Opens s e at
 unfolding openingOf begins pick
 opened s {e} {at} o = go (begins 0x10 2 s && listed (editionIn s)) refl o
   where
-    go : (t : Bool) → begins 0x10 2 s && listed (editionIn s) ≡ t → pick t (goodHeader (editionIn s) 5) (badHeader 0) ≡ goodHeader e at → Headed s e at
+    go : (t : Bool) → begins 0x10 2 s && listed (editionIn s) ≡ t → pick t (goodHeader (editionIn s) 5) (badHeader 0) ≡ goodHeader e at → Opens s e at
     go true h q =
         let n : editionIn s ≡ e = ap (λ (x : Opening). x .edition) q in
         let z : 5 ≡ at = ap (λ (x : Opening). x .first) q in

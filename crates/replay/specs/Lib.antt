@@ -1,6 +1,8 @@
 pub mod Replay
 pub mod Text
+pub mod Bounded
 pub mod Ahead
+pub mod Heading
 pub mod ReplayLaws
 pub mod TextLaws
 pub mod Standing
@@ -10,3 +12,4 @@ pub mod Going
 pub mod Shown
 pub mod Records
 pub mod Room
+pub mod Typing

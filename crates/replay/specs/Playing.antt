@@ -1,34 +1,24 @@
 -- The walk replays: what is still to come completes the outcome. Assumes nothing.
 use mathlib.Core.Path.{_≡_, sym, ap, _∙_}
+use mathlib.Core.Bool.{false}
 use mathlib.Core.List.{List}
 use Prim.Native.Nat.{ℕ, suc, _+_, _≤_}
 use native.Mathlib.Omega.{arith}
 use native.Mathlib.Nat.{add-zero}
 use lib.ListN.{length}
-use Rattle.refusal.specs.Choice.{pick}
 use Rattle.refusal.specs.Refusal.{number, journalMalformed}
-use Rattle.edition.specs.Edition.{firstEdition}
 use Rattle.command.specs.declared.Command.{Command}
-use Rattle.journal.specs.Answers.{goodHeader, badHeader, found, refused, ended}
-use Rattle.journal.specs.Format.{openingOf, readAt}
+use Rattle.journal.specs.Answers.{found, refused, ended}
+use Rattle.journal.specs.Format.{readAt}
 use Rattle.book.specs.declared.Book.{Book}
 use Rattle.book.specs.declared.Step.{Step}
-use Rattle.rules.specs.Model.{Model, freshModel}
-use Rattle.book.specs.Stored.{modelOf, stored}
+use Rattle.rules.specs.Model.{Model}
+use Rattle.book.specs.Stored.{modelOf, stored, Shelved}
 use Rattle.book.specs.Shelving.{back}
 use Rattle.replay.specs.declared.Outcome.{Outcome}
-use Rattle.replay.specs.Replay.{atEnd, atHeader, atRecord, Replayed, halted, heard, replayFrom, replayOf, outcomeOf, ending}
-use Rattle.replay.specs.ReplayLaws.{from-record, from-bad, from-end}
+use Rattle.replay.specs.Replay.{atEnd, atRecord, Replayed, halted, heard, replayFrom, headed, replayOn, outcomeOf, ending}
+use Rattle.replay.specs.ReplayLaws.{replay-bare, from-record, from-bad, from-end}
 use Rattle.replay.specs.Standing.{Holds, Standing, Stepped, stands, stands-on}
-
--- the header
-pub replay-headed : (s : List ℕ) {e at : ℕ} → openingOf s ≡ goodHeader e at → replayOf s ≡ replayFrom s at (freshModel e)
-unfolding replayOf pick
-replay-headed s o = rw o
-
-pub replay-bare : (s : List ℕ) {at : ℕ} → openingOf s ≡ badHeader at → replayOf s ≡ halted atHeader (freshModel firstEdition)
-unfolding replayOf pick
-replay-bare s o = rw o
 
 pub record Playing (s : List ℕ) (end : Outcome) (at k : ℕ) (b : Book) : Type 0 where
   pub stand : Standing s at k b
@@ -38,12 +28,9 @@ outcome-heard : (k a : ℕ) (r : Replayed) → outcomeOf k (heard a r) ≡ outco
 unfolding outcomeOf
 outcome-heard k a r = let e : k + suc (length (r .answers)) ≡ k + 1 + length (r .answers) = omega arith in rw e
 
-pub play-bare : (s : List ℕ) {at : ℕ} {b : Book} → openingOf s ≡ badHeader at → Holds (freshModel firstEdition) b → ending b 0 (number journalMalformed) 0 ≡ outcomeOf 0 (replayOf s)
+pub play-bare : (s : List ℕ) {b : Book} → headed (b .settings .edition) s ≡ false → Shelved b → ending b 0 (number journalMalformed) 0 ≡ outcomeOf 0 (replayOn (modelOf b) s)
 unfolding outcomeOf
-play-bare s o f = rw (replay-bare s o, f .stores)
-
-pub play-headed : (s : List ℕ) {e at : ℕ} {b : Book} → openingOf s ≡ goodHeader e at → Holds (freshModel e) b → outcomeOf 0 (replayFrom s at (modelOf b)) ≡ outcomeOf 0 (replayOf s)
-play-headed s o f = rw (replay-headed s o, f .model)
+play-bare s {b} h k = ap (λ x. ending x 0 (number journalMalformed) 0) (back k) ∙ sym (ap (outcomeOf 0) (replay-bare (modelOf b) s h))
 
 pub play-begins : (s : List ℕ) (at : ℕ) {m : Model} {b : Book} → at ≤ length s → Holds m b → Playing s (outcomeOf 0 (replayFrom s at m)) at 0 b
 play-begins s at h f = record { stand = stands h f; completes = ap (λ x. outcomeOf 0 (replayFrom s at x)) (f .model) }

@@ -23,11 +23,9 @@ use Rattle.account.specs.Account.{noAccount}
 use Rattle.sheet.specs.Size.{Small}
 use Rattle.rules.specs.Model.{Model}
 use Rattle.rules.specs.Rules.{settling, concluding, agreeing, ruled}
+use Rattle.replay.specs.Bounded.{Low}
 
 -- ── Ids below 2^64 ────────────────────────────────────────────────
-pub record Low (t : Table Account) : Type 0 where
-  pub ids : Small (keys t)
-
 same : {t : Table Account} → Low t → (i : ℕ) (f : Account → Account) → Low (adjust t i f)
 same {t} k i f = record { ids = rw (keys-adjust t i f) (k .ids) }
 

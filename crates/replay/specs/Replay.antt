@@ -1,20 +1,22 @@
--- Document 01, "Journal and replay": the commands of a journal obeyed in turn from a fresh book of its edition, with each answer, and where replay stops.
+-- Document 01, "Journal and replay": the commands of a journal obeyed in turn, with each answer, and where replay stops; from a fresh book of its edition, or from one that
+-- is given (document 02, a).
+use mathlib.Core.Bool.{Bool, _&&_}
 use mathlib.Core.List.{List, [], _∷_}
 use Prim.Native.Nat.{ℕ, zero, suc, _+_}
 use lib.Dec.{eqb}
 use lib.ListN.{length}
 use Rattle.refusal.specs.Choice.{pick}
-use Rattle.refusal.specs.Refusal.{number, journalMalformed}
+use Rattle.refusal.specs.Refusal.{number, journalMalformed, bookUnsound}
 use Rattle.edition.specs.Edition.{firstEdition}
 use Rattle.journal.specs.Answers.{Reading, found, refused, ended}
 use Rattle.journal.specs.Format.{openingOf, readAt}
 use Rattle.book.specs.declared.Book.{Book}
 use Rattle.rules.specs.Model.{Model, freshModel}
 use Rattle.soundness.specs.Played.{answerTo, obeyed}
-use Rattle.book.specs.Stored.{stored}
+use Rattle.book.specs.Stored.{modelOf, stored, bookTest}
 use Rattle.replay.specs.declared.Outcome.{Outcome}
 
--- replay stops at the journal's end, at a header that is none, or at a malformed record, whose tag is at an offset
+-- replay stops at the journal's end, at a header that is bad or another edition's, or at a malformed record, whose tag is at an offset
 pub data Stop : Type 0 where
   atEnd : Stop
   atHeader : Stop
@@ -45,9 +47,20 @@ replayBy (suc n) s at m = follow (replayBy n s) m (readAt (m .settings .edition)
 unfoldable pub replayFrom : List ℕ → ℕ → Model → Replayed
 replayFrom s at m = replayBy (length s) s at m
 
--- a header that is none leaves the first edition's fresh book
+-- whether a journal's header is good and names an edition
+unfoldable pub headed : ℕ → List ℕ → Bool
+headed e s = eqb (openingOf s .answer) 0 && eqb (openingOf s .edition) e
+
+-- from any book: a header that is bad or names another edition than the book's leaves the book as it was
+unfoldable pub replayOn : Model → List ℕ → Replayed
+replayOn m s = pick (headed (m .settings .edition) s) (replayFrom s (openingOf s .first) m) (halted atHeader m)
+
+-- the edition that the header names, the first where it is bad; and from a fresh book of it
+unfoldable pub editionOf : List ℕ → ℕ
+editionOf s = pick (eqb (openingOf s .answer) 0) (openingOf s .edition) firstEdition
+
 unfoldable pub replayOf : List ℕ → Replayed
-replayOf s = pick (eqb (openingOf s .answer) 0) (replayFrom s (openingOf s .first) (freshModel (openingOf s .edition))) (halted atHeader (freshModel firstEdition))
+replayOf s = replayOn (freshModel (editionOf s)) s
 
 -- what `replay` answers, where k records were answered before: 0, or 13 and the offset
 abbrev pub stopNumber : Stop → ℕ
@@ -65,3 +78,7 @@ outcomeOf k r = record { book = stored (r .model); count = k + length (r .answer
 
 abbrev pub ending : Book → ℕ → ℕ → ℕ → Outcome
 ending b k n at = record { book = b; count = k; number = n; at = at }
+
+-- what `replay_from` answers: 15 and the very book where it is not sound
+unfoldable pub replayedFrom : Book → List ℕ → Outcome
+replayedFrom b s = pick (bookTest b) (outcomeOf 0 (replayOn (modelOf b) s)) (ending b 0 (number bookUnsound) 0)

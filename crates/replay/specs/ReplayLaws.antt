@@ -1,16 +1,29 @@
--- Replay from a place is what stands there and then the rest: the bound on the records is not seen. Assumes nothing.
+-- Replay is what the header leads to, and from a place what stands there and then the rest: the bound on the records is not seen. Assumes nothing.
 use mathlib.Core.Path.{_≡_, refl, sym, ap, _∙_}
+use mathlib.Core.Bool.{false}
 use mathlib.Core.List.{List}
 use Prim.Native.Nat.{ℕ, zero, suc, _+_, _≤_, _<_}
 use native.Mathlib.Omega.{arith}
 use lib.ListN.{length}
+use borrow.Author.Tests.{eq-eqb}
+use Rattle.refusal.specs.Choice.{pick}
+use Rattle.refusal.specs.ChoiceLaws.{pick-off}
 use Rattle.command.specs.declared.Command.{Command}
-use Rattle.journal.specs.Answers.{Reading, found, refused, ended}
-use Rattle.journal.specs.Format.{readAt}
+use Rattle.journal.specs.Answers.{goodHeader, Reading, found, refused, ended}
+use Rattle.journal.specs.Format.{openingOf, readAt}
 use Rattle.journal.specs.Ahead.{Goes, goes}
 use Rattle.rules.specs.Model.{Model}
-use Rattle.replay.specs.Replay.{atEnd, atRecord, Replayed, halted, heard, follow, replayBy, replayFrom}
+use Rattle.replay.specs.Replay.{atEnd, atHeader, atRecord, Replayed, halted, heard, follow, replayBy, replayFrom, headed, replayOn}
 use Rattle.soundness.specs.Played.{answerTo, obeyed}
+
+module _ (m : Model) (s : List ℕ) where
+  pub replay-headed : {e at : ℕ} → openingOf s ≡ goodHeader e at → e ≡ m .settings .edition → replayOn m s ≡ replayFrom s at m
+  unfolding replayOn headed pick
+  replay-headed {e} o t = rw (o, eq-eqb e (m .settings .edition) t)
+
+  pub replay-bare : headed (m .settings .edition) s ≡ false → replayOn m s ≡ halted atHeader m
+  unfolding replayOn
+  replay-bare h = pick-off _ _ h
 
 -- the rest counts only past the place
 follow-same : (s : List ℕ) (at : ℕ) (m : Model) (f g : ℕ → Model → Replayed) → ((next : ℕ) (x : Model) → at < next → f next x ≡ g next x)

@@ -1,12 +1,12 @@
 -- How long a listing can be: what each record takes in the journal holds its line. Assumes nothing.
-use mathlib.Core.Path.{_≡_, refl, ap, _∙_}
+use mathlib.Core.Path.{_≡_, refl, _∙_}
 use mathlib.Core.Bool.{Bool, true, false}
 use mathlib.Core.List.{List, [], _∷_, _++_}
 use Prim.Native.Nat.{ℕ, zero, suc, _+_, _-_, _*_, _≤_, _<_}
 use native.Mathlib.Omega.{arith}
 use lib.Dec.{eqb, leb}
 use lib.ListN.{length, length-append}
-use borrow.Author.Tests.{eqb-true, leb-true, le-leb}
+use borrow.Author.Tests.{leb-true, le-leb}
 use Rattle.refusal.specs.Choice.{pick}
 use Rattle.refusal.specs.ChoiceLaws.{pick-on}
 use Rattle.refusal.specs.Refusal.{Refusal, paused, blacklisted, invalidInput, notFound, alreadyExists, unauthorized, invalidTransition, offerExpired, allowanceShort, balanceShort, outOfRange, noRoom, journalMalformed, bufferShort, bookUnsound, number, Check, first}
@@ -15,7 +15,7 @@ use Rattle.money.specs.Facts.{both}
 use Rattle.edition.specs.Edition.{firstEdition, latestEdition, listed}
 use Rattle.table.specs.Tables.{keys}
 use Rattle.command.specs.declared.Command.{Command}
-use Rattle.journal.specs.Answers.{Opening, Reading, found, refused, ended}
+use Rattle.journal.specs.Answers.{Reading, found, refused, ended}
 use Rattle.journal.specs.Format.{openingOf, readAt}
 use Rattle.journal.specs.Ahead.{Goes, goes}
 use Rattle.sheet.specs.declared.Pen.{Pen}
@@ -25,18 +25,20 @@ use Rattle.lines.specs.LineSize.{edition-most, answer-most, mark-most, accounts
 use Rattle.rules.specs.Model.{Model, freshModel}
 use Rattle.command.specs.Shape.{Shape, shapeOf}
 use Rattle.rules.specs.Rules.{ruled}
-use Rattle.soundness.specs.Sound.{ModelSound, fresh-model}
+use Rattle.soundness.specs.Sound.{fresh-model}
 use Rattle.soundness.specs.Keeps.{stays-sound}
-use Rattle.replay.specs.Replay.{atHeader, halted, follow, replayBy, replayFrom, replayOf}
+use Rattle.replay.specs.Replay.{atHeader, halted, follow, replayBy, replayFrom, headed, replayOn, editionOf}
 use Rattle.soundness.specs.Played.{answerTo, obeyed}
 use Rattle.replay.specs.declared.Listed.{Listed}
 use Rattle.replay.specs.declared.Listed.the-variants.{Done}
-use Rattle.replay.specs.Text.{bookText, textOf, openingLine, listingOf, listingSays}
+use Rattle.replay.specs.Text.{bookText, textOf, openingLine, listingOn, listingOf, listingSays}
 use Rattle.sheet.specs.Shown.{listedIn, shownIn}
 use Rattle.replay.specs.TextLaws.{text-heard, text-bad, text-bare, text-end}
 use Rattle.replay.specs.Ahead.{opened}
 use Rattle.replay.specs.Shown.{in-room, same-listed}
-use Rattle.replay.specs.Records.{Low, OpensLow, low-ruled, Weighs, weighs}
+use Rattle.replay.specs.Heading.{heads, edition-known}
+use Rattle.replay.specs.Bounded.{Low, Bounded}
+use Rattle.replay.specs.Records.{OpensLow, low-ruled, Weighs, weighs}
 
 -- a line for the edition, one for a malformed record, 64 lines of accounts and one of totals
 abbrev pub extra : ℕ
@@ -75,11 +77,7 @@ first-most [] = omega arith
 first-most (k ∷ ks) = first-by (k .0) (k .1) (first ks) (first-most ks)
 
 -- ── The book, after any records ───────────────────────────────────
-record Bounded (m : Model) : Type 0 where
-  sound : ModelSound m
-  low : Low (m .accounts)
-
-fresh-bounded : (e : ℕ) → listed e ≡ true → Bounded (freshModel e)
+pub fresh-bounded : (e : ℕ) → listed e ≡ true → Bounded (freshModel e)
 unfolding keys
 fresh-bounded e l = record { sound = fresh-model e l; low = record { ids = tt } }
 
@@ -119,33 +117,35 @@ module _ (s : List ℕ) (short : length s < 18446744073709551616) where
   walk-most zero at k m b h l = rw (text-end k m) (omega (arith, book-most b))
   walk-most (suc n) at k m b h l = follow-most n (walk-most n) at k m b h l (readAt (m .settings .edition) s at) (goes (m .settings .edition) s at) (weighs (m .settings .edition) s at)
 
-  pub listing-most : length (listingOf s) ≤ listingRoom (length s)
-  unfolding listingOf openingLine replayOf replayFrom listingRoom pick listed
-  listing-most = go (eqb (openingOf s .answer) 0) refl
+  pub listing-most : (m : Model) → Bounded m → length (listingOn m s) ≤ listingRoom (length s)
+  unfolding listingOn openingLine replayOn replayFrom listingRoom pick listed
+  listing-most m b = go (headed e s) refl
     where
-      o : Opening
-      o = openingOf s
+      e : ℕ
+      e = m .settings .edition
 
-      below : (e : ℕ) → listed e ≡ true → e < 100
-      below e h = omega (arith, leb-true e latestEdition (both (leb firstEdition e) _ h .1))
+      at : ℕ
+      at = openingOf s .first
 
-      go : (t : Bool) → eqb (o .answer) 0 ≡ t → length (pick t (editionLine (o .edition)) [] ++ textOf 0 (pick t (replayBy (length s) s (o .first) (freshModel (o .edition))) (halted atHeader (freshModel firstEdition)))) ≤ listingRoom (length s)
-      go true e =
-          let h = opened s (ap (λ (x : ℕ). record { answer = x; edition = o .edition; first = o .first }) (eqb-true (o .answer) 0 e)) in
-          rw (length-append (editionLine (o .edition)))
-          (omega (arith, edition-most (o .edition) (below (o .edition) (h .known)), walk-most (length s) (o .first) 0 (freshModel (o .edition)) (fresh-bounded (o .edition) (h .known)) (omega arith) (h .within)))
-      go false e = rw (text-bare (freshModel firstEdition), length-append (markLine 0 0)) (omega (arith, mark-most 0 0 (omega arith) (omega arith), book-most (fresh-bounded firstEdition refl)))
+      below : listed e ≡ true → e < 100
+      below h = omega (arith, leb-true e latestEdition (both (leb firstEdition e) _ h .1))
+
+      go : (t : Bool) → headed e s ≡ t → length (pick t (editionLine e) [] ++ textOf 0 (pick t (replayBy (length s) s at m) (halted atHeader m))) ≤ listingRoom (length s)
+      go true h =
+          let o = opened s (heads s e h) in
+          rw (length-append (editionLine e)) (omega (arith, edition-most e (below (o .known)), walk-most (length s) at 0 m b (omega arith) (o .within)))
+      go false h = rw (text-bare m, length-append (markLine 0 0)) (omega (arith, mark-most 0 0 (omega arith) (omega arith), book-most b))
 
 -- a buffer with the room for it, as the code tests that: k bytes, and past them as many as the journal has
-pub at-once : (s : List ℕ) {k : ℕ} {l n : List ℕ} {r : Pen} → Wrote true (listingOf s) l (penAt 0 false) n r → length s < 18446744073709551616 → k ≤ length l → leb (length s) (length l - k) ≡ true → extra ≤ k
-    → (listingSays (Done (r .at)) ≡ listedIn (listingOf s) l) × (n ≡ shownIn (listingOf s) l)
+pub at-once : {m : Model} (s : List ℕ) {k : ℕ} {l n : List ℕ} {r : Pen} → Bounded m → Wrote true (listingOn m s) l (penAt 0 false) n r → length s < 18446744073709551616 → k ≤ length l → leb (length s) (length l - k) ≡ true
+    → extra ≤ k → (listingSays (Done (r .at)) ≡ listedIn (listingOn m s) l) × (n ≡ shownIn (listingOn m s) l)
 unfolding listingRoom
-at-once s {k} {l} w h m e x = in-room (omega (arith, listing-most s h, leb-true (length s) (length l - k) e)) w
+at-once {m} s {k} {l} b w h f e x = in-room (omega (arith, listing-most s h m b, leb-true (length s) (length l - k) e)) w
 
 -- ── A journal of 32,768 bytes has its listing in 40,960 ───────────
 pub desk-room : (s : List ℕ) → length s ≤ 32768 → length (listingOf s) ≤ 40960
-unfolding listingRoom
-desk-room s h = omega (arith, listing-most s (omega arith))
+unfolding listingRoom listingOf
+desk-room s h = omega (arith, listing-most s (omega arith) (freshModel (editionOf s)) (fresh-bounded (editionOf s) (edition-known s)))
 
 pub desk-most : {k : ℕ} (s : List ℕ) → k ≡ length (listingOf s) → length s ≤ 32768 → k ≤ 40960
 desk-most s e h = omega (arith, desk-room s h)

@@ -1,18 +1,19 @@
--- The two ends of `listing`, and that any two results that its contract allows are one. Assumes nothing.
+-- The two ends of a listing, and that any two results that a contract allows are one. Assumes nothing.
 use mathlib.Core.Path.{_≡_, refl, sym, ap, _∙_}
 use mathlib.Core.Bool.{true, false}
 use mathlib.Core.List.{List}
 use Prim.Native.Nat.{ℕ, _≤_}
-use native.Mathlib.Omega.{arith}
-use lib.Dec.{leb}
+use lib.Dec.{eqb, leb}
 use lib.ListN.{length}
 use borrow.Author.Tests.{lt-leb, le-leb, ltb-true, ltb-false}
+use Rattle.refusal.specs.Choice.{pick}
 use Rattle.refusal.specs.ChoiceLaws.{on, off}
+use Rattle.refusal.specs.Refusal.{number, bufferShort}
 use Rattle.sheet.specs.declared.Pen.{Pen}
 use Rattle.sheet.specs.Sheet.{Wrote, penAt}
 use Rattle.sheet.specs.Laid.{dry, wet}
 use Rattle.replay.specs.declared.Listed.{Listed}
-use Rattle.replay.specs.declared.Listed.the-variants.{Done, Short}
+use Rattle.replay.specs.declared.Listed.the-variants.{Done, Short, Unsound}
 use Rattle.replay.specs.Text.{listingSays}
 use Rattle.sheet.specs.Shown.{listedIn, shownIn}
 
@@ -35,11 +36,17 @@ pub in-space : {t l m n : List ℕ} {q r : Pen} → Wrote false t l (penAt 0 fal
 in-space {t} {l} {m} {n} {q} {r} w h x = in-room (ltb-false (length l) (length t) (sym (dry w .1) ∙ h)) (rw (dry w .0) at x)
 
 -- the number and the count say which answer it is
-pub same-listed : (x y : Listed) → listingSays x ≡ listingSays y → x ≡ y
-same-listed (Done m) (Done n) e = ap Done (ap (λ (p : ℕ × ℕ). p .1) e)
-same-listed (Done m) Short e = let z = ap (λ (p : ℕ × ℕ). p .0) e in absurd (omega arith)
-same-listed Short (Done n) e = let z = ap (λ (p : ℕ × ℕ). p .0) e in absurd (omega arith)
-same-listed Short Short e = refl
+readListed : ℕ × ℕ → Listed
+readListed w = pick (eqb (w .0) 0) (Done (w .1)) (pick (eqb (w .0) (number bufferShort)) Short Unsound)
 
-pub one-listing : (t l : List ℕ) {m n : List ℕ} {x y : Listed} → (listingSays x ≡ listedIn t l) × (m ≡ shownIn t l) → (listingSays y ≡ listedIn t l) × (n ≡ shownIn t l) → (x ≡ y) × (m ≡ n)
-one-listing t l {x = x} {y = y} p q = (same-listed x y (p .0 ∙ sym (q .0)), p .1 ∙ sym (q .1))
+read-back : (x : Listed) → readListed (listingSays x) ≡ x
+unfolding readListed pick
+read-back (Done n) = refl
+read-back Short = refl
+read-back Unsound = refl
+
+pub same-listed : (x y : Listed) → listingSays x ≡ listingSays y → x ≡ y
+same-listed x y e = sym (read-back x) ∙ ap readListed e ∙ read-back y
+
+pub one-listing : {w : ℕ × ℕ} {l m n : List ℕ} {x y : Listed} → (listingSays x ≡ w) × (m ≡ l) → (listingSays y ≡ w) × (n ≡ l) → (x ≡ y) × (m ≡ n)
+one-listing {x = x} {y = y} p q = (same-listed x y (p .0 ∙ sym (q .0)), p .1 ∙ sym (q .1))

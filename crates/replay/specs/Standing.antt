@@ -19,7 +19,7 @@ use Rattle.rules.specs.Model.{Model, freshModel}
 use Rattle.rules.specs.Rules.{commanded}
 use Rattle.command.specs.Shape.{shapeOf}
 use Rattle.book.specs.Stored.{modelOf, stored, stepOf, Shelved}
-use Rattle.book.specs.Shelving.{fits-of, shelved-stored, model-stored, back}
+use Rattle.book.specs.Shelving.{fits-of, shelved-stored, model-stored}
 use Rattle.rules.specs.Fitting.{Fits, fits-kept}
 use Rattle.soundness.specs.Played.{answerTo, obeyed}
 use Rattle.replay.specs.Ahead.{ahead}
@@ -37,14 +37,13 @@ fresh-fits e = record {
 pub record Holds (m : Model) (b : Book) : Type 0 where
   pub shelved : Shelved b
   pub model : modelOf b ≡ m
-  pub stores : b ≡ stored m
 
 pub holds : {m : Model} {b : Book} → Fits m → b ≡ stored m → Holds m b
-holds f q = record { shelved = rw q (shelved-stored f); model = rw q (model-stored f); stores = q }
+holds f q = record { shelved = rw q (shelved-stored f); model = rw q (model-stored f) }
 
 -- a shelved book holds its own model
 pub held : {b : Book} → Shelved b → Holds (modelOf b) b
-held k = record { shelved = k; model = refl; stores = back k }
+held k = record { shelved = k; model = refl }
 
 pub fresh : {e : ℕ} {b : Book} → b ≡ stored (freshModel e) → Holds (freshModel e) b
 fresh {e} q = holds (fresh-fits e) q

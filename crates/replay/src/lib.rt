@@ -1,4 +1,4 @@
-// Replay of a journal from a fresh book of its edition, and its listing.
+// Replay of a journal, from a given book or from a fresh one of its edition, and its listing.
 use account::SeenAccount;
 use book::Book;
 use invoice::SeenInvoice;
@@ -15,18 +15,21 @@ ghost use mathlib.Core.Bool.{false};
 ghost use Prim.Native.Nat.{_≤_};
 ghost use lib.ListN.{length};
 ghost use Rattle.sheet.specs.Sheet.{Wrote, penAt};
-ghost use Rattle.book.specs.Stored.{modelOf, Shelved};
-ghost use Rattle.replay.specs.Replay.{replayFrom, replayOf, outcomeOf, ending};
-ghost use Rattle.replay.specs.Text.{bookText, textOf, listingOf, listingSays};
+ghost use Rattle.book.specs.Stored.{modelOf, stored, Shelved};
+ghost use Rattle.rules.specs.Model.{freshModel};
+ghost use Rattle.replay.specs.Replay.{replayFrom, replayOn, editionOf, replayOf, outcomeOf, ending, replayedFrom};
+ghost use Rattle.replay.specs.Text.{bookText, textOf, listingOn, listingOf, listingSays, listedFrom, shownFrom};
+ghost use Rattle.replay.specs.Bounded.{Bounded};
 ghost use Rattle.sheet.specs.Shown.{listedIn, shownIn};
 
-// How many bytes were written, or that the buffer is too short.
+// How many bytes were written, or that the buffer is too short, or that the given book is not sound.
 pub enum Listed {
     Done(usize),
     Short,
+    Unsound,
 }
 
-// How a replay ended: the book, how many records were answered, 0 or 13, and the offset.
+// How a replay ended: the book, how many records were answered, 0, 13 or 15, and the offset.
 pub struct Outcome {
     pub book: Book,
     pub count: usize,
@@ -226,24 +229,37 @@ fn records(s: &[u8], out: &mut [u8], ink: bool, start: Pen, book: Book, first: u
     }
 }
 
-// One walk: it replays and writes as it goes. Without ink it only measures.
-fn walk(s: &[u8], out: &mut [u8], ink: bool) -> Told
-    ensures outcome { λ r. ⌜ r .outcome ≡ outcomeOf 0 (replayOf (now (s .entry))) ⌝ }
-    ensures wrote { λ r. ⌜ Wrote ink (listingOf (now (s .entry))) (now (out .entry)) (penAt 0 false) (now (out .exit)) (r .pen) ⌝ }
+// One walk from any book: it replays and writes as it goes. Without ink it only measures.
+fn walk(s: &[u8], out: &mut [u8], ink: bool, book: Book) -> Told
+    requires { ⌜ Shelved book ⌝ }
+    ensures outcome { λ r. ⌜ r .outcome ≡ outcomeOf 0 (replayOn (modelOf book) (now (s .entry))) ⌝ }
+    ensures wrote { λ r. ⌜ Wrote ink (listingOn (modelOf book) (now (s .entry))) (now (out .entry)) (penAt 0 false) (now (out .exit)) (r .pen) ⌝ }
 {
     let pen = Pen {
         at: 0,
         short: false,
     };
+    let settings = book.settings;
     let h = journal::header(s);
-    let Opened::Records(edition, first) = h else {
-        let p = lines::put_mark(out, pen, ink, 0, 0);
-        let fresh = Book::of_edition(edition::FIRST);
-        return finish(out, p, ink, fresh, 0, refusal::JOURNAL_MALFORMED, 0);
+    if let Opened::Records(edition, first) = h {
+        if edition == settings.edition {
+            let past = lines::put_edition(out, pen, ink, edition as u64);
+            return records(s, out, ink, past, book, first);
+        }
+    }
+    let p = lines::put_mark(out, pen, ink, 0, 0);
+    finish(out, p, ink, book, 0, refusal::JOURNAL_MALFORMED, 0)
+}
+
+// A fresh book of the edition that the journal's header names, of the first where the header is bad.
+fn fresh_for(s: &[u8]) -> Book
+    ensures { λ r. ⌜ r ≡ stored (freshModel (editionOf (now (s .entry)))) ⌝ }
+{
+    let h = journal::header(s);
+    let Opened::Records(edition, _) = h else {
+        return Book::of_edition(edition::FIRST);
     };
-    let past = lines::put_edition(out, pen, ink, edition as u64);
-    let book = Book::of_edition(edition);
-    records(s, out, ink, past, book, first)
+    Book::of_edition(edition)
 }
 
 // A fresh book of the journal's edition and then its commands, up to its end or to a malformed record.
@@ -251,7 +267,25 @@ pub fn replay(s: &[u8]) -> Outcome
     ensures { λ r. ⌜ r ≡ outcomeOf 0 (replayOf (now (s .entry))) ⌝ }
 {
     let mut none: [u8; 1] = [0; 1];
-    let w = walk(s, &mut none, false);
+    let book = fresh_for(s);
+    let w = walk(s, &mut none, false, book);
+    w.outcome
+}
+
+// The given book and then the commands of a journal of its edition: 13 for another edition's, 15 for a book that is not sound.
+pub fn replay_from(book: Book, s: &[u8]) -> Outcome
+    ensures { λ r. ⌜ r ≡ replayedFrom book (now (s .entry)) ⌝ }
+{
+    if !book.sound() {
+        return Outcome {
+            book,
+            count: 0,
+            number: refusal::BOOK_UNSOUND,
+            at: 0,
+        };
+    }
+    let mut none: [u8; 1] = [0; 1];
+    let w = walk(s, &mut none, false, book);
     w.outcome
 }
 
@@ -259,20 +293,39 @@ pub fn replay(s: &[u8]) -> Outcome
 const ROOM: usize = 7358;
 
 // Writes the listing where it fits, else leaves the buffer as it is. It is measured first only where it might be short.
-pub fn listing(s: &[u8], out: &mut [u8]) -> Listed
-    ensures { λ r. ⌜ (listingSays r ≡ listedIn (listingOf (now (s .entry))) (now (out .entry))) × (now (out .exit) ≡ shownIn (listingOf (now (s .entry))) (now (out .entry))) ⌝ }
+fn list(book: Book, s: &[u8], out: &mut [u8]) -> Listed
+    requires { ⌜ Shelved book × Bounded (modelOf book) ⌝ }
+    ensures { λ r. ⌜ (listingSays r ≡ listedIn (listingOn (modelOf book) (now (s .entry))) (now (out .entry))) × (now (out .exit) ≡ shownIn (listingOn (modelOf book) (now (s .entry))) (now (out .entry))) ⌝ }
 {
     if out.len() >= ROOM && out.len() - ROOM >= s.len() {
-        let all = walk(s, out, true);
+        let all = walk(s, out, true, book);
         let pen = all.pen;
         return Listed::Done(pen.at);
     }
-    let dry = walk(s, out, false);
+    let dry = walk(s, out, false, book);
     let p = dry.pen;
     if p.short {
         return Listed::Short;
     }
-    let wet = walk(s, out, true);
+    let wet = walk(s, out, true, book);
     let q = wet.pen;
     Listed::Done(q.at)
+}
+
+// Writes the listing from a fresh book of the journal's edition where it fits, else leaves the buffer as it is.
+pub fn listing(s: &[u8], out: &mut [u8]) -> Listed
+    ensures { λ r. ⌜ (listingSays r ≡ listedIn (listingOf (now (s .entry))) (now (out .entry))) × (now (out .exit) ≡ shownIn (listingOf (now (s .entry))) (now (out .entry))) ⌝ }
+{
+    let book = fresh_for(s);
+    list(book, s, out)
+}
+
+// The same from the given book; one that is not sound leaves the buffer as it is.
+pub fn listing_from(book: Book, s: &[u8], out: &mut [u8]) -> Listed
+    ensures { λ r. ⌜ (listingSays r ≡ listedFrom book (now (s .entry)) (now (out .entry))) × (now (out .exit) ≡ shownFrom book (now (s .entry)) (now (out .entry))) ⌝ }
+{
+    if !book.sound() {
+        return Listed::Unsound;
+    }
+    list(book, s, out)
 }

@@ -20,20 +20,20 @@ use Rattle.text.specs.Journal.{faultLine}
 use Rattle.asking.specs.Questions.{questionsIn, answersOf}
 use Rattle.asking.specs.QuestionLaws.{answers-faulty, answers-whole}
 use Rattle.solgaverna.specs.declared.Four.{Four}
-use Rattle.solgaverna.specs.Answers.{minus, coded, left, ofBook, told, fourSays, fourOver, faultOf, lineOf}
+use Rattle.solgaverna.specs.Answers.{minus, coded, ofOutcome, told, fourSays, fourOver, faultOf, lineOf}
 
 pub turned : (n : ℕ) → (n ≡ 0 → ⊥) → 18446744073709551615 - (n - 1) ≡ 18446744073709551616 - n
 turned zero h = absurd (h refl)
 turned (suc n) h = omega arith
 
--- the book of a journal
-module _ (s l : List ℕ) (f : Book → ℕ × List ℕ) {o : Outcome} (e : o ≡ left s) where
-  pub malformed : {r : ℕ} → eqb (o .number) 0 ≡ false → r ≡ minus (number journalMalformed) → _≡_ {A = ℕ × List ℕ} (r, l) (ofBook s l f)
-  unfolding ofBook
+-- the book that a replay left
+module _ (l : List ℕ) (f : Book → ℕ × List ℕ) {o q : Outcome} (e : o ≡ q) where
+  pub malformed : {r : ℕ} → eqb (o .number) 0 ≡ false → r ≡ minus (number journalMalformed) → _≡_ {A = ℕ × List ℕ} (r, l) (ofOutcome q l f)
+  unfolding ofOutcome
   malformed h k = off _ (ap (λ (x : Outcome). eqb (x .number) 0) (sym e) ∙ h) (ap (λ (x : ℕ). (x, l)) k)
 
-  pub whole : {p : ℕ × List ℕ} → eqb (o .number) 0 ≡ true → p ≡ f (o .book) → p ≡ ofBook s l f
-  unfolding ofBook
+  pub whole : {p : ℕ × List ℕ} → eqb (o .number) 0 ≡ true → p ≡ f (o .book) → p ≡ ofOutcome q l f
+  unfolding ofOutcome
   whole h k = on _ (ap (λ (x : Outcome). eqb (x .number) 0) (sym e) ∙ h) (k ∙ ap (λ (x : Outcome). f (x .book)) e)
 
 -- a list's answer

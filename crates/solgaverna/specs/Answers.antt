@@ -30,9 +30,12 @@ coded n count = pick (eqb n 0) count (minus n)
 abbrev pub left : List ℕ → Outcome
 left s = outcomeOf 0 (replayOf s)
 
--- an answer about the book of a journal, and the buffer after it; a malformed one gives 13
-unfoldable pub ofBook : List ℕ → List ℕ → (Book → ℕ × List ℕ) → ℕ × List ℕ
-ofBook s l answer = pick (eqb (left s .number) 0) (answer (left s .book)) (minus (number journalMalformed), l)
+-- an answer about the book that a replay left, and the buffer after it; a malformed journal gives 13
+unfoldable pub ofOutcome : Outcome → List ℕ → (Book → ℕ × List ℕ) → ℕ × List ℕ
+ofOutcome o l answer = pick (eqb (o .number) 0) (answer (o .book)) (minus (number journalMalformed), l)
+
+abbrev pub ofBook : List ℕ → List ℕ → (Book → ℕ × List ℕ) → ℕ × List ℕ
+ofBook s l answer = ofOutcome (left s) l answer
 
 -- ── Lists of offers ──
 abbrev pub told : Reply × List ℕ → ℕ × List ℕ

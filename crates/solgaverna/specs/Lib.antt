@@ -1,2 +1,4 @@
 pub mod Answers
 pub mod AnswerLaws
+pub mod Snapshots
+pub mod SnapshotLaws

@@ -1,6 +1,7 @@
-// The library for C and Rust: the bytes of a journal go in, and its listing, its offers, its figures or answers to questions come out in
-// lent buffers.
+// The library for C and Rust: the bytes of a journal go in, of a snapshot before it or not, and its listing, its offers, its figures, answers
+// to questions or a snapshot come out in lent buffers.
 mod questions;
+mod snapshots;
 
 use book::Book;
 use lists::Asked;
@@ -14,7 +15,7 @@ ghost use lib.ListN.{getD};
 ghost use Rattle.lists.specs.Listing.{listedSays};
 ghost use Rattle.lists.specs.Wanted.{wantedOf};
 ghost use Rattle.query.specs.Reads.{asked, lenderRead, totalsRead};
-ghost use Rattle.replay.specs.Text.{listingOf};
+ghost use Rattle.replay.specs.Text.{listingOf, listingSays};
 ghost use Rattle.sheet.specs.Shown.{listedIn, shownIn};
 ghost use Rattle.solgaverna.specs.Answers.{minus, coded, ofBook, offersFor, noFour, fourSays, fourOver, written, lineOf, faultOf};
 ghost use Rattle.text.specs.Answers.{answered, leftFor};
@@ -31,16 +32,23 @@ fn refused(n: u64) -> u64
     18446744073709551615 - (n - 1)
 }
 
+fn listed(r: Listed) -> u64
+    ensures { λ x. ⌜ x ≡ coded (listingSays r .0) (listingSays r .1) ⌝ }
+{
+    match r {
+        Listed::Done(n) => { n as u64 }
+        Listed::Short => { refused(refusal::BUFFER_SHORT) }
+        Listed::Unsound => { refused(refusal::BOOK_UNSOUND) }
+    }
+}
+
 // The listing of a journal: how many bytes it is.
 #[no_mangle]
 pub extern "C" fn solgaverna_listing(journal: &[u8], out: &mut [u8]) -> u64
     ensures { λ r. ⌜ (r ≡ coded (listedIn (listingOf (now (journal .entry))) (now (out .entry)) .0) (listedIn (listingOf (now (journal .entry))) (now (out .entry)) .1)) × (now (out .exit) ≡ shownIn (listingOf (now (journal .entry))) (now (out .entry))) ⌝ }
 {
     let r = replay::listing(journal, out);
-    match r {
-        Listed::Done(n) => { n as u64 }
-        Listed::Short => { refused(refusal::BUFFER_SHORT) }
-    }
+    listed(r)
 }
 
 fn sized(r: Answer) -> u64

@@ -94,3 +94,29 @@ pub extern "C" fn timing_answers(
     }
     mixed
 }
+
+// Reads a snapshot again and again.
+#[no_mangle]
+pub extern "C" fn timing_read(bytes: &[u8], times: u64) -> u64 {
+    let mut mixed: u64 = 0;
+    for i in 0..times {
+        let l = snapshot::read(bytes);
+        let b = l.book;
+        let offers = b.offers;
+        mixed = mixed ^ i ^ l.number ^ (offers.count as u64);
+    }
+    mixed
+}
+
+// Writes the book of a snapshot again and again.
+#[no_mangle]
+pub extern "C" fn timing_write(bytes: &[u8], out: &mut [u8], times: u64) -> u64 {
+    let l = snapshot::read(bytes);
+    let book = l.book;
+    let mut mixed: u64 = 0;
+    for i in 0..times {
+        let w = snapshot::write(book, &mut *out);
+        mixed = mixed ^ i ^ w.number ^ (w.size as u64);
+    }
+    mixed
+}

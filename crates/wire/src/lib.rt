@@ -79,8 +79,8 @@ fn byte(x: u64) -> u8
     (x % 256) as u8
 }
 
-// A field of eight bytes.
-fn field(tag: u8, v: u64) -> [u8; 11]
+// A field of eight bytes, by itself.
+pub fn field(tag: u8, v: u64) -> [u8; 11]
     ensures { λ r. ⌜ r ≡ fieldOf tag (bytesOf 8 v) ⌝ }
 {
     let a = v / 256;

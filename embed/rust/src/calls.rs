@@ -42,6 +42,34 @@ mod raw {
             out: *mut u64,
             room: usize,
         ) -> i64;
+        pub fn solgaverna_snapshot(journal: *const u8, len: usize, out: *mut u8, room: usize) -> i64;
+        pub fn solgaverna_snapshot_from(
+            from: *const u8,
+            held: usize,
+            journal: *const u8,
+            len: usize,
+            out: *mut u8,
+            room: usize,
+        ) -> i64;
+        pub fn solgaverna_listing_from(
+            from: *const u8,
+            held: usize,
+            journal: *const u8,
+            len: usize,
+            out: *mut u8,
+            room: usize,
+        ) -> i64;
+        pub fn solgaverna_ask_from(
+            from: *const u8,
+            held: usize,
+            journal: *const u8,
+            len: usize,
+            questions: *const u8,
+            asked: usize,
+            out: *mut u8,
+            room: usize,
+        ) -> i64;
+        pub fn solgaverna_faulty_snapshot(from: *const u8, held: usize) -> u64;
     }
 }
 
@@ -97,15 +125,22 @@ pub fn totals(journal: &[u8]) -> Result<[u64; 4], Refusal> {
     count(unsafe { raw::solgaverna_totals(from, journal.len(), to, out.len()) }).map(|_| out)
 }
 
-/// 13 is said of a line that is no question, and of a malformed journal: the line is told first.
+/// 13 is said of a line that is no question, and of a malformed journal.
 pub fn ask(journal: &[u8], questions: &str, out: &mut [u8]) -> Result<usize, Refusal> {
     let (from, of, to) = (journal.as_ptr(), questions.as_ptr(), out.as_mut_ptr());
     let size = unsafe { raw::solgaverna_ask(from, journal.len(), of, questions.len(), to, out.len()) };
-    match count(size) {
-        Err(Refusal::Number(13)) => match unsafe { raw::solgaverna_faulty_question(of, questions.len()) } {
-            0 => Err(Refusal::Number(13)),
-            line => Err(Refusal::Line(line)),
-        },
+    line_first(count(size), questions)
+}
+
+/// A line that is no question is told before a malformed journal.
+fn line_first(size: Result<usize, Refusal>, questions: &str) -> Result<usize, Refusal> {
+    match size {
+        Err(Refusal::Number(13)) => {
+            match unsafe { raw::solgaverna_faulty_question(questions.as_ptr(), questions.len()) } {
+                0 => size,
+                line => Err(Refusal::Line(line)),
+            }
+        }
         size => size,
     }
 }
@@ -114,4 +149,39 @@ pub fn answers(journal: &[u8], questions: &[[u64; 3]], out: &mut [[u64; 12]]) ->
     let (questions, out) = (questions.as_flattened(), out.as_flattened_mut());
     let (from, of, to) = (journal.as_ptr(), questions.as_ptr(), out.as_mut_ptr());
     count(unsafe { raw::solgaverna_answers(from, journal.len(), of, questions.len(), to, out.len()) })
+}
+
+pub fn snapshot(journal: &[u8], out: &mut [u8]) -> Result<usize, Refusal> {
+    let (of, to) = (journal.as_ptr(), out.as_mut_ptr());
+    count(unsafe { raw::solgaverna_snapshot(of, journal.len(), to, out.len()) })
+}
+
+/// 13 is said of a snapshot and of a journal: where the snapshot has a wrong field, that is told.
+fn field_first(size: Result<usize, Refusal>, from: &[u8]) -> Result<usize, Refusal> {
+    match size {
+        Err(Refusal::Number(13)) => match unsafe { raw::solgaverna_faulty_snapshot(from.as_ptr(), from.len()) } {
+            u64::MAX => size,
+            at => Err(Refusal::Field(at)),
+        },
+        size => size,
+    }
+}
+
+pub fn snapshot_from(from: &[u8], journal: &[u8], out: &mut [u8]) -> Result<usize, Refusal> {
+    let (start, of, to) = (from.as_ptr(), journal.as_ptr(), out.as_mut_ptr());
+    let size = unsafe { raw::solgaverna_snapshot_from(start, from.len(), of, journal.len(), to, out.len()) };
+    field_first(count(size), from)
+}
+
+pub fn listing_from(from: &[u8], journal: &[u8], out: &mut [u8]) -> Result<usize, Refusal> {
+    let (start, of, to) = (from.as_ptr(), journal.as_ptr(), out.as_mut_ptr());
+    let size = unsafe { raw::solgaverna_listing_from(start, from.len(), of, journal.len(), to, out.len()) };
+    field_first(count(size), from)
+}
+
+pub fn ask_from(from: &[u8], journal: &[u8], questions: &str, out: &mut [u8]) -> Result<usize, Refusal> {
+    let (start, of, to) = (from.as_ptr(), journal.as_ptr(), out.as_mut_ptr());
+    let (held, len, asked) = (from.len(), journal.len(), questions.len());
+    let size = unsafe { raw::solgaverna_ask_from(start, held, of, len, questions.as_ptr(), asked, to, out.len()) };
+    line_first(field_first(count(size), from), questions)
 }

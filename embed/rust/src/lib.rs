@@ -10,12 +10,30 @@
 //! assert_eq!(journal.ask("account 1\ncount\n").unwrap(), "0 5000 0 0 0\n0 0\n");
 //! ```
 //!
-//! Nothing is kept between calls but the bytes of the journal: every read replays them. Give a thread that calls it 1 MiB of stack or more.
+//! Nothing is kept between calls but the bytes of the journal: every read replays them. A snapshot holds a whole book, so that a
+//! journal of edition 3 can go on from there:
+//!
+//! ```
+//! use solgaverna::Journal;
+//!
+//! let mut year = Journal::of_edition(3).unwrap();
+//! year.write("open-account 100 1\ndeposit 100 1 5000\n").unwrap();
+//! let snapshot = year.snapshot().unwrap();
+//! let mut day = Journal::of_edition(3).unwrap();
+//! day.write("payout 200 1 2000\n").unwrap();
+//! assert_eq!(snapshot.listing(&day).unwrap(), "edition 3\n1 0\naccount 1 3000 0 0 0\ntotals 0 0 0\n");
+//! let next = snapshot.then(&day).unwrap();
+//! # assert_eq!(next.ask(&Journal::of_edition(3).unwrap(), "account 1\n").unwrap(), "0 3000 0 0 0\n");
+//! ```
+//!
+//! Give a thread that calls it 1 MiB of stack or more.
 
 mod calls;
 mod questions;
+mod snapshot;
 
 pub use questions::{Answer, Question};
+pub use snapshot::Snapshot;
 
 use std::fmt;
 
@@ -24,14 +42,27 @@ use std::fmt;
 pub enum Refusal {
     /// The line of a text, counted from 1, that is no command, or no question where those are asked.
     Line(u64),
+    /// The offset of a snapshot's first wrong field.
+    Field(u64),
     /// The number of the refusal.
     Number(u64),
+}
+
+impl Refusal {
+    /// The number: 13 for a line, and for a field.
+    pub fn number(&self) -> u64 {
+        match self {
+            Refusal::Line(_) | Refusal::Field(_) => 13,
+            Refusal::Number(number) => *number,
+        }
+    }
 }
 
 impl fmt::Display for Refusal {
     fn fmt(&self, out: &mut fmt::Formatter) -> fmt::Result {
         match self {
             Refusal::Line(line) => write!(out, "line {line} is malformed"),
+            Refusal::Field(at) => write!(out, "the field at {at} is wrong"),
             Refusal::Number(number) => write!(out, "refused with {number}"),
         }
     }
@@ -93,6 +124,25 @@ const MOST_OFFERS: usize = 64;
 const NUMBERS: usize = 10;
 /// No answer in text is longer: a count, and every offer with its numbers, each of at most twenty digits and a space.
 const MOST_ANSWER: usize = 5 + MOST_OFFERS * NUMBERS * 21;
+/// A listing has no more bytes past those of its journal.
+const LISTING_ROOM: usize = 8192;
+
+/// The text at the start of a buffer.
+fn told(mut out: Vec<u8>, size: usize) -> String {
+    out.truncate(size);
+    String::from_utf8(out).expect("words, digits and spaces")
+}
+
+/// Answers in text, in a buffer that grows until they fit.
+fn with_room(ask: impl Fn(&mut [u8]) -> Result<usize, Refusal>) -> Result<String, Refusal> {
+    let mut out = vec![0; MOST_ANSWER];
+    loop {
+        match ask(&mut out) {
+            Err(Refusal::Number(14)) => out.resize(2 * out.len(), 0),
+            size => return Ok(told(out, size?)),
+        }
+    }
+}
 
 impl From<Vec<u8>> for Journal {
     fn from(bytes: Vec<u8>) -> Journal {
@@ -107,22 +157,46 @@ impl Default for Journal {
 }
 
 impl Journal {
-    /// A journal without commands.
+    /// A journal of the first edition, without commands.
     pub fn new() -> Journal {
+        Journal::titled("").expect("a text without a title is of edition 1")
+    }
+
+    /// A journal of an edition, without commands; 13 where there is no such edition.
+    pub fn of_edition(edition: u64) -> Result<Journal, Refusal> {
+        match edition {
+            1 => Ok(Journal::new()),
+            later => Journal::titled(&format!("edition {later}\n")).map_err(|_| Refusal::Number(13)),
+        }
+    }
+
+    fn titled(title: &str) -> Result<Journal, Refusal> {
         let mut bytes = vec![0; HEADER];
-        calls::journal("", &mut bytes).expect("the header fits");
-        Journal(bytes)
+        calls::journal(title, &mut bytes)?;
+        Ok(Journal(bytes))
+    }
+
+    /// The line that says the edition; the first has none.
+    fn title(&self) -> Result<String, Refusal> {
+        Journal(self.0.iter().copied().take(HEADER).collect()).text()
     }
 
     pub fn bytes(&self) -> &[u8] {
         &self.0
     }
 
-    /// Adds commands, one a line. A line that is none is refused by its number, and nothing is added.
+    /// Adds commands, one a line, in the journal's edition. A line that is none is refused by its number, and nothing is added.
     pub fn write(&mut self, text: &str) -> Result<(), Refusal> {
+        let title = self.title()?;
         // a line of k fields has 6 + 2 k bytes or more, and its record 3 + 11 k
         let mut more = vec![0; HEADER + 6 * text.len()];
-        let size = calls::journal(text, &mut more)?;
+        let size = calls::journal(&(title.clone() + text), &mut more).map_err(|refusal| match refusal {
+            Refusal::Line(line) => Refusal::Line(line - title.lines().count() as u64),
+            refusal => refusal,
+        })?;
+        if more[..HEADER] != self.0[..HEADER] {
+            return Err(Refusal::Line(1));
+        }
         self.0.extend_from_slice(&more[HEADER..size]);
         Ok(())
     }
@@ -138,10 +212,9 @@ impl Journal {
 
     /// What a replay prints: an answer for each command, the accounts, the totals.
     pub fn listing(&self) -> String {
-        let mut out = vec![0; self.0.len() + 8192];
+        let mut out = vec![0; self.0.len() + LISTING_ROOM];
         let size = calls::listing(&self.0, &mut out).expect("a listing has at most 7,358 bytes more than its journal");
-        out.truncate(size);
-        String::from_utf8(out).expect("words, digits and spaces")
+        told(out, size)
     }
 
     pub fn offers(&self, which: Offers) -> Result<Vec<Offer>, Refusal> {
@@ -163,16 +236,12 @@ impl Journal {
 
     /// The answers to questions, one a line, as the program `ask` writes them.
     pub fn ask(&self, questions: &str) -> Result<String, Refusal> {
-        let mut out = vec![0; MOST_ANSWER];
-        loop {
-            match calls::ask(&self.0, questions, &mut out) {
-                Err(Refusal::Number(14)) => out.resize(2 * out.len(), 0),
-                size => {
-                    out.truncate(size?);
-                    return Ok(String::from_utf8(out).expect("words, digits and spaces"));
-                }
-            }
-        }
+        with_room(|out| calls::ask(&self.0, questions, out))
+    }
+
+    /// The book after the journal, as a snapshot.
+    pub fn snapshot(&self) -> Result<Snapshot, Refusal> {
+        Snapshot::written(|out| calls::snapshot(&self.0, out))
     }
 
     /// The answers to lookups, in their order: the journal is replayed once for all of them.

@@ -4,16 +4,17 @@
 use std::time::{Duration, Instant};
 
 use journal::Command;
-use side::Side;
+use side::{Book, Side};
 
 use crate::chance::Chance;
 use crate::coverage::Coverage;
 use crate::damage::{answers_differ, damaged, listings_differ, other_tags};
 use crate::generate::{Generator, Plan};
-use crate::given::given;
+use crate::given::{given, with_idle};
 use crate::pair::{Pair, Start};
 use crate::reference::read_as;
 use crate::shrink::{shrink, Failure};
+use crate::snapshots::{compare_spoiled, unsound_alike};
 use crate::vectors::samples;
 
 pub struct Report {
@@ -26,8 +27,19 @@ pub struct Report {
     pub queries: u64,
     pub wide_quotients: u64,
     pub damaged: u64,
+    pub snapshots: Snapshots,
     pub time: Duration,
     pub coverage: Coverage,
+}
+
+/// How many snapshots were compared.
+#[derive(Clone, Copy, Debug, Default)]
+pub struct Snapshots {
+    pub written: u64,
+    pub read_back: u64,
+    pub spoiled: u64,
+    /// Unsound books, of which there is none.
+    pub unsound: u64,
 }
 
 impl Report {
@@ -42,6 +54,7 @@ impl Report {
             queries: 0,
             wide_quotients: 0,
             damaged: 0,
+            snapshots: Snapshots::default(),
             time: Duration::ZERO,
             coverage: Coverage::of(edition),
         }
@@ -53,7 +66,12 @@ pub enum Found {
     Run(Failure),
     /// Bytes that the sides read differently, and both listings.
     Bytes(Vec<u8>, String, String),
+    /// How snapshots differ.
+    Snapshot(String),
 }
+
+/// So many spoiled snapshots of a book's last state are read.
+const SPOILED: usize = 24;
 
 /// Compares so many commands of an edition from this seed. The first difference ends it.
 pub fn compare(
@@ -100,26 +118,52 @@ fn compare_book(
 ) -> Option<Found> {
     let edition = report.edition;
     let rows = chance.percent(25);
-    let start = if rows { Start::Rows(given(edition, chance)) } else { Start::Fresh(edition) };
-    report.given_books += u64::from(matches!(start, Start::Rows(_)));
+    let start = if rows { Start::Rows(rows_of(edition, chance)) } else { Start::Fresh(edition) };
+    if let Start::Rows(book) = &start {
+        report.given_books += 1;
+        match unsound_alike(other, book) {
+            Ok(planted) => report.snapshots.unsound += planted,
+            Err(what) => return Some(Found::Snapshot(what)),
+        }
+    }
     let plan = Plan::new(chance);
     let length = plan.length.min(most);
     let mut generator = Generator::new(Chance::new(chance.number()), plan);
-    let (commands, what) = run(other, &start, length, &mut generator, report);
+    let Run { commands, book, what } = run(other, &start, length, &mut generator, report);
     if let Some(what) = what {
         return Some(Found::Run(shrink(other, Failure { start, commands, what })));
     }
-    compare_damaged(other, chance, &commands, report)
+    compare_damaged(other, chance, &commands, report).or_else(|| {
+        report.snapshots.spoiled += SPOILED as u64;
+        compare_spoiled(other, chance, &book, SPOILED).err().map(Found::Snapshot)
+    })
 }
 
-/// Runs one book; the commands that were run, and the difference that ended them.
+/// Given rows; the original, whose edition is the first, can hold no idle account.
+fn rows_of(edition: u64, chance: &mut Chance) -> Book {
+    let book = given(edition, chance);
+    if edition == layer::EDITION {
+        book
+    } else {
+        with_idle(book)
+    }
+}
+
+/// The commands that were run, the book after them and the difference that ended them.
+struct Run {
+    commands: Vec<Command>,
+    book: Book,
+    what: Option<String>,
+}
+
+/// Runs one book.
 fn run(
     other: &mut dyn Side,
     start: &Start,
     length: u64,
     generator: &mut Generator,
     report: &mut Report,
-) -> (Vec<Command>, Option<String>) {
+) -> Run {
     let mut pair = Pair::start(other, start);
     let mut commands: Vec<Command> = Vec::new();
     let mut what = pair.compare_books().err();
@@ -140,7 +184,9 @@ fn run(
     report.commands += commands.len() as u64;
     report.queries += pair.met.queries;
     report.wide_quotients += pair.met.wide_quotients;
-    (commands, what)
+    report.snapshots.written += pair.met.written;
+    report.snapshots.read_back += pair.met.read_back;
+    Run { commands, book: pair.book, what }
 }
 
 fn compare_damaged(

@@ -33,7 +33,8 @@ pub fn damaged(chance: &mut Chance, edition: u64, commands: &[Command]) -> Vec<u
     bytes
 }
 
-fn wound(chance: &mut Chance, bytes: &mut Vec<u8>) {
+/// One byte lost, changed or added, or all from a place on lost.
+pub(crate) fn wound(chance: &mut Chance, bytes: &mut Vec<u8>) {
     let length = bytes.len() as u64;
     if length == 0 {
         return bytes.push(chance.number() as u8);

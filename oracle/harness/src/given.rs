@@ -26,6 +26,7 @@ pub fn given(edition: u64, chance: &mut Chance) -> Book {
         seats: next,
         threshold: chance.within(1, seats),
         repayment: chance.percent(80).then(|| chance.pick(&accounts)),
+        idle: 0,
         totals: Totals {
             offers: count(chance),
             financed: held(chance),
@@ -36,6 +37,15 @@ pub fn given(edition: u64, chance: &mut Chance) -> Book {
         invoices: invoices.iter().map(|id| invoice(chance, *id, &accounts)).collect(),
         offers: offers.iter().map(|id| offer(chance, *id, &accounts, &invoices, rounds)).collect(),
     }
+}
+
+/// The same book; where it has no repayment account, an account's id stands idle in its place. The
+/// original has no such book.
+pub fn with_idle(mut book: Book) -> Book {
+    if book.repayment.is_none() {
+        book.idle = book.accounts[0].id;
+    }
+    book
 }
 
 /// So many ids, ascending.

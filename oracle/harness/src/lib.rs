@@ -11,4 +11,5 @@ pub mod questions;
 pub mod reference;
 pub mod script;
 pub mod shrink;
+pub mod snapshots;
 pub mod vectors;

@@ -1,10 +1,12 @@
 //! The comparison's commands.
 
 use std::process::ExitCode;
+use std::time::Instant;
 
-use harness::compare::{compare, Found, Report};
+use harness::compare::{compare, Found, Report, Snapshots};
 use harness::reference::Reference;
 use harness::shrink::show;
+use harness::snapshots::compare_samples;
 use plain::{Plain, Slip, SLIPS};
 use port::Port;
 use side::Side;
@@ -16,6 +18,9 @@ const USAGE: &str = "usage:
       SOLGAVERNA_BRIDGE serves, and compares after each the answer, the whole book and queries;
       with --side plain on the plain model in its place. K from 1 to 7 plants a slip in that, by
       default in the first edition in which it shows, which must then be found
+  harness snapshots [--side plain] [--one-in N]
+      damages three snapshots at every byte, one damage in N (1), and compares what the plain reader
+      and the proved one make of each; with --side plain by the plain reader alone
   harness editions
       prints the editions, a line each
   harness replay [--side plain] FILE
@@ -30,6 +35,7 @@ fn main() -> ExitCode {
     let words: Vec<_> = words.iter().map(String::as_str).collect();
     let done = match words.as_slice() {
         ["compare", options @ ..] => compare_command(options),
+        ["snapshots", options @ ..] => snapshots_command(options),
         ["editions"] => editions(),
         ["replay", "--side", "plain", file] => replay(file, true),
         ["replay", file] => replay(file, false),
@@ -122,9 +128,9 @@ fn slip(number: u64) -> Result<(Slip, u64), String> {
     slip.copied().ok_or(USAGE.to_string())
 }
 
-fn other_side(asked: &Asked) -> Result<Box<dyn Side>, String> {
-    if asked.plain || asked.slip.is_some() {
-        return Ok(Box::new(Plain::with_slip(asked.slip)));
+fn other_side(plain: bool, slip: Option<Slip>) -> Result<Box<dyn Side>, String> {
+    if plain || slip.is_some() {
+        return Ok(Box::new(Plain::with_slip(slip)));
     }
     match std::env::var(port::COMMAND) {
         Ok(command) => Ok(Box::new(Port::start(&command)?)),
@@ -138,7 +144,7 @@ fn other_side(asked: &Asked) -> Result<Box<dyn Side>, String> {
 
 fn compare_command(options: &[&str]) -> Result<(), String> {
     let asked = asked(options)?;
-    let mut other = other_side(&asked)?;
+    let mut other = other_side(asked.plain, asked.slip)?;
     let (report, found) = compare(&mut *other, asked.edition, asked.seed, asked.commands);
     print_report(&report, asked.seed, other.name());
     match (found, asked.slip) {
@@ -153,6 +159,27 @@ fn compare_command(options: &[&str]) -> Result<(), String> {
     }
 }
 
+fn snapshots_command(options: &[&str]) -> Result<(), String> {
+    let (mut plain, mut one_in) = (false, 1);
+    for option in options.chunks(2) {
+        match option {
+            ["--side", "plain"] => plain = true,
+            ["--one-in", number] => one_in = number.parse().map_err(|_| USAGE.to_string())?,
+            _ => return Err(USAGE.to_string()),
+        }
+    }
+    let began = Instant::now();
+    let damaged = compare_samples(&|| other_side(plain, None), one_in.max(1))?;
+    let sum: u64 = damaged.iter().map(|(_, counts)| counts.sum()).sum();
+    for (sample, counts) in damaged {
+        println!("the {} snapshot, {} bytes\n{counts}", sample.name, sample.bytes.len());
+    }
+    let (who, time) = (if plain { "alone" } else { "and the proved one" }, began.elapsed());
+    let time = time.as_secs_f64();
+    println!("{sum} damaged snapshots, the plain reader {who}: no difference, {time:.1} s");
+    Ok(())
+}
+
 fn told(other: &mut dyn Side, found: Found) -> String {
     match found {
         Found::Run(failure) => show(other, &failure),
@@ -161,6 +188,7 @@ fn told(other: &mut dyn Side, found: Found) -> String {
             let (first, second) = (Reference::of_journal(&bytes).side().name(), other.name());
             format!("a journal is read differently: {digits}\n{first}:\n{one}{second}:\n{two}")
         }
+        Found::Snapshot(what) => what,
     }
 }
 
@@ -177,6 +205,10 @@ fn print_report(report: &Report, seed: u64, name: &str) {
         report.queries,
         report.damaged,
         report.time.as_secs_f64()
+    );
+    let Snapshots { written, read_back, spoiled, unsound } = report.snapshots;
+    println!(
+        "snapshots: {written} written, {read_back} read back, {spoiled} spoiled ones, {unsound} unsound books"
     );
 }
 

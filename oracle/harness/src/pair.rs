@@ -1,10 +1,12 @@
 //! Both sides in step: the same record to each, then everything compared.
 
 use journal::Command;
+use plain::edition::OF_SNAPSHOTS;
 use side::{Book, Offer, Query, Reply, Side};
 
 use crate::questions::questions;
 use crate::reference::{Answer, Reference};
+use crate::snapshots::{restored_alike, written_alike};
 
 /// Where a run starts: a fresh book of an edition, or given rows.
 #[derive(Clone, Debug)]
@@ -28,6 +30,8 @@ impl Start {
 pub struct Met {
     pub queries: u64,
     pub wide_quotients: u64,
+    pub written: u64,
+    pub read_back: u64,
 }
 
 pub struct Pair<'a> {
@@ -37,7 +41,11 @@ pub struct Pair<'a> {
     pub met: Met,
     turn: usize,
     /// One in so many queries is asked after each command.
-    pub one_in: usize,
+    one_in: usize,
+    /// After one command in so many both sides write a snapshot.
+    written_in: usize,
+    /// After one command in so many they read it too.
+    read_in: usize,
     room: Room,
 }
 
@@ -55,6 +63,9 @@ const UNTOUCHED: u64 = 0xA5A5_5A5A_A5A5_5A5A;
 /// The longest answer: 64 offers, or a negotiation.
 const MOST_NUMBERS: usize = 640;
 
+const WRITTEN_IN: usize = 16;
+const READ_IN: usize = 64;
+
 impl<'a> Pair<'a> {
     pub fn start(other: &'a mut dyn Side, start: &Start) -> Pair<'a> {
         let mut reference = Reference::of(start.edition());
@@ -69,8 +80,13 @@ impl<'a> Pair<'a> {
         }
         let book = reference.book();
         let (met, room) = (Met::default(), Room::default());
-        let one_in = other.one_in();
-        Pair { reference, other, book, met, turn: 0, one_in, room }
+        let (one_in, written_in, read_in) = (other.one_in(), WRITTEN_IN, READ_IN);
+        Pair { reference, other, book, met, turn: 0, one_in, written_in, read_in, room }
+    }
+
+    /// After every command each query is asked and a snapshot is written and read.
+    pub fn compare_all(&mut self) {
+        (self.one_in, self.written_in, self.read_in) = (1, 1, 1);
     }
 
     /// The names of both sides.
@@ -91,7 +107,33 @@ impl<'a> Pair<'a> {
         self.compare_books()?;
         self.compare_queries(command.now())?;
         self.turn += 1;
+        if self.turn % self.written_in == 0 {
+            self.compare_snapshots()?;
+        }
         Ok(answer)
+    }
+
+    fn compare_snapshots(&mut self) -> Result<(), String> {
+        let bytes = written_alike(self.other, &self.book)?;
+        self.met.written += 1;
+        if self.turn % self.read_in == 0 {
+            self.read_back(&bytes)?;
+        }
+        Ok(())
+    }
+
+    /// Reads the snapshot of the present book. In the edition of snapshots both sides go on from
+    /// there; in another the book is put back.
+    fn read_back(&mut self, bytes: &[u8]) -> Result<(), String> {
+        restored_alike(self.other, bytes, &self.book)?;
+        self.met.read_back += 1;
+        if self.book.edition == OF_SNAPSHOTS {
+            restored_alike(self.reference.side(), bytes, &self.book)?;
+        } else {
+            self.book.flat(&mut self.room.first);
+            self.other.load(&self.room.first);
+        }
+        self.compare_books()
     }
 
     /// Compares the whole state as it stands, before the first command too.

@@ -11,14 +11,15 @@ pub struct Failure {
     pub what: String,
 }
 
-/// The first difference that a run shows, with every query asked: after how many commands, and what.
+/// The first difference that a run shows, with everything compared after each command: after how
+/// many commands, and what.
 pub fn difference(
     other: &mut dyn Side,
     start: &Start,
     commands: &[Command],
 ) -> Option<(usize, String)> {
     let mut pair = Pair::start(other, start);
-    pair.one_in = 1;
+    pair.compare_all();
     if let Err(what) = pair.compare_books() {
         return Some((0, what));
     }

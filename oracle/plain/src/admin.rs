@@ -37,7 +37,7 @@ impl Desk {
             Command::SetRepaymentAccount { id, seats, .. } => {
                 self.seats(seats)?;
                 self.account(id)?;
-                self.book.repayment = Some(id);
+                (self.book.repayment, self.book.idle) = (Some(id), 0);
             }
             Command::SetBlacklisted { id, code, seats, .. } => {
                 self.seats(seats)?;

@@ -2,6 +2,9 @@
 
 use side::Book;
 
+/// The edition of a book that is read from a snapshot.
+pub const OF_SNAPSHOTS: u64 = 3;
+
 /// Whether there is such an edition.
 pub fn is_listed(edition: u64) -> bool {
     (1..=journal::LATEST).contains(&edition)

@@ -15,11 +15,12 @@ mod queries;
 mod reading;
 mod repayment;
 mod settlement;
+pub mod snapshot;
 mod sound;
 mod terms;
 
 use journal::Command;
-use side::{Book, Query, Reply, Side};
+use side::{Book, Query, Refused, Reply, Side};
 
 pub use sound::sound;
 
@@ -224,5 +225,19 @@ impl Side for Plain {
 
     fn answers(&mut self, journal: &[u8], questions: &str) -> Result<String, String> {
         asking::answers(self, journal, questions)
+    }
+
+    fn snapshot(&mut self, room: usize) -> Result<Vec<u8>, u64> {
+        snapshot::write_within(&self.book, room)
+    }
+
+    fn restore(&mut self, snapshot: &[u8]) -> Result<(), Refused> {
+        self.book = snapshot::read(snapshot)?;
+        self.sound = true;
+        Ok(())
+    }
+
+    fn listing_from(&mut self, journal: &[u8]) -> Vec<u8> {
+        reading::listing_from(self, journal).into_bytes()
     }
 }

@@ -2,7 +2,7 @@
 //! journal crate is used, only its commands.
 
 use journal::Command;
-use side::Side;
+use side::{Book, Side};
 
 use crate::{edition, Plain};
 
@@ -160,29 +160,41 @@ fn opened(journal: &[u8]) -> Option<(u64, &[u8])> {
     edition::is_listed(edition).then(|| (edition, &journal[header.size..]))
 }
 
-/// Everything that the replay program prints for these bytes.
+/// The replay program holds so many bytes of a journal.
+const LONGEST: usize = 32_768;
+
+/// Everything that the replay program prints for these bytes, from a fresh book of the edition that
+/// they name.
 pub fn listing(plain: &mut Plain, journal: &[u8]) -> String {
-    plain.reset(1);
-    if journal.len() > 32_768 {
+    let named = opened(journal).filter(|_| journal.len() <= LONGEST);
+    plain.reset(named.map_or(1, |(edition, _)| edition));
+    listing_from(plain, journal)
+}
+
+/// The same from the present book, which a journal of another edition leaves as it is.
+pub fn listing_from(plain: &mut Plain, journal: &[u8]) -> String {
+    if journal.len() > LONGEST {
         return "0 14\n".into();
     }
     let mut lines = Vec::new();
     match opened(journal) {
-        Some((edition, records)) => {
-            plain.reset(edition);
+        Some((edition, records)) if edition == plain.book().edition => {
             lines.push(format!("edition {edition}"));
             records_of(plain, records, &mut lines);
         }
-        None => lines.push("0 13 0".to_string()),
+        _ => lines.push("0 13 0".to_string()),
     }
-    let book = plain.book();
+    tables_of(plain.book(), &mut lines);
+    lines.iter().map(|line| format!("{line}\n")).collect()
+}
+
+fn tables_of(book: &Book, lines: &mut Vec<String>) {
     for row in &book.accounts {
         let money = [row.balance, row.allowance, row.offered, row.accepted];
         lines.push(format!("account {} {}", row.id, money.map(|sum| sum.to_string()).join(" ")));
     }
     let totals = [book.totals.financed, book.totals.repaid, book.totals.fees];
     lines.push(format!("totals {}", totals.map(|sum| sum.to_string()).join(" ")));
-    lines.iter().map(|line| format!("{line}\n")).collect()
 }
 
 fn records_of(plain: &mut Plain, mut records: &[u8], lines: &mut Vec<String>) {
@@ -233,5 +245,23 @@ mod tests {
         let trailing = [0x10, 0, 2, 0, 1, 0x21];
         assert_eq!(listing(&mut plain, &trailing), "edition 1\n1 13 5\ntotals 0 0 0\n");
         assert_eq!(listing(&mut plain, &[0; 32_769]), "0 14\n");
+    }
+
+    /// The session in two parts: the second goes on from the first one's book and counts from 1.
+    #[test]
+    fn a_journal_goes_on_from_the_present_book() {
+        let mut plain = Plain::default();
+        plain.reset(3);
+        let (first, rest) = (session()[..7].to_vec(), session()[7..].to_vec());
+        let book = "account 1 5000 5000 1000 0\naccount 2 0 0 0 0\ntotals 0 0 0\n";
+        assert!(listing_from(&mut plain, &journal(3, &first)).ends_with(book));
+        for bytes in [journal(2, &rest), journal(4, &rest), vec![0x10]] {
+            assert_eq!(listing_from(&mut plain, &bytes), format!("0 13 0\n{book}"));
+        }
+        assert_eq!(listing_from(&mut plain, &[0; 32_769]), "0 14\n");
+        let tables = SESSION_LISTING.split_once("10 7\n").unwrap().1;
+        let text = listing_from(&mut plain, &journal(3, &rest));
+        assert_eq!(text, format!("edition 3\n1 3\n2 0\n3 7\n{tables}"));
+        assert_eq!(plain.book().edition, 3);
     }
 }

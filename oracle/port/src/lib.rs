@@ -5,13 +5,17 @@ mod pipe;
 
 use std::cell::RefCell;
 
-use pipe::{Pipe, Request};
-use side::{Query, Reply, Side, PROGRAM_HOLDS, TOO_LONG};
+use pipe::{Pipe, Request, LARGE, SMALL};
+use side::{Query, Reading, Refused, Reply, Restored, Side, PROGRAM_HOLDS, TOO_LONG};
 
 /// Names the command that starts the program, its words parted by spaces.
 pub const COMMAND: &str = "SOLGAVERNA_BRIDGE";
 
 const MALFORMED: u64 = 13;
+
+/// So many readings are sent before their answers are taken: they fit the pipe to the program, so
+/// that sending them waits for no answer to be taken.
+const READINGS: usize = 8;
 
 pub struct Port {
     pipe: RefCell<Pipe>,
@@ -38,6 +42,36 @@ impl Port {
             }
             rest = after;
         }
+    }
+
+    /// Asks to read a snapshot, and for the book after it where that is wanted.
+    fn send_reading(&mut self, bytes: &[u8], shown: bool) {
+        self.shown = None;
+        let pipe = self.pipe.get_mut();
+        pipe.send(Request::Read, &[bytes.len() as u64], &[]);
+        pipe.send_snapshot(bytes);
+        if shown {
+            pipe.send(Request::Show, &[], &[]);
+        }
+    }
+
+    fn restored(&mut self, shown: bool) -> Restored {
+        let pipe = self.pipe.get_mut();
+        let answer = pipe.answer();
+        let answer = if answer[0] == 0 { Ok(()) } else { Err((answer[0], answer[1])) };
+        Restored { answer, book: shown.then(|| pipe.answer()) }
+    }
+
+    /// The listing that a request gives of a journal.
+    fn listing_by(&mut self, request: Request, journal: &[u8]) -> Vec<u8> {
+        if journal.len() > PROGRAM_HOLDS {
+            return TOO_LONG.into();
+        }
+        let pipe = self.pipe.get_mut();
+        pipe.send(request, &[journal.len() as u64], &[]);
+        pipe.send_large(journal);
+        let length = pipe.answer()[0] as usize;
+        pipe.bytes(length)
     }
 
     fn list(&mut self, query: Query, out: &mut [u64]) -> Reply {
@@ -105,19 +139,42 @@ impl Side for Port {
     }
 
     fn listing(&mut self, journal: &[u8]) -> Vec<u8> {
-        if journal.len() > PROGRAM_HOLDS {
-            return TOO_LONG.into();
-        }
-        let pipe = self.pipe.get_mut();
-        pipe.send(Request::Listing, &[journal.len() as u64], &[]);
-        pipe.send_large(journal);
-        let length = pipe.answer()[0] as usize;
-        pipe.bytes(length)
+        self.listing_by(Request::Listing, journal)
     }
 
     fn answers(&mut self, journal: &[u8], questions: &str) -> Result<String, String> {
         self.replay(journal);
         side::answered(self, questions)
+    }
+
+    fn snapshot(&mut self, room: usize) -> Result<Vec<u8>, u64> {
+        let pipe = self.pipe.get_mut();
+        pipe.send(Request::Write, &[room.min(LARGE) as u64], &[]);
+        let answer = pipe.answer();
+        match answer[0] {
+            0 => Ok(pipe.bytes(answer[1] as usize)),
+            number => Err(number),
+        }
+    }
+
+    fn restore(&mut self, snapshot: &[u8]) -> Result<(), Refused> {
+        self.send_reading(snapshot, false);
+        self.restored(false).answer
+    }
+
+    fn restore_each(&mut self, readings: &[Reading]) -> Vec<Restored> {
+        let small = readings.iter().all(|reading| reading.bytes.len() <= SMALL);
+        let mut all = Vec::new();
+        for some in readings.chunks(if small { READINGS } else { 1 }) {
+            some.iter().for_each(|reading| self.send_reading(&reading.bytes, reading.shown));
+            all.extend(some.iter().map(|reading| self.restored(reading.shown)));
+        }
+        all
+    }
+
+    fn listing_from(&mut self, journal: &[u8]) -> Vec<u8> {
+        self.shown = None;
+        self.listing_by(Request::ListingFrom, journal)
     }
 
     fn one_in(&self) -> usize {

@@ -5,7 +5,9 @@ use std::process::{Child, ChildStdin, ChildStdout, Command, Stdio};
 
 const FRAME: usize = 128;
 const RECORD: usize = 32;
-const LARGE: usize = 65_536;
+/// What follows a frame has one of two sizes.
+pub const SMALL: usize = 4_096;
+pub const LARGE: usize = 65_536;
 
 /// What a request asks, by its number in the program.
 #[derive(Clone, Copy)]
@@ -17,6 +19,9 @@ pub enum Request {
     List = 5,
     Ask = 6,
     Listing = 7,
+    Write = 8,
+    Read = 9,
+    ListingFrom = 10,
 }
 
 pub struct Pipe {
@@ -55,6 +60,15 @@ impl Pipe {
         assert!(bytes.len() <= LARGE, "{} bytes are too many", bytes.len());
         self.write(bytes);
         self.write(&vec![0; LARGE - bytes.len()]);
+    }
+
+    /// A snapshot that follows a frame: in the smaller size where it has room there.
+    pub fn send_snapshot(&mut self, bytes: &[u8]) {
+        if bytes.len() > SMALL {
+            return self.send_large(bytes);
+        }
+        self.write(bytes);
+        self.write(&[0; SMALL][bytes.len()..]);
     }
 
     /// The numbers of an answer.

@@ -10,7 +10,7 @@
 //! | 1 | seats, a bit each |
 //! | 1 | threshold |
 //! | 1 | whether a repayment account is set: 0 or 1 |
-//! | 1 | the repayment account, 0 where none is set |
+//! | 1 | the repayment account; where none is set, the idle id in its place |
 //! | 4 | totals: offers, financed, repaid, fees |
 //! | 1 | A, the number of accounts |
 //! | A × 8 | id, balance, allowance, offered, accepted, offers pending, offers repaid, blacklisted (0 or 1) |
@@ -36,7 +36,7 @@ use crate::rows::{Account, Book, Invoice, Offer, Round, Schedule, Totals};
 
 impl Book {
     pub fn flat(&self, out: &mut Vec<u64>) {
-        let repayment = [self.repayment.is_some().into(), self.repayment.unwrap_or(0)];
+        let repayment = [self.repayment.is_some().into(), self.repayment.unwrap_or(self.idle)];
         out.clear();
         out.push(self.edition);
         out.extend([self.paused.into(), self.window, self.seats, self.threshold]);
@@ -69,6 +69,7 @@ impl Book {
             seats,
             threshold,
             repayment: (set == 1).then_some(repayment),
+            idle: if set == 1 { 0 } else { repayment },
             totals: Totals { offers, financed, repaid, fees },
             ..Book::default()
         };
@@ -178,7 +179,7 @@ mod test {
     #[test]
     fn the_flat_list_shows_the_whole_book() {
         let mut flat = Vec::new();
-        for book in [Book::fresh(), sample()] {
+        for book in [Book::fresh(), Book { idle: 7, ..Book::fresh() }, sample()] {
             book.flat(&mut flat);
             assert_eq!(Book::of_flat(&flat), Some(book));
         }

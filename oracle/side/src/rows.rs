@@ -9,6 +9,9 @@ pub struct Book {
     pub threshold: u64,
     /// "No repayment account" is an answer of its own: every id is an ordinary one.
     pub repayment: Option<u64>,
+    /// The id that stands in its place while none is set, else 0. It counts for nothing, but the flat
+    /// form and a snapshot have it.
+    pub idle: u64,
     pub totals: Totals,
     pub accounts: Vec<Account>,
     pub invoices: Vec<Invoice>,

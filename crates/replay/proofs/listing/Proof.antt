@@ -1,30 +1,17 @@
-use Rattle.replay.specs.Room.{at-once}
-use Rattle.replay.specs.Shown.{no-space, in-space}
-use native.Mathlib.Omega.{arith}
+use Rattle.replay.specs.Text.{listingOf}
+use Rattle.replay.specs.Standing.{fresh}
+use Rattle.replay.specs.Heading.{edition-known}
+use Rattle.replay.specs.Room.{fresh-bounded}
 use borrow.Author.Needs.{needs}
 use Rattle.replay.proofs.listing.Statement.{statement}
 use Rattle.replay.proofs.listing.Tie as tie
 
+list-requires : tie.Need-list-requires
+list-requires c κs = let f = fresh (c .before .fresh-for .ensures) in (f .shelved, rw (f .model) (fresh-bounded _ (edition-known (c .before .before .before .before .args .s .now))))
+
 returns : tie.Need-returns
-returns c = at-once _ (c .before .before .before .walk .ensures .1) (omega arith) (c .before .before .before .before .before .before .if1 .taken) (c .before .before .before .before .before .if2 .taken) (omega arith)
-
-returns-2 : tie.Need-returns-2
-returns-2 c = no-space (c .before .before .before .before .walk2 .ensures .1) (c .if3 .taken)
-
-returns-3 : tie.Need-returns-3
-returns-3 c = in-space (c .before .before .before .before .before .before .before .before .before .walk2 .ensures .1) (c .before .before .before .before .before .if3 .left) (c .before .before .before .walk3 .ensures .1)
+unfolding listingOf
+returns c = rw (fresh (c .before .before .before .before .fresh-for .ensures) .model) at (c .before .before .list .ensures)
 
 pub listing-spec : {M : Type 1} → statement M
-listing-spec =
-    tie.close
-    (tie.spec
-    (λ c. search needs)
-    (λ c κs. search needs)
-    (λ c. search needs)
-    returns
-    (λ c κs. search needs)
-    (λ c. search needs)
-    returns-2
-    (λ c κs. search needs)
-    (λ c. search needs)
-    returns-3)
+listing-spec = tie.close (tie.spec (λ c κs. search needs) list-requires (λ c. search needs) returns)

@@ -7,10 +7,10 @@ use Rattle.solgaverna.proofs.solgaverna_totals.Statement.{statement}
 use Rattle.solgaverna.proofs.solgaverna_totals.Tie as tie
 
 returns : tie.Need-returns
-returns c = malformed (c .before .before .before .before .before .args .journal .now) (c .before .before .before .before .before .args .out .now) _ (c .before .before .replay .ensures) (not-true _ (c .before .if1 .taken)) (c .refused .ensures)
+returns c = malformed (c .before .before .before .before .before .args .out .now) _ (c .before .before .replay .ensures) (not-true _ (c .before .if1 .taken)) (c .refused .ensures)
 
 returns-2 : tie.Need-returns-2
-returns-2 c = whole (c .before .before .before .before .before .before .before .before .before .before .args .journal .now) (c .before .before .before .before .before .before .before .before .before .before .args .out .now) _ (c .before .before .before .before .before .before .before .replay .ensures) (not-false _ (c .before .before .before .before .before .before .if1 .left)) (c .before .before .put-four .ensures ∙ ap (λ r. fourOver r (c .before .before .before .before .before .before .before .before .before .before .args .out .now)) (c .before .before .before .totals-of .ensures))
+returns-2 c = whole (c .before .before .before .before .before .before .before .before .before .before .args .out .now) _ (c .before .before .before .before .before .before .before .replay .ensures) (not-false _ (c .before .before .before .before .before .before .if1 .left)) (c .before .before .put-four .ensures ∙ ap (λ r. fourOver r (c .before .before .before .before .before .before .before .before .before .before .args .out .now)) (c .before .before .before .totals-of .ensures))
 
 pub solgaverna-totals-spec : {M : Type 1} → statement M
 solgaverna-totals-spec =

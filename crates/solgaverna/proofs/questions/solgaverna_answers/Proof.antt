@@ -5,10 +5,10 @@ use Rattle.solgaverna.proofs.questions.solgaverna_answers.Statement.{st
 use Rattle.solgaverna.proofs.questions.solgaverna_answers.Tie as tie
 
 returns : tie.Need-returns
-returns c = let a = c .before .before .before .before .before .before .args in malformed (a .journal .now) (a .out .now) _ (c .before .before .replay .ensures) (not-true _ (c .before .if1 .taken)) (c .refused .ensures)
+returns c = let a = c .before .before .before .before .before .before .args in malformed (a .out .now) _ (c .before .before .replay .ensures) (not-true _ (c .before .if1 .taken)) (c .refused .ensures)
 
 returns-2 : tie.Need-returns-2
-returns-2 c = let a = c .before .before .before .before .before .before .before .before .before .before .before .args in whole (a .journal .now) (a .out .now) _ (c .before .before .before .before .before .before .before .replay .ensures) (not-false _ (c .before .before .before .before .before .before .if1 .left)) (counts (c .looked-up .ensures) (c .before .before .before .answers .ensures))
+returns-2 c = let a = c .before .before .before .before .before .before .before .before .before .before .before .args in whole (a .out .now) _ (c .before .before .before .before .before .before .before .replay .ensures) (not-false _ (c .before .before .before .before .before .before .if1 .left)) (counts (c .looked-up .ensures) (c .before .before .before .answers .ensures))
 
 pub solgaverna-answers-spec : {M : Type 1} → statement M
 solgaverna-answers-spec =

@@ -1,0 +1,15 @@
+use borrow.Author.Needs.{needs}
+use Rattle.bridge_words.specs.Parts.{taken}
+use Rattle.bridge.proofs.listing_on.Statement.{statement}
+use Rattle.bridge.proofs.listing_on.Tie as tie
+
+pub listing-on-spec : {M : Type 1} → statement M
+listing-on-spec =
+    tie.close
+    (tie.spec
+    (λ c. search needs)
+    (λ c. search (taken, needs))
+    (λ c κs. search needs)
+    (λ c. search needs)
+    (λ c. search needs)
+    (λ c. search needs))

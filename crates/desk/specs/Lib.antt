@@ -1,0 +1,2 @@
+-- The listing from a given book has room.
+pub mod From

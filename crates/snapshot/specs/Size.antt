@@ -1,0 +1,57 @@
+-- How long a snapshot can be: at most what a full book takes.
+use Prim.Native.Nat.{ℕ, _≤_}
+use native.Mathlib.Omega.{arith}
+use lib.ListN.{length}
+use Rattle.rules.specs.Model.{Model}
+use Rattle.codec.specs.Codec.{_then_}
+use Rattle.codec.specs.Weight.{Weighs, weighs-column, weighs-then, weighs-via, weighs-signed, weighs-flag, weighs-rows}
+use Rattle.snapshot.specs.Snapshot.{snapshotMost}
+use Rattle.snapshot.specs.Layout.{settings, totals, purse, account, invoice, terms, offer, round, negotiation, schedule, deal, layout}
+
+weighs-settings : Weighs settings 66
+unfolding settings
+weighs-settings = weighs-via _ _ _ (weighs-then (weighs-column _ _) (weighs-then (weighs-column _ _) (weighs-then (weighs-column _ _) (weighs-then (weighs-flag _) (weighs-then (weighs-flag _) (weighs-column _ _))))))
+
+weighs-totals : Weighs totals 44
+unfolding totals
+weighs-totals = weighs-via _ _ _ (weighs-then (weighs-column _ _) (weighs-then (weighs-signed _) (weighs-then (weighs-signed _) (weighs-signed _))))
+
+weighs-purse : Weighs purse 44
+unfolding purse
+weighs-purse = weighs-via _ _ _ (weighs-then (weighs-signed _) (weighs-then (weighs-signed _) (weighs-then (weighs-signed _) (weighs-signed _))))
+
+weighs-account : Weighs account 88
+unfolding account
+weighs-account = weighs-via _ _ _ (weighs-then (weighs-column _ _) (weighs-then weighs-purse (weighs-then (weighs-column _ _) (weighs-then (weighs-column _ _) (weighs-flag _)))))
+
+weighs-invoice : Weighs invoice 44
+unfolding invoice
+weighs-invoice = weighs-via _ _ _ (weighs-then (weighs-column _ _) (weighs-then (weighs-column _ _) (weighs-then (weighs-signed _) (weighs-column _ _))))
+
+weighs-terms : Weighs terms 33
+unfolding terms
+weighs-terms = weighs-via _ _ _ (weighs-then (weighs-signed _) (weighs-then (weighs-column _ _) (weighs-column _ _)))
+
+weighs-offer : Weighs offer 99
+unfolding offer
+weighs-offer = weighs-via _ _ _ (weighs-then (weighs-column _ _) (weighs-then (weighs-column _ _) (weighs-then weighs-terms (weighs-then (weighs-column _ _) (weighs-then (weighs-column _ _) (weighs-then (weighs-column _ _) (weighs-signed _)))))))
+
+weighs-round : Weighs round 55
+unfolding round
+weighs-round = weighs-via _ _ _ (weighs-then (weighs-column _ _) (weighs-then weighs-terms (weighs-column _ _)))
+
+weighs-negotiation : Weighs negotiation 693
+unfolding negotiation
+weighs-negotiation = weighs-via _ _ _ (weighs-then (weighs-column _ _) (weighs-then (weighs-column _ _) (weighs-rows weighs-round _ _)))
+
+weighs-schedule : Weighs schedule 44
+unfolding schedule
+weighs-schedule = weighs-via _ _ _ (weighs-then (weighs-column _ _) (weighs-then (weighs-column _ _) (weighs-then (weighs-signed _) (weighs-column _ _))))
+
+weighs-deal : Weighs deal 847
+unfolding deal
+weighs-deal = weighs-via _ _ _ (weighs-then (weighs-column _ _) (weighs-then weighs-offer (weighs-then weighs-negotiation weighs-schedule)))
+
+pub weighs-layout : Weighs layout snapshotMost
+unfolding layout
+weighs-layout = weighs-via _ _ _ (weighs-then weighs-settings (weighs-then weighs-totals (weighs-then (weighs-rows weighs-account _ _) (weighs-then (weighs-rows weighs-invoice _ _) (weighs-rows weighs-deal _ _)))))

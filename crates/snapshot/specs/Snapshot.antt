@@ -1,0 +1,64 @@
+-- Document 02, request a: what writing a book answers and leaves, and what reading bytes answers.
+use mathlib.Core.Path.{_≡_}
+use mathlib.Core.Bool.{Bool}
+use mathlib.Core.List.{List, _++_}
+use Prim.Native.Nat.{ℕ, _≤_}
+use lib.Dec.{leb}
+use lib.ListN.{length, drop}
+use Rattle.refusal.specs.Choice.{pick}
+use Rattle.refusal.specs.Refusal.{number, bufferShort, bookUnsound}
+use Rattle.edition.specs.Edition.{firstEdition}
+use Rattle.rules.specs.Model.{Model, freshModel}
+use Rattle.book.specs.declared.Book.{Book}
+use Rattle.book.specs.Stored.{modelOf, stored, bookTest, Shelved}
+use Rattle.codec.specs.Whole.{Reading, loaded, refused, readingOf}
+use Rattle.snapshot.specs.Layout.{layout, settingsFrom, settingsParts}
+use Rattle.snapshot.specs.declared.Loaded.{Loaded}
+use Rattle.snapshot.specs.declared.Written.{Written}
+
+-- ── Writing ───────────────────────────────────────────────────────
+unfoldable pub snapshotOf : Model → List ℕ
+snapshotOf m = layout .out m
+
+abbrev pub written : ℕ → ℕ → Written
+written n size = record { number = n; size = size }
+
+-- 15 for an unsound book, then 14 without room, both with the buffer as it was; else the fields, and what stood past them
+unfoldable pub writing : Book → List ℕ → Written × List ℕ
+writing b l =
+    let w = snapshotOf (modelOf b) in
+    pick (bookTest b)
+    (pick (leb (length w) (length l)) (written 0 (length w), w ++ drop (length w) l) (written (number bufferShort) 0, l))
+    (written (number bookUnsound) 0, l)
+
+-- the book that is read back: the same, in the snapshot's edition
+abbrev pub readBack : Model → Model
+readBack m = record { accounts = m .accounts; invoices = m .invoices; offers = m .offers; totals = m .totals; settings = settingsFrom (settingsParts (m .settings)) }
+
+-- a full book's has so many bytes
+abbrev pub snapshotMost : ℕ
+snapshotMost = 62799
+
+-- what `write` ensures: the answer and the buffer; of a book that was written, that each number fits its field and each array is a table; and that a buffer which holds a full book's is
+-- never short
+pub record Saved (b : Book) (l : List ℕ) (r : Written) (m : List ℕ) : Type 0 where
+  pub is : (r, m) ≡ writing b l
+  pub fits : r .number ≡ 0 → layout .Fits (readBack (modelOf b))
+  pub shelved : r .number ≡ 0 → Shelved b
+  pub room : snapshotMost ≤ length l → r .number ≡ number bufferShort → ⊥
+
+-- ── Reading ───────────────────────────────────────────────────────
+unfoldable pub soundIn : Model → Bool
+soundIn m = bookTest (stored m)
+
+-- 13 at the first wrong field, 15 at once for a count past its limit; with all fields there, 15 for a book that is not sound, else its model
+unfoldable pub modelIn : List ℕ → Reading Model
+modelIn s = readingOf layout soundIn s
+
+-- a refusal comes with the first edition's fresh book
+unfoldable pub loadedAs : Reading Model → Loaded
+loadedAs (loaded m) = record { number = 0; at = 0; book = stored m }
+loadedAs (refused n at) = record { number = n; at = at; book = stored (freshModel firstEdition) }
+
+unfoldable pub reading : List ℕ → Loaded
+reading s = loadedAs (modelIn s)

@@ -1,0 +1,2 @@
+-- How much of its buffer a snapshot takes.
+pub mod Size

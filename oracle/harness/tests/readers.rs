@@ -1,0 +1,186 @@
+//! Readers and writers of snapshots with a mistake, each of which the comparison finds.
+
+use harness::compare::{compare, Found};
+use harness::snapshots::{compare_damaged, compare_samples, samples, unsound_alike, written_alike};
+use plain::edition::{fresh, OF_SNAPSHOTS};
+use plain::snapshot::{examine, read, write, write_within, Refusal};
+use plain::Plain;
+use side::{Book, Query, Refused, Reply, Side};
+
+type Reader = fn(&mut Plain, &[u8]) -> Result<(), Refused>;
+type Writer = fn(&Book, usize) -> Result<Vec<u8>, u64>;
+
+/// The plain model with another reader and writer.
+struct Mistaken {
+    plain: Plain,
+    reader: Reader,
+    writer: Writer,
+}
+
+impl Mistaken {
+    fn reading(reader: Reader) -> Mistaken {
+        Mistaken { plain: Plain::default(), reader, writer: write_within }
+    }
+
+    fn writing(writer: Writer) -> Mistaken {
+        Mistaken { plain: Plain::default(), reader: Plain::restore, writer }
+    }
+}
+
+impl Side for Mistaken {
+    fn name(&self) -> &'static str {
+        "the model with a mistake"
+    }
+
+    fn reset(&mut self, edition: u64) {
+        self.plain.reset(edition);
+    }
+
+    fn load(&mut self, book: &[u64]) {
+        self.plain.load(book);
+    }
+
+    fn apply(&mut self, record: &[u8]) -> u64 {
+        self.plain.apply(record)
+    }
+
+    fn dump(&self, out: &mut Vec<u64>) {
+        self.plain.dump(out);
+    }
+
+    fn ask(&mut self, query: Query, out: &mut [u64]) -> Reply {
+        self.plain.ask(query, out)
+    }
+
+    fn listing(&mut self, journal: &[u8]) -> Vec<u8> {
+        self.plain.listing(journal)
+    }
+
+    fn answers(&mut self, journal: &[u8], questions: &str) -> Result<String, String> {
+        self.plain.answers(journal, questions)
+    }
+
+    fn snapshot(&mut self, room: usize) -> Result<Vec<u8>, u64> {
+        (self.writer)(self.plain.book(), room)
+    }
+
+    fn restore(&mut self, snapshot: &[u8]) -> Result<(), Refused> {
+        (self.reader)(&mut self.plain, snapshot)
+    }
+}
+
+/// The offset is that of the number and not of the tag.
+fn offset_of_the_number(plain: &mut Plain, bytes: &[u8]) -> Result<(), Refused> {
+    plain.restore(bytes).map_err(|(number, offset)| (number, offset + 3 * u64::from(number == 13)))
+}
+
+fn bytes_after_the_end_are_taken(plain: &mut Plain, bytes: &[u8]) -> Result<(), Refused> {
+    match read(bytes) {
+        Err((13, offset)) if read(&bytes[..offset as usize]).is_ok() => {
+            plain.restore(&bytes[..offset as usize])
+        }
+        _ => plain.restore(bytes),
+    }
+}
+
+/// A count past its limit is seen only after all fields, of which there are not enough.
+fn counts_are_seen_late(plain: &mut Plain, bytes: &[u8]) -> Result<(), Refused> {
+    match examine(bytes) {
+        Err(Refusal::TooMany) => Err((13, bytes.len() as u64)),
+        _ => plain.restore(bytes),
+    }
+}
+
+fn seats_are_cut_to_32_bits(plain: &mut Plain, bytes: &[u8]) -> Result<(), Refused> {
+    let mut bytes = bytes.to_vec();
+    bytes.iter_mut().skip(14).take(4).for_each(|byte| *byte = 0);
+    plain.restore(&bytes)
+}
+
+fn a_refusal_loses_the_book(plain: &mut Plain, bytes: &[u8]) -> Result<(), Refused> {
+    plain.restore(bytes).inspect_err(|_| plain.reset(OF_SNAPSHOTS))
+}
+
+/// The schedule's four numbers are not tested where its count is 0.
+fn absent_schedules_are_not_tested(plain: &mut Plain, bytes: &[u8]) -> Result<(), Refused> {
+    let mut zeros = bytes.to_vec();
+    let from = bytes.len().saturating_sub(44);
+    let count = bytes.get(from..from + 11);
+    if count.is_some_and(|count| count == [0x0A, 0, 8, 0, 0, 0, 0, 0, 0, 0, 0]) {
+        for field in 1..4 {
+            zeros[from + 11 * field + 3..from + 11 * field + 11].fill(0);
+        }
+    }
+    plain.restore(&zeros)
+}
+
+fn idle_accounts_are_dropped(plain: &mut Plain, bytes: &[u8]) -> Result<(), Refused> {
+    plain.restore(bytes)?;
+    let mut flat = Vec::new();
+    Book { idle: 0, ..plain.book().clone() }.flat(&mut flat);
+    plain.load(&flat);
+    Ok(())
+}
+
+#[test]
+fn every_mistake_in_a_reader_is_found() {
+    let mistakes: [Reader; 7] = [
+        offset_of_the_number,
+        bytes_after_the_end_are_taken,
+        counts_are_seen_late,
+        seats_are_cut_to_32_bits,
+        a_refusal_loses_the_book,
+        absent_schedules_are_not_tested,
+        idle_accounts_are_dropped,
+    ];
+    for (number, mistake) in mistakes.into_iter().enumerate() {
+        let found =
+            |bytes: &[u8]| compare_damaged(&mut Mistaken::reading(mistake), bytes, 1).is_err();
+        assert!(samples().iter().any(|sample| found(&sample.bytes)), "{number}");
+    }
+}
+
+/// No damage goes uncompared: neither where a side cannot be started nor where it breaks off.
+#[test]
+fn every_sample_is_compared() {
+    let plain = || Ok(Box::<Plain>::default() as Box<dyn Side>);
+    assert_eq!(compare_samples(&plain, 64).map(|damaged| damaged.len()), Ok(3));
+    let breaks_off = || {
+        let reader: Reader = |_, bytes| panic!("no answer to {} bytes", bytes.len());
+        Ok(Box::new(Mistaken::reading(reader)) as Box<dyn Side>)
+    };
+    assert!(compare_samples(&breaks_off, 64).is_err());
+    assert!(compare_samples(&|| Err("not started".to_string()), 64).is_err());
+}
+
+/// A fresh book with this writer: whether a sound book is written as it should be, and whether
+/// unsound ones are refused so.
+fn passes(writer: Writer) -> [bool; 2] {
+    let mut side = Mistaken::writing(writer);
+    side.reset(OF_SNAPSHOTS);
+    let sound = written_alike(&mut side, &fresh(OF_SNAPSHOTS)).is_ok();
+    [sound, unsound_alike(&mut side, &fresh(OF_SNAPSHOTS)).is_ok()]
+}
+
+#[test]
+fn every_mistake_in_a_writer_is_found() {
+    assert_eq!(passes(write_within), [true, true]);
+    assert_eq!(passes(|book, _| write(book)), [false, true]);
+    assert_eq!(passes(|book, room| write_within(book, room.saturating_sub(1))), [false, true]);
+    assert_eq!(passes(|book, room| if room == 0 { Err(14) } else { write(book) }), [false, false]);
+    assert_eq!(passes(|_, room| write_within(&fresh(OF_SNAPSHOTS), room)), [true, false]);
+}
+
+/// In every edition the comparison writes and reads snapshots, and cuts a difference down.
+#[test]
+fn the_comparison_finds_mistakes() {
+    let reader: Reader = |plain, bytes| plain.restore(bytes).map(|()| plain.reset(OF_SNAPSHOTS));
+    let writer: Writer = |book, room| write_within(&Book { paused: false, ..book.clone() }, room);
+    for edition in 1..=OF_SNAPSHOTS {
+        for mut side in [Mistaken::reading(reader), Mistaken::writing(writer)] {
+            let (_, found) = compare(&mut side, edition, 1, 5_000);
+            let Some(Found::Run(failure)) = found else { panic!("not found in edition {edition}") };
+            assert_eq!(failure.commands.len(), 1, "{}", failure.what);
+        }
+    }
+}

@@ -1,0 +1,327 @@
+//! Snapshots written by hand.
+
+use side::{Account, Book, Invoice, Offer, Round, Schedule, Totals};
+
+use super::{examine, read, write, write_within, Refusal};
+use crate::edition::fresh;
+
+/// Settings and totals of a fresh book of edition 3.
+#[rustfmt::skip]
+const FRESH: [u8; 110] = [
+    0x11, 0, 8, 0, 0, 0, 0, 0, 0x03, 0xF4, 0x80, // a window of 259,200 seconds
+    0x0D, 0, 8, 0, 0, 0, 0, 0, 0, 0, 1,
+    0x0E, 0, 8, 0, 0, 0, 0, 0, 0, 0, 1,
+    0x60, 0, 8, 0, 0, 0, 0, 0, 0, 0, 0,
+    0x61, 0, 8, 0, 0, 0, 0, 0, 0, 0, 0,
+    0x62, 0, 8, 0, 0, 0, 0, 0, 0, 0, 0,
+    0x63, 0, 8, 0, 0, 0, 0, 0, 0, 0, 0,
+    0x64, 0, 8, 0, 0, 0, 0, 0, 0, 0, 0,
+    0x65, 0, 8, 0, 0, 0, 0, 0, 0, 0, 0,
+    0x66, 0, 8, 0, 0, 0, 0, 0, 0, 0, 0,
+];
+
+/// Three tables without a row.
+#[rustfmt::skip]
+const NO_ROWS: [u8; 33] = [
+    0x70, 0, 8, 0, 0, 0, 0, 0, 0, 0, 0,
+    0x80, 0, 8, 0, 0, 0, 0, 0, 0, 0, 0,
+    0x90, 0, 8, 0, 0, 0, 0, 0, 0, 0, 0,
+];
+
+/// The book of `sample`: every number is another one, but for lengths and codes.
+#[rustfmt::skip]
+const SAMPLE: [u8; 517] = [
+    0x11, 0, 8, 0, 0, 0, 0, 0, 0, 0x0E, 0x10, // a window of 3,600 seconds
+    0x0D, 0, 8, 0, 0, 0, 0, 0x80, 0, 0, 1,
+    0x0E, 0, 8, 0, 0, 0, 0, 0, 0, 0, 2,
+    0x60, 0, 8, 0, 0, 0, 0, 0, 0, 0, 1,
+    0x61, 0, 8, 0, 0, 0, 0, 0, 0, 0, 1,
+    0x62, 0, 8, 0xFF, 0xFF, 0xFF, 0xFF, 0xFF, 0xFF, 0xFF, 0xFE,
+    0x63, 0, 8, 0, 0, 0, 0, 0, 0x0F, 0x42, 0x40, // 1,000,000
+    0x64, 0, 8, 0, 0x0E, 0x35, 0xFA, 0x93, 0x1A, 0, 0, // 4×10^15
+    0x65, 0, 8, 0, 0, 0, 0, 0, 0, 0, 61,
+    0x66, 0, 8, 0, 0, 0, 0, 0, 0, 0, 62,
+    0x70, 0, 8, 0, 0, 0, 0, 0, 0, 0, 1,
+    0x03, 0, 8, 0, 0, 0, 0, 0, 0, 0, 7, // account 7
+    0x71, 0, 8, 0, 0, 0, 0, 0, 0, 0, 11,
+    0x72, 0, 8, 0, 0, 0, 0, 0, 0, 0, 12,
+    0x73, 0, 8, 0, 0, 0, 0, 0, 0, 0, 13,
+    0x74, 0, 8, 0, 0, 0, 0, 0, 0, 0, 14,
+    0x75, 0, 8, 0, 0, 0, 0, 0, 0, 0, 15,
+    0x76, 0, 8, 0, 0, 0, 0, 0, 0, 0, 16,
+    0x77, 0, 8, 0, 0, 0, 0, 0, 0, 0, 1,
+    0x80, 0, 8, 0, 0, 0, 0, 0, 0, 0, 1,
+    0x03, 0, 8, 0, 0, 0, 0, 0, 0, 0, 8, // invoice 8
+    0x81, 0, 8, 0, 0, 0, 0, 0, 0, 0, 21,
+    0x05, 0, 8, 0, 0, 0, 0, 0, 0, 0, 22,
+    0x82, 0, 8, 0, 0, 0, 0, 0, 0, 0, 2,
+    0x90, 0, 8, 0, 0, 0, 0, 0, 0, 0, 1,
+    0x03, 0, 8, 0, 0, 0, 0, 0, 0, 0, 9, // offer 9
+    0x04, 0, 8, 0, 0, 0, 0, 0, 0, 0, 31,
+    0x91, 0, 8, 0, 0, 0, 0, 0, 0, 0, 32,
+    0x05, 0, 8, 0, 0, 0, 0, 0, 0, 0, 33,
+    0x06, 0, 8, 0, 0, 0, 0, 0, 0, 0, 34,
+    0x07, 0, 8, 0, 0, 0, 0, 0, 1, 0x51, 0x80, // 86,400 seconds
+    0x08, 0, 8, 0, 0, 0, 0, 0, 0, 0, 35,
+    0x92, 0, 8, 0, 0, 0, 0, 0, 0, 0, 5,
+    0x93, 0, 8, 0, 0, 0, 0, 0, 0, 0, 36,
+    0x94, 0, 8, 0, 0, 0, 0, 0, 0, 0, 37,
+    0x95, 0, 8, 0xFF, 0xFF, 0xFF, 0xFF, 0xFF, 0xFF, 0xFF, 0xFF,
+    0x96, 0, 8, 0, 0, 0, 0, 0, 0, 0, 4,
+    0x97, 0, 8, 0, 0, 0, 0, 0, 0, 0, 1,
+    0x98, 0, 8, 0, 0, 0, 0, 0, 0, 0, 1, // its round
+    0x05, 0, 8, 0, 0, 0, 0, 0, 0, 0, 41,
+    0x06, 0, 8, 0, 0, 0, 0, 0, 0, 0, 42,
+    0x07, 0, 8, 0, 0, 0, 0, 0, 1, 0x51, 0x81,
+    0x01, 0, 8, 0, 0, 0, 0, 0, 0, 0, 43,
+    0x0A, 0, 8, 0, 0, 0, 0, 0, 0, 0, 51, // its schedule
+    0x0B, 0, 8, 0, 0, 0, 0, 0, 0, 0, 3,
+    0x99, 0, 8, 0, 0, 0, 0, 0, 0, 0, 52,
+    0x0C, 0, 8, 0, 0, 0, 0, 0, 0, 0, 53,
+];
+
+fn sample() -> Book {
+    let totals =
+        Totals { offers: 1_000_000, financed: 4_000_000_000_000_000, repaid: 61, fees: 62 };
+    let account = Account {
+        id: 7,
+        balance: 11,
+        allowance: 12,
+        offered: 13,
+        accepted: 14,
+        pending: 15,
+        repaid: 16,
+        blacklisted: 1,
+    };
+    let round = Round { party: 1, amount: 41, rate: 42, duration: 86_401, time: 43 };
+    let offer = Offer {
+        id: 9,
+        invoice: 31,
+        lender: 32,
+        amount: 33,
+        rate: 34,
+        duration: 86_400,
+        expires: 35,
+        status: 5,
+        funded: 36,
+        repaid: 37,
+        outcome: 4,
+        deadline: u64::MAX,
+        rounds: vec![round],
+        schedule: Some(Schedule { count: 51, code: 3, installment: 52, first: 53 }),
+    };
+    Book {
+        edition: 3,
+        paused: true,
+        window: 3_600,
+        seats: 0x8000_0001,
+        threshold: 2,
+        repayment: Some(u64::MAX - 1),
+        idle: 0,
+        totals,
+        accounts: vec![account],
+        invoices: vec![Invoice { id: 8, originator: 21, amount: 22, status: 2 }],
+        offers: vec![offer],
+    }
+}
+
+fn empty() -> Vec<u8> {
+    [FRESH.as_slice(), &NO_ROWS].concat()
+}
+
+/// The sample with other numbers in some fields.
+fn with(numbers: &[(usize, u64)]) -> Vec<u8> {
+    let mut bytes = SAMPLE.to_vec();
+    for (field, number) in numbers {
+        bytes[11 * field + 3..11 * field + 11].copy_from_slice(&number.to_be_bytes());
+    }
+    bytes
+}
+
+const UNSOUND: (u64, u64) = (15, 0);
+
+#[test]
+fn a_fresh_book_is_written_and_read() {
+    assert_eq!(write(&fresh(3)), Ok(empty()));
+    assert_eq!(read(&empty()), Ok(fresh(3)));
+}
+
+#[test]
+fn every_column_has_its_field() {
+    assert_eq!(write(&sample()), Ok(SAMPLE.to_vec()));
+    assert_eq!(read(&SAMPLE), Ok(sample()));
+}
+
+/// 64 rows in each table, twelve rounds on each offer: (10 + 3 + 64 × (8 + 4 + 17 + 12 × 5)) × 11.
+#[test]
+fn a_full_book_is_the_longest() {
+    let Book { accounts, invoices, offers, .. } = sample();
+    let (account, invoice, offer) = (accounts[0], invoices[0], &offers[0]);
+    let rounds = vec![offer.rounds[0]; 12];
+    let full = Book {
+        accounts: (0..64).map(|id| Account { id, ..account }).collect(),
+        invoices: (0..64).map(|id| Invoice { id, ..invoice }).collect(),
+        offers: (0..64).map(|id| Offer { id, rounds: rounds.clone(), ..offer.clone() }).collect(),
+        ..sample()
+    };
+    let bytes = write(&full).unwrap();
+    assert_eq!(bytes.len(), 62_799);
+    assert_eq!(read(&bytes), Ok(full));
+}
+
+#[test]
+fn the_book_of_an_earlier_edition_is_read_in_edition_3() {
+    for edition in [1, 2] {
+        let bytes = write(&Book { edition, ..sample() }).unwrap();
+        assert_eq!(bytes, SAMPLE);
+        assert_eq!(read(&bytes), Ok(sample()));
+    }
+}
+
+#[test]
+fn an_unsound_book_comes_before_a_short_buffer() {
+    let unsound = Book { window: 3_599, ..sample() };
+    assert_eq!(write_within(&unsound, 0), Err(15));
+    assert_eq!(write_within(&unsound, 65_536), Err(15));
+    assert_eq!(write_within(&sample(), 516), Err(14));
+    assert_eq!(write_within(&sample(), 517), Ok(SAMPLE.to_vec()));
+}
+
+#[test]
+fn another_tag_is_the_first_wrong_field() {
+    for field in 0..47 {
+        let mut bytes = SAMPLE;
+        bytes[11 * field] ^= 0x40;
+        assert_eq!(read(&bytes), Err((13, 11 * field as u64)));
+    }
+}
+
+#[test]
+fn another_length_is_the_first_wrong_field() {
+    for (place, byte) in [(1, 1), (2, 7), (2, 9), (2, 0)] {
+        let mut bytes = SAMPLE;
+        bytes[22 + place] = byte;
+        assert_eq!(read(&bytes), Err((13, 22)));
+    }
+}
+
+#[test]
+fn a_cut_field_is_wrong_at_its_tag() {
+    for length in 0..517 {
+        assert_eq!(read(&SAMPLE[..length]), Err((13, (length / 11 * 11) as u64)), "{length}");
+    }
+}
+
+#[test]
+fn bytes_after_the_last_field_are_wrong_where_they_begin() {
+    for after in [[0x0C].as_slice(), &[0; 11], &FRESH] {
+        assert_eq!(read(&[SAMPLE.as_slice(), after].concat()), Err((13, 517)));
+    }
+    assert_eq!(read(&[empty().as_slice(), &[0x11]].concat()), Err((13, 143)));
+}
+
+/// Accounts, invoices, offers and the offer's rounds; nothing follows the count.
+#[test]
+fn a_count_past_its_limit_is_unsound_at_once() {
+    for (field, most) in [(10, 64), (19, 64), (24, 64), (37, 12)] {
+        for past in [most + 1, 1 << 32, u64::MAX] {
+            let bytes = with(&[(field, past)]);
+            assert_eq!(examine(&bytes[..11 * field + 11]), Err(Refusal::TooMany));
+            assert_eq!(read(&bytes), Err(UNSOUND));
+        }
+        let bytes = with(&[(field, most)]);
+        assert!(matches!(read(&bytes), Err((13, _))));
+    }
+}
+
+#[test]
+fn a_malformed_field_comes_before_an_unsound_number() {
+    let bytes = with(&[(0, 0), (12, u64::MAX)]);
+    assert_eq!(examine(&bytes), Err(Refusal::Unsound));
+    assert_eq!(read(&bytes[..516]), Err((13, 506)));
+    assert_eq!(read(&[bytes.as_slice(), &[0]].concat()), Err((13, 517)));
+    let many = with(&[(0, 0), (37, 13)]);
+    assert_eq!(examine(&many), Err(Refusal::TooMany));
+}
+
+/// Seats, threshold, both marks, offers made; an account's counts and mark; codes, rates and counts.
+#[test]
+fn a_number_that_does_not_fit_its_type_is_unsound() {
+    for field in [1, 2, 6, 16, 17, 23, 29, 32, 36, 38, 40, 43, 44] {
+        let mut bytes = SAMPLE;
+        bytes[11 * field + 6] = 1;
+        assert_eq!(examine(&bytes), Err(Refusal::Unsound), "{field}");
+    }
+    for field in [3, 4, 18] {
+        assert_eq!(examine(&with(&[(field, 2)])), Err(Refusal::Unsound), "{field}");
+        assert_eq!(examine(&with(&[(field, 1 << 32)])), Err(Refusal::Unsound), "{field}");
+    }
+}
+
+#[test]
+fn a_number_out_of_its_range_is_unsound() {
+    let minus_one = u64::MAX;
+    let wrong = [
+        (0, 3_599),
+        (0, 2_592_001),
+        (2, 0),
+        (2, 3),
+        (6, 1_000_001),
+        (7, 4_000_000_000_000_001),
+        (9, minus_one),
+        (12, minus_one),
+        (15, 4_000_000_000_000_001),
+        (17, 1_000_001),
+        (22, 0),
+        (23, 3),
+        (28, 1_000_000_000_001),
+        (29, 10_001),
+        (30, 86_399),
+        (32, 6),
+        (34, minus_one),
+        (36, 1),
+        (36, 5),
+        (38, 2),
+        (39, 0),
+        (41, 31_536_001),
+        (43, 1_201),
+        (44, 4),
+        (45, 0),
+        (45, 2_000_000_000_001),
+    ];
+    for (field, number) in wrong {
+        assert_eq!(read(&with(&[(field, number)])), Err(UNSOUND), "{field} {number}");
+    }
+}
+
+/// Offers 9 and then another: only a greater id may follow.
+#[test]
+fn ids_ascend() {
+    for (next, good) in [(8, false), (9, false), (10, true)] {
+        let mut second = SAMPLE[11 * 25..].to_vec();
+        second[3..11].copy_from_slice(&u64::to_be_bytes(next));
+        let bytes = [with(&[(24, 2)]), second].concat();
+        assert_eq!(read(&bytes).is_ok(), good, "{next}");
+        assert!(good || read(&bytes) == Err(UNSOUND));
+    }
+}
+
+#[test]
+fn an_absent_schedule_is_four_zeros() {
+    let none = with(&[(43, 0), (44, 0), (45, 0), (46, 0)]);
+    assert_eq!(read(&none).unwrap().offers[0].schedule, None);
+    for field in [44, 45, 46] {
+        let mut bytes = none.clone();
+        bytes[11 * field + 10] = 1;
+        assert_eq!(examine(&bytes), Err(Refusal::Unsound), "{field}");
+    }
+}
+
+/// The id is free while no account is set, and it is kept.
+#[test]
+fn an_idle_repayment_account_is_kept() {
+    let bytes = with(&[(4, 0), (5, 7)]);
+    let book = Book { repayment: None, idle: 7, ..sample() };
+    assert_eq!(read(&bytes), Ok(book.clone()));
+    assert_eq!(write(&book), Ok(bytes));
+}
