@@ -273,6 +273,29 @@ fn a_snapshot_from_before_is_of_edition_3() {
     }
 }
 
+/// The stored snapshots were made by hand: of the session's first part in each edition, and of twelve
+/// counters after it, the last of which edition 3 refuses.
+#[test]
+fn the_stored_snapshots_are_written() {
+    let stored = |name: String| fs::read(cases(&format!("snapshot/{name}"))).unwrap();
+    let (first, rounds) = (stored("first.bytes".into()), stored("rounds.bytes".into()));
+    let mut sides = sides();
+    for edition in 1..=LATEST {
+        let of_edition = |bytes: &[u8]| [&header(edition), &bytes[HEADER_SIZE..]].concat();
+        let (first, rounds) = (of_edition(&first), of_edition(&rounds));
+        for side in &mut sides {
+            let (_, snapshot) = replayed(&mut **side, &first);
+            assert!(snapshot == stored(format!("edition-{edition}.snapshot")), "{edition}");
+            let answers = listing_of(edition, side.listing_from(&rounds)).answers;
+            let last = if edition < 4 { 7 } else { 0 };
+            assert_eq!(answers, [[0; 11].as_slice(), &[last]].concat(), "{edition}");
+            let kept =
+                [3, 4].contains(&edition).then(|| stored(format!("rounds-{edition}.snapshot")));
+            assert!(kept.is_none_or(|kept| side.snapshot(WIDE) == Ok(kept)), "{edition}");
+        }
+    }
+}
+
 /// 13 at 0 for an edition that there is not, before anything behind it.
 #[test]
 fn an_edition_that_there_is_not_is_malformed() {
