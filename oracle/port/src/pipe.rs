@@ -7,7 +7,7 @@ const FRAME: usize = 128;
 const RECORD: usize = 32;
 /// What follows a frame has one of two sizes.
 pub const SMALL: usize = 4_096;
-pub const LARGE: usize = 65_536;
+pub const LARGE: usize = 81_920;
 
 /// What a request asks, by its number in the program.
 #[derive(Clone, Copy)]
