@@ -1,3 +1,5 @@
 pub mod Sums
 pub mod SumLaws
 pub mod Even
+pub mod Flat
+pub mod FlatLaws

@@ -5,11 +5,12 @@ use native.Mathlib.Decide.{decLe}
 use native.Mathlib.Omega.{arith}
 use mathlib.Core.Path.{_≡_, refl, ap, _∙_}
 use mathlib.Core.Logic.{_↔_}
-use mathlib.Core.Bool.{true}
+use mathlib.Core.Bool.{Bool, true, false}
 use mathlib.Core.List.{List, [], _∷_}
 use lib.Dec.{leb}
 use lib.ListN.{length, getD}
 use borrow.Author.Tests.{leb-true, leb-false, le-leb, lt-leb}
+use Rattle.refusal.specs.Choice.{pick}
 use Rattle.refusal.specs.ChoiceLaws.{pick-on, pick-off, either}
 use Rattle.installments.specs.Sums.{sumTo, sumOf, paidOf, numberDue, owedOn, dueOf}
 
@@ -99,6 +100,15 @@ due-none l elapsed r h low = let e = sum-zero l in rw (number-none l elapsed r h
 pub due-next : (l : List ℕ) (elapsed r n : ℕ) → elapsed ≤ length l → n < elapsed → sumTo n l ≤ r → r < sumTo (suc n) l → dueOf l elapsed r ≡ (suc n, sumTo (suc n) l - r)
 unfolding dueOf owedOn
 due-next l elapsed r n h k low high = rw (number-next l elapsed r n h k low high)
+
+-- the pair by how many are paid
+pub due-paid : (l : List ℕ) (elapsed r n : ℕ) → paidOf l r ≡ n → dueOf l elapsed r ≡ pick (leb elapsed n) (0, 0) (n + 1, sumTo (n + 1) l - r)
+unfolding dueOf owedOn numberDue pick
+due-paid l elapsed r n e = rw e (by (leb elapsed n))
+  where
+    by : (t : Bool) → _≡_ {A = ℕ × ℕ} (pick t 0 (n + 1), sumTo (pick t 0 (n + 1)) l - r) (pick t (0, 0) (n + 1, sumTo (n + 1) l - r))
+    by true = let z = sum-zero l in ap (λ (m : ℕ). (0, m)) (omega arith)
+    by false = refl
 
 -- which of the two it is
 pub data Stands (l : List ℕ) (elapsed r : ℕ) : Type 0 where
