@@ -3,3 +3,6 @@ pub mod SumLaws
 pub mod Even
 pub mod Flat
 pub mod FlatLaws
+pub mod Falling
+pub mod FallingLaws
+pub mod Examples
