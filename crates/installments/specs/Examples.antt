@@ -1,7 +1,6 @@
 -- 1000 at 500 over 3: the installments of each kind, and what is due once all have elapsed, on both sides of each sum.
-use Prim.Native.Nat.{ℕ}
 use mathlib.Core.Path.{_≡_, refl}
-use mathlib.Core.List.{List, [], _∷_, map}
+use mathlib.Core.List.{[], _∷_, map}
 use Rattle.refusal.specs.Choice.{pick}
 use Rattle.installments.specs.Sums.{sumTo, paidOf, numberDue, owedOn, dueOf}
 use Rattle.installments.specs.Even.{even}

@@ -1,14 +1,12 @@
 -- What the falling installments come to. Assumes nothing.
 use Prim.Native.Nat.{ℕ, zero, suc, _+_, _-_, _*_, _/_, _≤_, _<_}
-use native.Mathlib.Nat.{not-suc-le-zero, le-of-suc-le-suc, le-trans, le-of-eq, le-div-iff-mul-le, div-mul-le-self, div-le-self, div-le-of-le-mul, div-zero, div-one, mul-le-mul, mul-le-mul-left, mul-le-mul-right, mul-comm}
-use native.Mathlib.Decide.{decLe, ℕ-discrete}
+use native.Mathlib.Nat.{not-suc-le-zero, le-of-suc-le-suc, le-trans, le-div-iff-mul-le, div-mul-le-self, div-le-self, div-le-of-le-mul, div-zero, div-one, mul-le-mul, mul-le-mul-left, mul-le-mul-right}
+use native.Mathlib.Decide.{decLe}
 use native.Mathlib.Omega.{arith}
 use mathlib.Core.Path.{_≡_, refl, sym, ap, _∙_}
-use mathlib.Core.List.{List, [], _∷_}
 use lib.Dec.{eqb}
 use lib.ListN.{length, getD}
 use borrow.Author.Tests.{eq-eqb, ne-eqb}
-use Rattle.refusal.specs.Choice.{pick}
 use Rattle.refusal.specs.ChoiceLaws.{pick-on, pick-off, either}
 use Rattle.installments.specs.Sums.{sumTo, sumOf}
 use Rattle.installments.specs.SumLaws.{Positive, sum-zero, sum-suc, sum-all, sum-bound}
@@ -26,9 +24,12 @@ listed-member f (suc n) zero h = refl
 listed-member f (suc n) (suc k) h = listed-member (λ (k : ℕ). f (suc k)) n k (le-of-suc-le-suc h)
 
 -- every repayment of principal but the last is the same
-pub principal-early : (amount count k : ℕ) → suc k < count → principal amount count k ≡ amount / count
+pub principal-else : (amount count k : ℕ) → (suc k ≡ count → ⊥) → principal amount count k ≡ amount / count
 unfolding principal
-principal-early amount count k h = pick-off _ _ (ne-eqb (k + 1) count (λ e. omega arith))
+principal-else amount count k h = pick-off _ _ (ne-eqb (k + 1) count (λ e. h (omega arith)))
+
+pub principal-early : (amount count k : ℕ) → suc k < count → principal amount count k ≡ amount / count
+principal-early amount count k h = principal-else amount count k (λ e. omega arith)
 
 pub principal-last : (amount count k : ℕ) → suc k ≡ count → principal amount count k ≡ outstanding amount count k
 unfolding principal
@@ -52,7 +53,7 @@ principal-all amount count h =
     let last : suc (count - 1) ≡ count = omega arith in
     let size : length l ≡ suc (count - 1) = listed-length (principal amount count) count ∙ sym last in
     let e : sumTo (suc (count - 1)) l ≡ amount =
-        omega (arith, principal-sum amount count (count - 1) (omega arith), sum-suc (count - 1) l (omega arith), listed-member (principal amount count) count (count - 1) (omega arith), principal-last amount count (count - 1) last, share-fits amount count (count - 1) (omega arith)) in
+    omega (arith, principal-sum amount count (count - 1) (omega arith), sum-suc (count - 1) l (omega arith), listed-member (principal amount count) count (count - 1) (omega arith), principal-last amount count (count - 1) last, share-fits amount count (count - 1) (omega arith)) in
     sym (sum-all l) ∙ (ap (λ (n : ℕ). sumTo n l) size ∙ e)
 
 -- what is outstanding falls, and so does the interest on it
@@ -80,6 +81,10 @@ falling-length amount rate count = listed-length (fallingMember amount rate coun
 pub falling-member : (amount rate count k : ℕ) → k < count → getD (falling amount rate count) k 0 ≡ fallingMember amount rate count k
 unfolding falling
 falling-member amount rate count k h = listed-member (fallingMember amount rate count) count k h
+
+-- each adds itself to the sum
+pub falling-next : (amount rate count k : ℕ) → k < count → sumTo k (falling amount rate count) + fallingMember amount rate count k ≡ sumTo (suc k) (falling amount rate count)
+falling-next amount rate count k h = omega (arith, sum-suc k (falling amount rate count) (omega (arith, falling-length amount rate count)), falling-member amount rate count k h)
 
 -- no installment but the last is more than the one before it
 pub falling-falls : (amount rate count k : ℕ) → suc (suc k) < count → getD (falling amount rate count) (suc k) 0 ≤ getD (falling amount rate count) k 0

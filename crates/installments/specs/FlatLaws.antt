@@ -12,7 +12,7 @@ use borrow.Author.Tests.{le-leb, lt-leb, lt-ltb, le-ltb}
 use Rattle.refusal.specs.Choice.{pick}
 use Rattle.refusal.specs.ChoiceLaws.{on, off, pick-on}
 use Rattle.installments.specs.Sums.{sumTo, sumOf, paidOf, dueOf}
-use Rattle.installments.specs.SumLaws.{Positive, sum-zero, sum-suc, sum-all, paid-is, due-paid}
+use Rattle.installments.specs.SumLaws.{Positive, sum-zero, sum-suc, sum-all, unpaid-sum, paid-is, due-paid}
 use Rattle.installments.specs.Even.{quotient-low, quotient-high}
 use Rattle.installments.specs.Flat.{totalOf, partOf, flat, flatSum, flatPaid, flatAfter, flatDue}
 
@@ -79,6 +79,13 @@ module _ (count x total : ℕ) (some : 1 ≤ count) (room : (count - 1) * x ≤ 
           let share = quotient-low r x (count - 1) (omega arith) in
           let e : suc (count - 1) ≡ count = omega arith in
           off _ (lt-leb total r (omega arith)) (paid-is (flat count x total) r (count - 1) (omega (arith, size)) (omega arith) (λ k. rw e (omega (arith, flat-end))) ∙ sym (min-eq-right (omega arith)))
+
+  -- the sum up to the next one is not repaid
+  pub flat-unpaid : (r : ℕ) → 0 < x → flatPaid count x total r < count → r < flatSum count x total (flatPaid count x total r + 1)
+  flat-unpaid r p h =
+      let e = flat-paid r p in
+      let n : suc (paidOf (flat count x total) r) ≡ flatPaid count x total r + 1 = omega arith in
+      rw (n, flat-sum-is (flatPaid count x total r + 1) (omega arith)) at (unpaid-sum (flat count x total) r (omega (arith, flat-length count x total some)))
 
   -- what is due, by division
   pub flat-due : (elapsed r : ℕ) → 0 < x → elapsed ≤ count → dueOf (flat count x total) elapsed r ≡ flatDue count x total elapsed r

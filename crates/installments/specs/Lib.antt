@@ -5,4 +5,6 @@ pub mod Flat
 pub mod FlatLaws
 pub mod Falling
 pub mod FallingLaws
+pub mod Arguments
+pub mod ArgumentLaws
 pub mod Examples
