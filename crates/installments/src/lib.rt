@@ -75,10 +75,10 @@ fn flat_paid(count: u64, installment: u64, total: u64, repaid: u64) -> u64
     if total <= repaid {
         return count;
     }
-    let paid = repaid / installment;
+    let reached = repaid / installment;
     let early = count - 1;
-    if paid < early {
-        return paid;
+    if reached < early {
+        return reached;
     }
     early
 }
@@ -102,14 +102,14 @@ pub fn flat_due(count: u64, installment: u64, total: u64, elapsed: u64, repaid: 
     if !flat_ok(count, installment, total, elapsed, repaid) {
         return Due { number: 0, owed: 0 };
     }
-    let paid = flat_paid(count, installment, total, repaid);
-    if elapsed <= paid {
+    let settled = flat_paid(count, installment, total, repaid);
+    if elapsed <= settled {
         return Due { number: 0, owed: 0 };
     }
-    let number = paid + 1;
-    let sum = flat_sum(count, installment, total, number);
+    let next = settled + 1;
+    let sum = flat_sum(count, installment, total, next);
     Due {
-        number: number,
+        number: next,
         owed: sum - repaid,
     }
 }

@@ -27,7 +27,7 @@ unfolding dueAs evenDue
 returns-2 c =
     let a = c .before .before .before .args in
     let g = given (c .before) in
-    answers (ok (c .before)) (even-due (a .count) (a .installment) (a .elapsed) (a .repaid) (g .low) (g .due .elapsed-high) ∙ pick-on _ _ (le-leb _ _ (c .if2 .taken)))
+    answers (ok (c .before)) (even-due (a .count) (a .installment) (a .elapsed) (a .repaid) (g .low) (g .due .elapsed-high) ∙ pick-on _ _ (le-leb (a .elapsed) (a .repaid / a .installment) (omega arith)))
 
 mul-t9 : tie.Need-mul-t9
 mul-t9 c =
@@ -45,7 +45,7 @@ unfolding dueAs evenDue
 returns-3 c =
     let a = c .before .before .before .args in
     let g = given (c .before) in
-    answers (ok (c .before)) (even-due (a .count) (a .installment) (a .elapsed) (a .repaid) (g .low) (g .due .elapsed-high) ∙ pick-off _ _ (lt-leb _ _ (c .if2 .left)))
+    answers (ok (c .before)) (even-due (a .count) (a .installment) (a .elapsed) (a .repaid) (g .low) (g .due .elapsed-high) ∙ pick-off _ _ (lt-leb (a .elapsed) (a .repaid / a .installment) (omega arith)))
 
 pub even-due-spec : {M : Type 1} → statement M
 even-due-spec = tie.close (tie.spec (λ c κs. search needs) returns (λ c. given c .low) returns-2 (λ c. search needs) mul-t9 sub-t10 returns-3)

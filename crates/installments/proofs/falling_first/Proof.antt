@@ -1,3 +1,4 @@
+use native.Mathlib.Omega.{arith}
 use mathlib.Core.Bool.{true}
 use mathlib.Core.Path.{_≡_, refl, sym, _∙_}
 use borrow.Author.Tests.{not-true, not-false}
@@ -20,9 +21,12 @@ returns : tie.Need-returns
 unfolding firstIf
 returns c = off _ (sym (c .before .falling-ok .ensures) ∙ not-true _ (c .if1 .taken)) refl
 
+falling-member-requires : tie.Need-falling-member-requires
+falling-member-requires c κs = let g = given c in omega arith
+
 returns-2 : tie.Need-returns-2
 unfolding firstIf
 returns-2 c = on _ (ok (c .before)) (c .falling-member .ensures ∙ sym (falling-member _ _ _ 0 (given (c .before) .due .count-low)))
 
 pub falling-first-spec : {M : Type 1} → statement M
-falling-first-spec = tie.close (tie.spec (λ c κs. search needs) returns (λ c κs. given c) returns-2)
+falling-first-spec = tie.close (tie.spec (λ c κs. search needs) returns falling-member-requires returns-2)

@@ -10,15 +10,15 @@ use Rattle.installments.proofs.flat_paid.Tie as tie
 
 returns : tie.Need-returns
 unfolding flatPaid
-returns c = on _ (le-leb _ _ (c .if1 .taken)) refl
+returns c = let a = c .before .args in on _ (le-leb (a .total) (a .repaid) (omega arith)) refl
 
 returns-2 : tie.Need-returns-2
 unfolding flatPaid
-returns-2 c = off _ (lt-leb _ _ (c .before .if1 .left)) (sym (min-eq-left (omega arith)))
+returns-2 c = let a = c .before .before .args in off _ (lt-leb (a .total) (a .repaid) (omega arith)) (sym (min-eq-left (omega arith)))
 
 returns-3 : tie.Need-returns-3
 unfolding flatPaid
-returns-3 c = off _ (lt-leb _ _ (c .before .if1 .left)) (sym (min-eq-right (omega arith)))
+returns-3 c = let a = c .before .before .args in off _ (lt-leb (a .total) (a .repaid) (omega arith)) (sym (min-eq-right (omega arith)))
 
 pub flat-paid-spec : {M : Type 1} → statement M
 flat-paid-spec = tie.close (tie.spec returns (λ c. search needs) (λ c. search needs) returns-2 returns-3)

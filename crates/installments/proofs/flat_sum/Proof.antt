@@ -12,11 +12,11 @@ mul-result c = let a = c .before .args in record { fits = omega (arith, times-le
 
 returns : tie.Need-returns
 unfolding flatSum
-returns c = on _ (lt-ltb _ _ (c .if1 .taken)) refl
+returns c = let a = c .before .args in on _ (lt-ltb (a .k) (a .count) (omega arith)) refl
 
 returns-2 : tie.Need-returns-2
 unfolding flatSum
-returns-2 c = off _ (le-ltb _ _ (c .if1 .left)) refl
+returns-2 c = let a = c .before .args in off _ (le-ltb (a .k) (a .count) (omega arith)) refl
 
 pub flat-sum-spec : {M : Type 1} → statement M
 flat-sum-spec = tie.close (tie.spec mul-result returns returns-2)
