@@ -1,11 +1,14 @@
 -- What follows from arguments in range. Assumes nothing.
 use Prim.Native.Nat.{ℕ, _-_, _*_, _≤_, _<_}
 use native.Mathlib.Nat.{mul-le-mul}
+use native.Mathlib.Omega.{arith}
 use mathlib.Core.Path.{_≡_, refl, sym, ap}
 use mathlib.Core.Bool.{Bool, true, false, _&&_, and-eq-true-iff}
 use lib.Dec.{leb, ltb}
-use borrow.Author.Tests.{leb-true, ltb-true}
+use borrow.Author.Tests.{leb-true, ltb-true, le-leb, lt-ltb}
 use Rattle.refusal.specs.ChoiceLaws.{on, off}
+use Rattle.installments.specs.Flat.{totalOf, partOf}
+use Rattle.installments.specs.FlatLaws.{parts-room, total-le}
 use Rattle.installments.specs.Arguments.{dueOk, evenOk, flatOk, termsOk, fallingOk, dueAs, dueIf}
 
 pub record DueIn (count elapsed repaid : ℕ) : Type 0 where
@@ -83,6 +86,19 @@ falling-in amount rate count elapsed repaid h =
 -- as many installments as there may be stay below 64 bits
 pub times-le : (n x : ℕ) → n ≤ 1200 → x ≤ 2000000000000 → n * x ≤ 2400000000000000
 times-le n x h k = mul-le-mul h k
+
+-- installments that are made of terms in range, and are not 0, are in range
+pub flat-made : (amount rate count elapsed repaid : ℕ) → TermsIn amount rate → dueOk count elapsed repaid ≡ true → 0 < partOf amount rate count → flatOk count (partOf amount rate count) (totalOf amount rate) elapsed repaid ≡ true
+unfolding flatOk evenOk
+flat-made amount rate count elapsed repaid t d p =
+    let x = partOf amount rate count in
+    let room = parts-room amount rate count (due-in count elapsed repaid d .count-low) in
+    let most = total-le amount rate (t .amount-high) (t .rate-high) in
+    rw (d, le-leb 1 x p, le-leb x 2000000000000 (omega arith), lt-ltb ((count - 1) * x) (totalOf amount rate) (omega arith), le-leb (totalOf amount rate) 2000000000000 most)
+
+pub falling-made : (amount rate count elapsed repaid : ℕ) → termsOk amount rate ≡ true → dueOk count elapsed repaid ≡ true → fallingOk amount rate count elapsed repaid ≡ true
+unfolding fallingOk
+falling-made amount rate count elapsed repaid t d = rw (d, t)
 
 -- the answer where they are, and where one is not
 pub answers : {ok : Bool} {d e : ℕ × ℕ} → ok ≡ true → d ≡ e → dueAs e ≡ dueIf ok d

@@ -146,3 +146,8 @@ module _ (amount rate count : ℕ) (some : 1 ≤ count) where
       by : Dec (2 ≤ count) → getD (flat count (partOf amount rate count) (totalOf amount rate)) 0 0 ≡ partOf amount rate count
       by (yes m) = flat-early count (partOf amount rate count) (totalOf amount rate) 0 (omega arith)
       by (no m) = let e : count ≡ 1 = omega arith in rw e (only-first amount rate)
+
+-- a total is at most twice the amount
+pub total-le : (amount rate : ℕ) → amount ≤ 1000000000000 → rate ≤ 10000 → totalOf amount rate ≤ 2000000000000
+unfolding totalOf
+total-le amount rate h k = omega (arith, mul-le-mul-left amount k)

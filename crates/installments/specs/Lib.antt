@@ -5,6 +5,7 @@ pub mod Flat
 pub mod FlatLaws
 pub mod Falling
 pub mod FallingLaws
+pub mod Promised
 pub mod Arguments
 pub mod ArgumentLaws
 pub mod Examples

@@ -60,10 +60,9 @@ pub fn even_due(count: u64, installment: u64, elapsed: u64, repaid: u64) -> Due
         return Due { number: 0, owed: 0 };
     }
     let number = paid + 1;
-    Due {
-        number: number,
-        owed: number * installment - repaid,
-    }
+    let sum = number * installment;
+    let owed = sum - repaid;
+    Due { number, owed }
 }
 
 // How many of them are paid where the last one carries what is left of the total.
@@ -108,10 +107,8 @@ pub fn flat_due(count: u64, installment: u64, total: u64, elapsed: u64, repaid: 
     }
     let next = settled + 1;
     let sum = flat_sum(count, installment, total, next);
-    Due {
-        number: next,
-        owed: sum - repaid,
-    }
+    let owed = sum - repaid;
+    Due { number: next, owed }
 }
 
 // Member k, from 0, of the installments with interest on what is outstanding.
@@ -140,10 +137,9 @@ pub fn falling_due(amount: u64, rate: u64, count: u64, elapsed: u64, repaid: u64
     while i < elapsed {
         let next = sum + falling_member(amount, rate, count, i);
         if repaid < next {
-            return Due {
-                number: i + 1,
-                owed: next - repaid,
-            };
+            let number = i + 1;
+            let owed = next - repaid;
+            return Due { number, owed };
         }
         sum = next;
         i += 1;

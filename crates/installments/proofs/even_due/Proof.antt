@@ -29,14 +29,14 @@ returns-2 c =
     let g = given (c .before) in
     answers (ok (c .before)) (even-due (a .count) (a .installment) (a .elapsed) (a .repaid) (g .low) (g .due .elapsed-high) ∙ pick-on _ _ (le-leb (a .elapsed) (a .repaid / a .installment) (omega arith)))
 
-mul-t9 : tie.Need-mul-t9
-mul-t9 c =
+mul-sum : tie.Need-mul-sum
+mul-sum c =
     let a = c .before .before .before .args in
     let g = given (c .before) in
     record { fits = omega (arith, times-le (a .repaid / a .installment + 1) (a .installment) (omega arith) (g .high)) }
 
-sub-t10 : tie.Need-sub-t10
-sub-t10 c =
+sub-owed : tie.Need-sub-owed
+sub-owed c =
     let a = c .before .before .before .args in
     omega (arith, quotient-high (a .repaid) (a .installment) (given (c .before) .low))
 
@@ -48,4 +48,4 @@ returns-3 c =
     answers (ok (c .before)) (even-due (a .count) (a .installment) (a .elapsed) (a .repaid) (g .low) (g .due .elapsed-high) ∙ pick-off _ _ (lt-leb (a .elapsed) (a .repaid / a .installment) (omega arith)))
 
 pub even-due-spec : {M : Type 1} → statement M
-even-due-spec = tie.close (tie.spec (λ c κs. search needs) returns (λ c. given c .low) returns-2 (λ c. search needs) mul-t9 sub-t10 returns-3)
+even-due-spec = tie.close (tie.spec (λ c κs. search needs) returns (λ c. given c .low) returns-2 (λ c. search needs) mul-sum sub-owed returns-3)

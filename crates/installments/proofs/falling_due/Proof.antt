@@ -51,8 +51,8 @@ next-is s =
     let g = given (s .before .before .before) in
     omega (arith, s .falling-member .ensures, falling-next (a .amount) (a .rate) (a .count) (s .before .before .loop .i) (omega arith))
 
-sub-t14 : tie.Need-sub-t14 Inv-loop μ-loop
-sub-t14 c = omega arith
+sub-owed : tie.Need-sub-owed Inv-loop μ-loop
+sub-owed c = omega arith
 
 returns-2 : tie.Need-returns-2 Inv-loop μ-loop
 unfolding dueAs
@@ -89,7 +89,7 @@ falling-due-spec = tie.close
     falling-member-requires
     add-next
     (λ c. omega arith)
-    sub-t14
+    sub-owed
     returns-2
     (λ c. omega arith)
     (λ c. omega arith)

@@ -42,8 +42,8 @@ returns-2 c = answers (ok (c .before .before)) (due-after (c .before) ∙ pick-o
 flat-sum-requires : tie.Need-flat-sum-requires
 flat-sum-requires c κs = let g = given (c .before .before) in (g .even .due .count-high, g .even .high)
 
-sub-t11 : tie.Need-sub-t11
-sub-t11 c =
+sub-owed : tie.Need-sub-owed
+sub-owed c =
     let s = c .before .before in
     let a = s .before .before .before .args in
     let g = given (s .before) in
@@ -56,4 +56,4 @@ unfolding dueAs flatAfter
 returns-3 c = rw (c .flat-sum .ensures) (answers (ok (c .before .before .before)) (due-after (c .before .before) ∙ pick-off _ _ (lt-leb _ _ (c .before .if2 .left))))
 
 pub flat-due-spec : {M : Type 1} → statement M
-flat-due-spec = tie.close (tie.spec (λ c κs. search needs) returns flat-paid-requires returns-2 (λ c. search needs) flat-sum-requires sub-t11 returns-3)
+flat-due-spec = tie.close (tie.spec (λ c κs. search needs) returns flat-paid-requires returns-2 (λ c. search needs) flat-sum-requires sub-owed returns-3)
