@@ -5,7 +5,7 @@ ghost use mathlib.Core.Bool.{true};
 ghost use Prim.Native.Nat.{_<_, _≤_};
 ghost use Rattle.terms.specs.Terms.{termsOk, sameTerms, countOk};
 ghost use Rattle.terms.specs.Installment.{installmentOf, installmentSays};
-ghost use Rattle.terms.specs.Schedule.{periodListed, secondsOf, periodOf, periodSays, keepsOk, keepsNone, scheduleIn, scheduleOk, scheduleNone, scheduleZero, installmentsOf};
+ghost use Rattle.terms.specs.Schedule.{periodListed, secondsOf, periodOf, periodSays, keepsOk, keepsNone, madeOf, scheduleIn, scheduleOk, scheduleNone, scheduleZero, installmentsOf};
 ghost use Rattle.installments.specs.Sums as Sums;
 ghost use Rattle.installments.specs.Flat.{partOf};
 ghost use Rattle.installments.specs.Arguments.{dueAs};
@@ -32,6 +32,35 @@ pub struct Schedule {
 
 // The one kind of schedule: installments that are alike.
 pub const FLAT: u32 = 0;
+
+impl Schedule {
+    // The schedule of an offer's terms, which it keeps or not.
+    pub fn made(
+        kept: bool,
+        t: Terms,
+        count: u32,
+        code: u32,
+        first: u64,
+        installment: i64,
+    ) -> Schedule
+        ensures { λ r. ⌜ r ≡ madeOf kept t count code first installment ⌝ }
+    {
+        let mut s = Schedule {
+            count,
+            code,
+            installment,
+            first,
+            amount: 0,
+            rate: 0,
+            kind: FLAT,
+        };
+        if kept {
+            s.amount = t.amount;
+            s.rate = t.rate;
+        }
+        s
+    }
+}
 
 // Amount, rate and duration in range.
 pub fn terms_valid(t: Terms) -> bool
