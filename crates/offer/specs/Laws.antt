@@ -1,15 +1,16 @@
 -- What the crates above need of offers' rows: which row is zero, what a sound row holds, and that a new one, and one with a part put anew, is sound. Assumes nothing.
 use Prim.Native.Nat.{ℕ}
-use mathlib.Core.Path.{_≡_, refl}
+use mathlib.Core.Path.{_≡_, refl, ap, subst}
 use mathlib.Core.Bool.{Bool, true, false, _||_}
 use lib.Dec.{leb}
-use lib.IntN.{pos}
+use lib.IntN.{ℤ, pos}
 use borrow.Author.Tests.{eqb-true}
 use Rattle.money.specs.Range.{inTotal}
 use Rattle.edition.specs.Edition.{roundLimit, keepsTerms}
 use Rattle.money.specs.Facts.{both, zero-is}
 use Rattle.terms.specs.Terms.{termsOk}
 use Rattle.terms.specs.Schedule.{scheduleOk, scheduleNone, scheduleZero}
+use Rattle.terms.specs.Laws.{made-in, none-kept}
 use Rattle.terms.specs.declared.Terms.{Terms}
 use Rattle.terms.specs.declared.Schedule.{Schedule}
 use Rattle.negotiation.specs.Rounds.{roundSlots, noNegotiation, negotiationSound}
@@ -75,6 +76,21 @@ deal-zero d w e =
 pub no-deal-zero : dealZero noDeal ≡ true
 unfolding dealZero offerZero scheduleZero scheduleNone
 no-deal-zero = rw none-zero
+
+-- a schedule of an edition that keeps no terms has none, and there is one kind
+module _ (kept : Bool) (s : Schedule) (h : scheduleZero s || scheduleOk kept s ≡ true) where
+  by-case : {P : Type 0} → (s ≡ noSchedule → P) → (scheduleOk kept s ≡ true → P) → P
+  by-case {P} f g = go (scheduleZero s) refl h
+    where
+      go : (b : Bool) → scheduleZero s ≡ b → b || scheduleOk kept s ≡ true → P
+      go true e k = f (schedule-zero s e)
+      go false e k = g k
+
+  pub unkept : kept ≡ false → _≡_ {A = ℤ × ℕ} (s .amount, s .rate) (pos 0, 0)
+  unkept e = by-case (λ z. ap (λ (x : Schedule). (x .amount, x .rate)) z) (λ k. none-kept s (subst (λ (b : Bool). scheduleOk b s ≡ true) e k))
+
+  pub one-kind : s .kind ≡ 0
+  one-kind = by-case (λ z. ap (λ (x : Schedule). x .kind) z) (λ k. made-in kept s k .kind)
 
 -- ── Sound rows ────────────────────────────────────────────────────
 -- a row passes the test, and its negotiation has room for all its rounds

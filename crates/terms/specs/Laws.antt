@@ -10,7 +10,7 @@ use borrow.Author.Tests.{leb-true, leb-false, le-leb, eqb-true, eqb-false}
 use Rattle.refusal.specs.Choice.{pick}
 use Rattle.refusal.specs.ChoiceLaws.{pick-on}
 use Rattle.money.specs.Range.{inAmount, inTotal, inInstallment, isZero, magnitudeOf}
-use Rattle.money.specs.Facts.{both, between, magnitude-is, same-is, is-same}
+use Rattle.money.specs.Facts.{both, between, magnitude-is, same-is, is-same, zero-is}
 use Rattle.installments.specs.Sums.{numberDue}
 use Rattle.installments.specs.Even.{byQuotient, even-number}
 use Rattle.installments.specs.Flat.{partOf, totalOf}
@@ -170,6 +170,15 @@ made-ok false t count code first i h k m = simp (h, k, m)
 pub kept-terms : (s : Schedule) (kept : Bool) → kept ≡ true → scheduleOk kept s ≡ true → KeptIn s
 unfolding scheduleOk
 kept-terms s kept k h = kept-in s (ap (λ (t : Bool). cond t (keepsOk s) (keepsNone s)) (sym k) ∙ both (scheduleIn s) (cond kept (keepsOk s) (keepsNone s)) h .1)
+
+pub none-kept : (s : Schedule) → scheduleOk false s ≡ true → _≡_ {A = ℤ × ℕ} (s .amount, s .rate) (pos 0, 0)
+unfolding scheduleOk keepsNone
+none-kept s h =
+    let k = both (isZero (s .amount)) (eqb (s .rate) 0) (both (scheduleIn s) _ h .1) in
+    pair (zero-is (s .amount) (k .0)) (eqb-true (s .rate) 0 (k .1))
+  where
+    pair : {a b : ℤ} {c d : ℕ} → a ≡ b → c ≡ d → _≡_ {A = ℤ × ℕ} (a, c) (b, d)
+    pair e f = rw (e, f)
 
 pub total-ok : (s : Schedule) → KeptIn s → Arguments.termsOk (magnitudeOf (s .amount)) (s .rate) ≡ true
 unfolding Arguments.termsOk

@@ -16,7 +16,7 @@ pub enum Question {
     /// When an offer's negotiation ends.
     Deadline(u64),
     NegotiationStatus { offer: u64, now: u64 },
-    /// The number of the installment that is due.
+    /// The number of the installment that is due and the sum still owed on it; 0 and 0 where none is.
     Due { offer: u64, now: u64 },
     Count,
     Window,
