@@ -17,7 +17,7 @@ returns : tie.Need-returns
 returns c = refuses reply bookUnsound _ _ _ (ap not (sym (c .before .sound .ensures .0)) ∙ c .if1 .taken)
 
 see-requires : tie.Need-see-requires
-see-requires c κs = (c .before .before .sound .ensures .1 (not-false (c .before .before .sound .result) (c .before .if1 .left))) .offers
+see-requires c κs = (c .before .before .before .sound .ensures .1 (not-false (c .before .before .before .sound .result) (c .before .before .if1 .left))) .offers
 
 returns-2 : tie.Need-returns-2
 unfolding dueAs
