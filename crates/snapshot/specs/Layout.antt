@@ -183,6 +183,10 @@ scheduleFrom (count, (code, (installment, (first, (amount, rate))))) =
 abbrev pub scheduleParts : Schedule → ℕ × (ℕ × (ℤ × (ℕ × (ℤ × ℕ))))
 scheduleParts s = (s .count, (s .code, (s .installment, (s .first, (s .amount, s .rate)))))
 
+-- a schedule of the one kind
+pub of-kind : (s : Schedule) → s .kind ≡ 0 → scheduleFrom (scheduleParts s) ≡ s
+of-kind s e = ap (λ (k : ℕ). record { count = s .count; code = s .code; installment = s .installment; first = s .first; amount = s .amount; rate = s .rate; kind = k }) (sym e)
+
 unfoldable pub schedule : ℕ → Codec Schedule
 schedule e =
     via scheduleFrom scheduleParts
