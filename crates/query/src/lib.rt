@@ -2,6 +2,7 @@
 use account::Account;
 use account::SeenAccount;
 use book::Book;
+use installments::Due;
 use lists::Listed;
 use lists::OfferNumbers;
 use lists::OfferRows;
@@ -12,7 +13,6 @@ use offer::SeenDeal;
 use settings::Settings;
 use shelves::Offers;
 use table::Named;
-use installments::Due;
 use terms::DueAnswer;
 use terms::Schedule;
 use totals::Totals;
