@@ -13,7 +13,7 @@ use Rattle.refusal.specs.Choice.{pick}
 use Rattle.refusal.specs.ChoiceLaws.{on, off, pick-on}
 use Rattle.installments.specs.Sums.{sumTo, sumOf, paidOf, dueOf}
 use Rattle.installments.specs.SumLaws.{Positive, sum-zero, sum-suc, sum-all, unpaid-sum, paid-is, due-paid}
-use Rattle.installments.specs.Even.{quotient-low, quotient-high}
+use Rattle.installments.specs.EvenLaws.{quotient-low, quotient-high}
 use Rattle.installments.specs.Flat.{totalOf, partOf, flat, flatSum, flatPaid, flatAfter, flatDue}
 
 -- as many as they are to be: all x but the last

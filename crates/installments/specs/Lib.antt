@@ -1,6 +1,7 @@
 pub mod Sums
 pub mod SumLaws
 pub mod Even
+pub mod EvenLaws
 pub mod Flat
 pub mod FlatLaws
 pub mod Falling

@@ -2,7 +2,8 @@
 use Prim.Native.Nat.{ℕ, _/_, _≤_, _<_}
 use native.Mathlib.Omega.{arith}
 use Rattle.installments.specs.SumLaws.{Promises, due-promises}
-use Rattle.installments.specs.Even.{even, even-length, even-positive}
+use Rattle.installments.specs.Even.{even}
+use Rattle.installments.specs.EvenLaws.{even-length, even-positive}
 use Rattle.installments.specs.Flat.{totalOf, partOf, flat}
 use Rattle.installments.specs.FlatLaws.{flat-length, parts-positive}
 use Rattle.installments.specs.Falling.{falling}

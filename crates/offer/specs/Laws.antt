@@ -9,7 +9,7 @@ use Rattle.money.specs.Range.{inTotal}
 use Rattle.edition.specs.Edition.{roundLimit, keepsTerms}
 use Rattle.money.specs.Facts.{both, zero-is}
 use Rattle.terms.specs.Terms.{termsOk}
-use Rattle.terms.specs.Schedule.{scheduleOk, scheduleNone, scheduleZero}
+use Rattle.terms.specs.Schedule.{keepsNone, scheduleOk, scheduleNone, scheduleZero}
 use Rattle.terms.specs.Laws.{made-in, none-kept}
 use Rattle.terms.specs.declared.Terms.{Terms}
 use Rattle.terms.specs.declared.Schedule.{Schedule}
@@ -26,15 +26,15 @@ no-schedule : (s : Schedule) → s .count ≡ 0 → s .code ≡ 0 → s .install
 no-schedule s n k x f a r q i = record { count = n i; code = k i; installment = x i; first = f i; amount = a i; rate = r i; kind = q i }
 
 pub schedule-zero : (s : Schedule) → scheduleZero s ≡ true → s ≡ noSchedule
-unfolding scheduleZero scheduleNone
+unfolding scheduleZero scheduleNone keepsNone
 schedule-zero s e =
     let g = both _ _ e in
     let f = both _ _ (g .0) in
-    let d = both _ _ (f .0) in
-    let c = both _ _ (d .0) in
+    let d = both _ _ (f .1) in
+    let c = both _ _ (f .0) in
     let b = both _ _ (c .0) in
     let a = both _ _ (b .0) in
-    no-schedule s (eqb-true _ _ (a .0)) (eqb-true _ _ (a .1)) (zero-is _ (b .1)) (eqb-true _ _ (c .1)) (zero-is _ (d .1)) (eqb-true _ _ (f .1)) (eqb-true _ _ (g .1))
+    no-schedule s (eqb-true _ _ (a .0)) (eqb-true _ _ (a .1)) (zero-is _ (b .1)) (eqb-true _ _ (c .1)) (zero-is _ (d .0)) (eqb-true _ _ (d .1)) (eqb-true _ _ (g .1))
 
 no-offer : (o : Offer) → o .terms .amount ≡ pos 0 → o .terms .rate ≡ 0 → o .terms .duration ≡ 0 → o .invoice ≡ 0 → o .lender ≡ 0 → o .expires ≡ 0
     → o .funded ≡ 0 → o .repaid ≡ pos 0 → o .status ≡ 0 → o ≡ noOffer
@@ -74,7 +74,7 @@ deal-zero d w e =
     parts d (offer-zero (d .offer) (a .0)) (negotiation-zero (d .negotiation) w (a .1)) (schedule-zero (d .schedule) (b .1))
 
 pub no-deal-zero : dealZero noDeal ≡ true
-unfolding dealZero offerZero scheduleZero scheduleNone
+unfolding dealZero offerZero scheduleZero scheduleNone keepsNone
 no-deal-zero = rw none-zero
 
 -- a schedule of an edition that keeps no terms has none, and there is one kind
@@ -121,7 +121,7 @@ ranges-kept {e} {d} r w = record { test = rw (r .terms-in, r .repaid-in, r .stat
 
 -- a new offer of valid terms
 pub new-kept : {e : ℕ} (lender invoice : ℕ) (t : Terms) (expires : ℕ) → termsOk t ≡ true → DealKept e (newDeal lender invoice t expires)
-unfolding scheduleZero scheduleNone
+unfolding scheduleZero scheduleNone keepsNone
 new-kept lender invoice t expires h = ranges-kept (record { terms-in = h; repaid-in = refl; status-in = refl; rounds-in = none-sound _; schedule-in = refl }) none-whole
 
 module _ {e : ℕ} {d : Deal} (h : DealKept e d) where

@@ -1,5 +1,5 @@
 -- What a sound book holds that the queries go by. Assumes nothing.
-use Prim.Native.Nat.{ℕ, zero, suc}
+use Prim.Native.Nat.{ℕ, zero, suc, _-_}
 use native.Mathlib.Omega.{arith}
 use mathlib.Core.Path.{_≡_, refl, sym, ap, _∙_}
 use mathlib.Core.Bool.{Bool, true, false, _&&_, _||_}
@@ -7,12 +7,14 @@ use mathlib.Core.List.{List, [], _∷_, map}
 use lib.ListN.{length, getD}
 use lib.Dec.{leb}
 use Rattle.refusal.specs.ChoiceLaws.{pick-on, pick-off}
-use Rattle.money.specs.Range.{inAmount, inTotal}
+use Rattle.money.specs.Range.{inAmount, inTotal, magnitudeOf}
 use Rattle.money.specs.Facts.{both}
 use Rattle.terms.specs.Terms.{termsOk}
 use Rattle.edition.specs.Edition.{keepsTerms}
-use Rattle.terms.specs.Schedule.{scheduleOk, scheduleZero}
-use Rattle.terms.specs.Due.{owedAt, dueOf, dueArguments}
+use Rattle.installments.specs.SumLaws.{Promises}
+use Rattle.terms.specs.Laws.{schedule-promises, elapsed-le}
+use Rattle.terms.specs.Schedule.{secondsOf, scheduleOk, scheduleZero, installmentsOf}
+use Rattle.terms.specs.Due.{elapsedOf, owedAt, dueOf, dueArguments}
 use Rattle.terms.specs.declared.Terms.{Terms}
 use Rattle.table.specs.Shelf.{tableOf}
 use Rattle.table.specs.Columns.{getD-join}
@@ -98,3 +100,9 @@ due-number {e} d now h z =
     let s = or-else (scheduleZero (d .schedule)) (scheduleOk (keepsTerms e) (d .schedule)) (r .schedule-in) z in
     let a : (scheduleOk (keepsTerms e) (d .schedule) && leb (d .offer .status) 5) && inTotal (d .offer .repaid) ≡ true = rw (s, r .status-in, r .repaid-in) in
     pick-off _ _ z ∙ ap (λ (x : ℕ × (ℕ × ℕ)). x .1) (pick-on _ _ a)
+
+-- and what is promised of a due holds of it: of the schedule's installments, those elapsed, and the amount repaid
+pub due-promised : {e : ℕ} (d : Deal) (now : ℕ) → DealKept e d → scheduleZero (d .schedule) ≡ false
+    → Promises (installmentsOf (keepsTerms e) (d .schedule)) (elapsedOf (now - d .schedule .first) (secondsOf (d .schedule .code)) (d .schedule .count)) (magnitudeOf (d .offer .repaid))
+due-promised {e} d now h z =
+    schedule-promises (keepsTerms e) (d .schedule) (or-else (scheduleZero (d .schedule)) (scheduleOk (keepsTerms e) (d .schedule)) (kept-ranges h .schedule-in) z) (elapsedOf (now - d .schedule .first) (secondsOf (d .schedule .code)) (d .schedule .count)) (magnitudeOf (d .offer .repaid)) (elapsed-le (now - d .schedule .first) (secondsOf (d .schedule .code)) (d .schedule .count))

@@ -59,7 +59,7 @@ pub enum OfferAnswer {
     Unsound,
 }
 
-// The numbers of a schedule: how many installments, the code of their period, the amount of each, when the first is due.
+// The numbers of a schedule: how many installments, the code of their period, the amount of the first, when it is due.
 pub struct ScheduleNumbers {
     pub count: u64,
     pub code: u64,

@@ -35,7 +35,3 @@ dueOf kept s status repaid now = pick (dueArguments kept s status repaid) (0, ow
 abbrev pub dueSays : DueAnswer → ℕ × (ℕ × ℕ)
 dueSays (Number n x) = (0, (n, x))
 dueSays Invalid = (number invalidInput, (0, 0))
-
--- document 01's words for the number: paid = floor(amount_repaid/installment), compared whole; 0 if paid ≥ elapsed, else paid+1
-unfoldable pub nextOf : ℕ → ℕ → ℕ → ℕ
-nextOf elapsed repaid installment = pick (leb elapsed (repaid / installment)) 0 (repaid / installment + 1)

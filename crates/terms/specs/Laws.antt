@@ -12,8 +12,11 @@ use Rattle.refusal.specs.ChoiceLaws.{pick-on}
 use Rattle.money.specs.Range.{inAmount, inTotal, inInstallment, isZero, magnitudeOf}
 use Rattle.money.specs.Facts.{both, between, magnitude-is, same-is, is-same, zero-is}
 use Rattle.installments.specs.Sums.{numberDue}
-use Rattle.installments.specs.Even.{byQuotient, even-number}
+use Rattle.installments.specs.Even.{byQuotient}
+use Rattle.installments.specs.EvenLaws.{even-number}
 use Rattle.installments.specs.Flat.{partOf, totalOf}
+use Rattle.installments.specs.SumLaws.{Promises}
+use Rattle.installments.specs.Promised.{even-promises, flat-promises}
 use Rattle.installments.specs.Arguments.{dueOk, evenOk, flatOk}
 use Rattle.installments.specs.Arguments as Arguments
 use Rattle.installments.specs.ArgumentLaws.{flat-made}
@@ -22,7 +25,7 @@ use Rattle.terms.specs.declared.Schedule.{Schedule}
 use Rattle.terms.specs.Terms.{termsOk, countOk}
 use Rattle.terms.specs.Installment.{installmentAmount, installmentOf}
 use Rattle.terms.specs.Schedule.{periodListed, secondsOf, keepsOk, keepsNone, scheduleIn, scheduleOk, madeOf, installmentsOf}
-use Rattle.terms.specs.Due.{elapsedOf, nextOf, dueArguments}
+use Rattle.terms.specs.Due.{elapsedOf, dueArguments}
 
 pub record TermsIn (t : Terms) : Type 0 where
   pub amount : inAmount (t .amount) ≡ true
@@ -210,7 +213,16 @@ module _ (s : Schedule) (i : ScheduleIn s) (elapsed repaid : ℕ) (e : elapsed �
       let m = magnitude-is 1 1000000000000 (s .amount) (k .amount) in
       rw q (flat-made (magnitudeOf (s .amount)) (s .rate) (s .count) elapsed repaid (record { amount-low = omega arith; amount-high = amount-le (s .amount) (k .amount); rate-low = k .rate-low; rate-high = k .rate-high }) due-ok (omega (arith, stored-pos s i, q)))
 
--- before edition 5 the number is document 01's
-pub old-number : (s : Schedule) → ScheduleIn s → (elapsed repaid : ℕ) → elapsed ≤ s .count → numberDue (installmentsOf false s) elapsed repaid ≡ nextOf elapsed repaid (magnitudeOf (s .installment))
-unfolding installmentsOf nextOf byQuotient
+-- before edition 5 the number is document 01's: paid = floor(amount_repaid/installment), compared whole; 0 if paid ≥ elapsed, else paid+1
+pub old-number : (s : Schedule) → ScheduleIn s → (elapsed repaid : ℕ) → elapsed ≤ s .count → numberDue (installmentsOf false s) elapsed repaid ≡ byQuotient (magnitudeOf (s .installment)) elapsed repaid
+unfolding installmentsOf
 old-number s i elapsed repaid e = even-number (s .count) (magnitudeOf (s .installment)) elapsed repaid (stored-pos s i) e
+
+-- what is promised of a due holds of every schedule that was made
+pub schedule-promises : (kept : Bool) (s : Schedule) → scheduleOk kept s ≡ true → (elapsed repaid : ℕ) → elapsed ≤ s .count → Promises (installmentsOf kept s) elapsed repaid
+unfolding installmentsOf
+schedule-promises true s h elapsed repaid e =
+    let i = made-in true s h in
+    let q : magnitudeOf (s .installment) ≡ partOf (magnitudeOf (s .amount)) (s .rate) (s .count) = ap magnitudeOf (kept-terms s true refl h .first) in
+    rw q (flat-promises (magnitudeOf (s .amount)) (s .rate) (s .count) elapsed repaid (i .count-low) (omega (arith, stored-pos s i, q)) e)
+schedule-promises false s h elapsed repaid e = even-promises (s .count) (magnitudeOf (s .installment)) elapsed repaid (stored-pos s (made-in false s h)) e

@@ -6,14 +6,14 @@ use lib.Dec.{leb, eqb}
 use lib.IntN.{ℤ, pos}
 use Rattle.refusal.specs.Choice.{pick}
 use Rattle.refusal.specs.Refusal.{number, invalidInput}
-use Rattle.money.specs.Range.{inAmount, inInstallment, isZero, sameAmount, magnitudeOf}
+use Rattle.money.specs.Range.{inInstallment, isZero, sameAmount, magnitudeOf}
 use Rattle.installments.specs.Even.{even}
 use Rattle.installments.specs.Flat.{flat, partOf, totalOf}
 use Rattle.terms.specs.declared.Terms.{Terms}
 use Rattle.terms.specs.declared.Schedule.{Schedule}
 use Rattle.terms.specs.declared.PeriodAnswer.{PeriodAnswer}
 use Rattle.terms.specs.declared.PeriodAnswer.the-variants.{Seconds, Unlisted}
-use Rattle.terms.specs.Terms.{countOk}
+use Rattle.terms.specs.Terms.{priceOk, countOk}
 
 abbrev pub periodListed : ℕ → Bool
 periodListed code = leb 1 code && leb code 3
@@ -33,9 +33,7 @@ periodSays Unlisted = (number invalidInput, 0)
 -- ── A schedule that was made, and none ────────────────────────────
 -- from edition 5 on it keeps the amount and the rate of the terms that it was made of, and the stored installment is theirs (02 i)
 unfoldable pub keepsOk : Schedule → Bool
-keepsOk s =
-    ((inAmount (s .amount) && leb 1 (s .rate)) && leb (s .rate) 10000)
-    && sameAmount (s .installment) (pos (partOf (magnitudeOf (s .amount)) (s .rate) (s .count)))
+keepsOk s = priceOk (s .amount) (s .rate) && sameAmount (s .installment) (pos (partOf (magnitudeOf (s .amount)) (s .rate) (s .count)))
 
 -- before it keeps none
 unfoldable pub keepsNone : Schedule → Bool
@@ -52,7 +50,7 @@ unfoldable pub scheduleNone : Schedule → Bool
 scheduleNone s = ((eqb (s .count) 0 && eqb (s .code) 0) && isZero (s .installment)) && eqb (s .first) 0
 
 unfoldable pub scheduleZero : Schedule → Bool
-scheduleZero s = ((scheduleNone s && isZero (s .amount)) && eqb (s .rate) 0) && eqb (s .kind) 0
+scheduleZero s = (scheduleNone s && keepsNone s) && eqb (s .kind) 0
 
 -- the one of an offer's terms
 abbrev pub madeOf : Bool → Terms → ℕ → ℕ → ℕ → ℤ → Schedule

@@ -30,7 +30,7 @@ pub struct Schedule {
     pub kind: u32,
 }
 
-// The one kind of schedule: installments that are alike.
+// The one kind of schedule: installments that are alike but for the last, which carries what is left where the terms are kept.
 pub const FLAT: u32 = 0;
 
 impl Schedule {
@@ -159,10 +159,9 @@ pub fn schedule_zero(s: Schedule) -> bool
     ensures { λ r. ⌜ r ≡ scheduleZero s ⌝ }
 {
     let none = schedule_none(s);
-    let amount = money::is_zero(s.amount);
-    let rate = s.rate;
+    let unkept = keeps_none(s);
     let kind = s.kind;
-    none & amount & (rate == 0) & (kind == 0)
+    none & unkept & (kind == 0)
 }
 
 // A part of the amount with its part of the yield.

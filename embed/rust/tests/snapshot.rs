@@ -237,9 +237,10 @@ fn rounds(count: u64) -> String {
 
 #[test]
 fn sixteen_rounds_in_edition_4_and_twelve_before() {
-    for (edition, most) in [(1, 12), (2, 12), (3, 12), (4, 16)] {
+    // from edition 5 on a schedule has two fields more
+    for (edition, most, more) in [(1, 12, 0), (2, 12, 0), (3, 12, 0), (4, 16, 0), (5, 16, 2)] {
         let kept = in_edition(edition, &rounds(most)).snapshot().expect("a whole journal");
-        assert_eq!(kept.bytes().len(), FIELD * (14 + 2 * 8 + 4 + 17 + 5 * most as usize));
+        assert_eq!(kept.bytes().len(), FIELD * (14 + 2 * 8 + 4 + 17 + more + 5 * most as usize));
         let last = rounds(most + 1).lines().last().map(|line| format!("{line}\n")).expect("a round");
         let more = kept.listing(&in_edition(edition, &last)).expect("a sound snapshot");
         assert!(more.starts_with(&format!("edition {edition}\n1 7\n")), "{more}");

@@ -4,7 +4,8 @@ use mathlib.Core.Bool.{true}
 use mathlib.Core.Path.{_≡_, sym, _∙_}
 use borrow.Author.Tests.{not-true, not-false, le-leb, lt-leb}
 use Rattle.refusal.specs.ChoiceLaws.{pick-on, pick-off}
-use Rattle.installments.specs.Even.{evenDue, even-due, quotient-high}
+use Rattle.installments.specs.Even.{evenDue}
+use Rattle.installments.specs.EvenLaws.{even-due, quotient-high}
 use Rattle.installments.specs.Arguments.{evenOk, dueAs}
 use Rattle.installments.specs.ArgumentLaws.{EvenIn, even-in, times-le, answers, answers-none}
 use borrow.Author.Needs.{needs}
