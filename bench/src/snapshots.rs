@@ -1,6 +1,7 @@
 //! Reading and writing the snapshot of a full book, beside the replay of the journals.
 
-use plain::edition::{fresh, most_rounds, OF_SNAPSHOTS};
+use journal::LATEST;
+use plain::edition::{fresh, most_rounds};
 use plain::snapshot::write;
 use side::{Account, Book, Invoice, Offer, Round, Schedule, Totals};
 
@@ -43,7 +44,7 @@ fn full() -> Book {
         accounts: (1..=ROWS).map(account).collect(),
         invoices: (1..=ROWS).map(invoice).collect(),
         offers: (1..=ROWS).map(offer).collect(),
-        ..fresh(OF_SNAPSHOTS)
+        ..fresh(LATEST)
     }
 }
 
@@ -69,7 +70,7 @@ fn offer(id: u64) -> Offer {
         repaid: 300_000,
         outcome: 2,
         deadline: 1_700_259_200,
-        rounds: (0..most_rounds(OF_SNAPSHOTS) as u64).map(round).collect(),
+        rounds: (0..most_rounds(LATEST) as u64).map(round).collect(),
         schedule: Some(Schedule { count: 12, code: 3, installment: 80_000, first: 1_702_592_000 }),
     }
 }

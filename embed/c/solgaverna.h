@@ -74,13 +74,14 @@ enum {
 int64_t solgaverna_answers(const uint8_t *journal, size_t journal_len, const uint64_t *questions, size_t questions_len,
                            uint64_t *out, size_t out_len);
 
-/* The snapshot of the book after the journal: the whole book in bytes (docs/SNAPSHOT.md), 62,799 of them at most. */
+/* The snapshot of the book after the journal: the whole book in bytes (docs/SNAPSHOT.md), 76,890 of them at most. */
 int64_t solgaverna_snapshot(const uint8_t *journal, size_t journal_len, uint8_t *out, size_t out_len);
 
-/* A journal that goes on from the book of a snapshot. That book is of edition 3, and so must the journal be. First the snapshot
- * is refused (13 or 15), then the journal (13), then the buffer (14). What comes out is the snapshot of the book after it, the
- * listing, where a bad header, another edition's or a malformed record is said and is no refusal, or the answers to questions,
- * as of `solgaverna_ask`. After a journal without commands the snapshot is `from` again, byte for byte. */
+/* A journal that goes on from the book of a snapshot. It must be of the edition that the snapshot names; one from before there was
+ * a field for it names none and is read as edition 3. First the snapshot is refused (13 or 15), then the journal (13), then the
+ * buffer (14). What comes out is the snapshot of the book after it, the listing, where a bad header, another edition's or a
+ * malformed record is said and is no refusal, or the answers to questions, as of `solgaverna_ask`. After a journal without commands
+ * the snapshot is `from` again, byte for byte, with the edition's field before it where it had none. */
 int64_t solgaverna_snapshot_from(const uint8_t *from, size_t from_len, const uint8_t *journal, size_t journal_len,
                                  uint8_t *out, size_t out_len);
 int64_t solgaverna_listing_from(const uint8_t *from, size_t from_len, const uint8_t *journal, size_t journal_len,

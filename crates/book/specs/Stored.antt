@@ -33,7 +33,7 @@ pub record Shelved (b : Book) : Type 0 where
 
 -- Document 01's paragraph: "A book is sound when .."
 unfoldable pub bookTest : Book → Bool
-bookTest b = (((accountsTest (b .accounts) && invoicesTest (b .invoices)) && dealsTest (b .offers)) && totalsSound (b .totals)) && settingsSound (b .settings)
+bookTest b = (((accountsTest (b .accounts) && invoicesTest (b .invoices)) && dealsTest (b .settings .edition) (b .offers)) && totalsSound (b .totals)) && settingsSound (b .settings)
 
 -- a fresh book of an edition; 13, and the first edition's, where it is not listed
 unfoldable pub freshBook : ℕ → Step

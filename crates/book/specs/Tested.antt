@@ -17,7 +17,7 @@ use Rattle.book.specs.Stored.{Shelved, bookTest}
 pub record Tests (b : Book) : Type 0 where
   pub accounts : accountsTest (b .accounts) ≡ true
   pub invoices : invoicesTest (b .invoices) ≡ true
-  pub offers : dealsTest (b .offers) ≡ true
+  pub offers : dealsTest (b .settings .edition) (b .offers) ≡ true
   pub totals : totalsSound (b .totals) ≡ true
   pub settings : settingsSound (b .settings) ≡ true
 
@@ -26,7 +26,7 @@ unfolding bookTest
 tests-of b e =
     let a = accountsTest (b .accounts) in
     let i = invoicesTest (b .invoices) in
-    let o = dealsTest (b .offers) in
+    let o = dealsTest (b .settings .edition) (b .offers) in
     let t = totalsSound (b .totals) in
     let p = both-true (((a && i) && o) && t) (settingsSound (b .settings)) e in
     let q = both-true ((a && i) && o) t (p .0) in
@@ -37,4 +37,4 @@ tests-of b e =
 pub shelved-of : (b : Book) → Sized (b .accounts .ids) (b .accounts .rows) → Sized (b .invoices .ids) (b .invoices .rows) → WholeDeals (b .offers) → bookTest b ≡ true → Shelved b
 shelved-of b x y z e =
     let t = tests-of b e in
-    record { accounts = accounts-shelf (b .accounts) x (t .accounts); invoices = invoices-shelf (b .invoices) y (t .invoices); offers = deals-shelf (b .offers) z (t .offers) }
+    record { accounts = accounts-shelf (b .accounts) x (t .accounts); invoices = invoices-shelf (b .invoices) y (t .invoices); offers = deals-shelf (b .settings .edition) (b .offers) z (t .offers) }

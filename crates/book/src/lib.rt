@@ -76,10 +76,10 @@ impl Book {
         let invoices = self.invoices;
         let invoices_sound = invoices.sound();
         let offers = self.offers;
-        let offers_sound = offers.sound();
+        let settings = self.settings;
+        let offers_sound = offers.sound(settings.edition);
         let totals = self.totals;
         let totals_sound = totals.sound();
-        let settings = self.settings;
         let settings_sound = settings.sound();
         accounts_sound & invoices_sound & offers_sound & totals_sound & settings_sound
     }

@@ -1,7 +1,7 @@
 // Serves the proved book over standard input and output, so that a program of another language can hold it beside its own. A
 // request is a frame of 128 bytes: numbers of eight bytes, of which the first says what is asked, and the record of a command from
-// byte 32 on. A book or a journal follows its frame in 65,536 bytes, a snapshot of at most 4,096 in so many. An answer is its length
-// in bytes, its own eight included, and then its numbers; a text or a snapshot follows it.
+// byte 32 on. A book or a journal follows its frame in 65,536 bytes, a snapshot of at most 4,096 in so many, a longer one in 81,920. An
+// answer is its length in bytes, its own eight included, and then its numbers; a text or a snapshot follows it.
 use book::Book;
 use book::Step;
 use journal::Decoded;
@@ -76,6 +76,11 @@ fn apply(book: Book, s: &[u8]) -> Step
 
 // Sends an answer that ends at a place.
 fn send(out: &[u8; 65536], at: usize) {
+    send_part(out, at);
+}
+
+// The same of a buffer for snapshots.
+fn send_wide(out: &[u8; 81920], at: usize) {
     send_part(out, at);
 }
 
@@ -235,17 +240,17 @@ fn save_part(book: Book, room: usize, out: &mut [u8]) -> Written {
     snapshot::write(book, &mut out[..room])
 }
 
-fn save_in(book: Book, room: usize, out: &mut [u8; 65536]) -> Written {
+fn save_in(book: Book, room: usize, out: &mut [u8; 81920]) -> Written {
     save_part(book, room, out)
 }
 
 // A snapshot: its number and its size, then its bytes.
 fn saved(book: Book, frame: [u8; 128]) {
     let room = wire::number(&frame, 8);
-    let mut out: [u8; 65536] = io::large_buffer();
+    let mut out: [u8; 81920] = [0; 81920];
     let w = save_in(book, room as usize, &mut out);
     send_pair(w.number, w.size as u64);
-    send(&out, w.size);
+    send_wide(&out, w.size);
 }
 
 // What the first n bytes are a snapshot of.
@@ -256,7 +261,7 @@ fn read_part(data: &[u8], n: usize) -> Loaded {
     snapshot::read(&data[..n])
 }
 
-fn read_from_large(data: &[u8; 65536], n: usize) -> Loaded {
+fn read_from_large(data: &[u8; 81920], n: usize) -> Loaded {
     read_part(data, n)
 }
 
@@ -265,7 +270,7 @@ fn read_from_small(data: &[u8; 4096], n: usize) -> Loaded {
 }
 
 fn read_large(n: usize) -> Loaded {
-    let mut data: [u8; 65536] = io::large_buffer();
+    let mut data: [u8; 81920] = [0; 81920];
     io::read_full(0, &mut data);
     read_from_large(&data, n)
 }

@@ -164,7 +164,7 @@ fn totals(out: &mut [u8; 65536], a: TotalsAnswer) -> usize {
 // The deadline, and five numbers for each round.
 fn negotiation(out: &mut [u8; 65536], a: NegotiationAnswer) -> usize {
     let g = a.negotiation;
-    let n = 1 + 5 * bridge_words::least(g.len as usize, 12);
+    let n = 1 + 5 * bridge_words::least(g.len as usize, 16);
     let mut p = head(out, a.answer, n as u64, n as u64);
     p = bridge_words::put(out, p, g.deadline);
     let rows = g.rounds;

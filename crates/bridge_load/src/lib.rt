@@ -162,7 +162,7 @@ fn round(s: &[u8; 65536], at: usize) -> Round {
 // The negotiation of the offer at a place, and the place past that offer.
 fn negotiation(s: &[u8; 65536], at: usize) -> NegotiationRead {
     let n = bridge_words::half(bridge_words::get(s, at, 16));
-    let m = bridge_words::least(n as usize, 12);
+    let m = bridge_words::least(n as usize, 16);
     let none = Round {
         amount: 0,
         duration: 0,
@@ -170,7 +170,7 @@ fn negotiation(s: &[u8; 65536], at: usize) -> NegotiationRead {
         rate: 0,
         party: 0,
     };
-    let mut rows = [none; 12];
+    let mut rows = [none; 16];
     let mut p = bridge_words::on(at, 17);
     let mut i: usize = 0;
     while i < m {

@@ -73,10 +73,10 @@ fn round(out: &mut [u8; 65536], at: usize, r: Round) -> usize {
 }
 
 // The rounds in use.
-pub fn rounds(out: &mut [u8; 65536], at: usize, rows: [Round; 12], n: u32) -> usize {
+pub fn rounds(out: &mut [u8; 65536], at: usize, rows: [Round; 16], n: u32) -> usize {
     let mut p = at;
     let mut i: usize = 0;
-    while i < 12 {
+    while i < 16 {
         if n as usize <= i {
             return p;
         }

@@ -1,7 +1,7 @@
 -- Codecs over bytes, composed: what is written, what is read, and that the two undo each other. Assumes nothing.
 --
--- A codec says both ways of one kind of value, and carries its laws. `column`, `_then_`, `via` and `rows` make larger
--- codecs of smaller ones, laws included, so that a format is one expression and needs no proof of its own.
+-- A codec says both ways of one kind of value, and carries its laws. `column`, `_then_`, `via`, `rows` and `led` make
+-- larger codecs of smaller ones, laws included, so that a format is one expression and needs no proof of its own.
 use mathlib.Core.Path.{_≡_, refl, sym, ap, _∙_}
 use mathlib.Core.Bool.{Bool, true, false, _&&_}
 use mathlib.Core.List.{List, [], _∷_, _++_, append-assoc}
@@ -423,4 +423,62 @@ rows tag most a = record {
   back = rows-back tag most a;
   same = rows-same tag most a;
   stops = rows-stops tag most a;
+}
+
+-- ── A number first that says how the rest is read, as an edition does; one that is not known is malformed
+module _ {A : Type 0} (tag : ℕ) (known : ℕ → Bool) (key : A → ℕ) (c : ℕ → Codec A) (keyed : (e : ℕ) (x : A) → c e .Fits x → key x ≡ e) where
+  abbrev pub ledOut : A → List ℕ
+  ledOut x = fieldOf tag (bytesOf 8 (key x)) ++ c (key x) .out x
+
+  abbrev pub restIn : ℕ → ℕ → List ℕ → ℕ → Got A
+  restIn at e s p = pick (known e) (c e .into s p) (no (number journalMalformed) at)
+
+  unfoldable pub ledIn : List ℕ → ℕ → Got A
+  ledIn s at = bind (columnIn tag (2 ^ 64 - 1) s at) (λ e p. restIn at e s p)
+
+  pub record LedFits (x : A) : Type 0 where
+    pub small : key x < 2 ^ 64
+    pub is : known (key x) ≡ true
+    pub fits : c (key x) .Fits x
+
+  pub led-back : (s : List ℕ) (at : ℕ) (x : A) → LedFits x → Stands s at (ledOut x) → ledIn s at ≡ got x (at + length (ledOut x)) true
+  unfolding ledIn
+  led-back s at x f h =
+      let u = fieldOf tag (bytesOf 8 (key x)) in
+      let w = c (key x) .out x in
+      let l : at + length u + length w ≡ at + length (u ++ w) = omega (arith, length-append u w) in
+      follows _ (column-back tag (2 ^ 64 - 1) s at (key x) (omega (arith, f .small), f .small) (first-stands s at u w h))
+      (pick-on _ _ (f .is) ∙ c (key x) .back s (at + length u) x (f .fits) (second-stands s at u w h) ∙ ap (λ (n : ℕ). got x n true) l)
+
+  pub led-same : (s : List ℕ) (at : ℕ) (x : A) (n : ℕ) → Bytes s → ledIn s at ≡ got x n true → Read s at (ledOut x) n × LedFits x
+  unfolding ledIn pick
+  led-same s at x n k h =
+      let d = came _ _ x n h in
+      chosen (d .value) (d .place) (column-same tag (2 ^ 64 - 1) s at (d .value) (d .place) k (d .first)) (known (d .value)) refl (d .rest)
+    where
+      all : (e p : ℕ) → Read s at (fieldOf tag (bytesOf 8 e)) p × ColumnFits (2 ^ 64 - 1) e → known e ≡ true → Read s p (c e .out x) n × c e .Fits x → key x ≡ e → Read s at (ledOut x) n × LedFits x
+      all e p a t r i =
+          let f : c (key x) .Fits x = rw i (r .1) in
+          (rw i (read-both (a .0) (r .0)), record { small = rw i (a .1 .1); is = rw i t; fits = f })
+
+      chosen : (e p : ℕ) → Read s at (fieldOf tag (bytesOf 8 e)) p × ColumnFits (2 ^ 64 - 1) e → (t : Bool) → known e ≡ t → pick t (c e .into s p) (no (number journalMalformed) at) ≡ got x n true → Read s at (ledOut x) n × LedFits x
+      chosen e p a true t h = let r = c e .same s p x n k h in all e p a t r (keyed e x (r .1))
+      chosen e p a false t h = let z : _≡_ {A = ℕ} 0 1 = cc (h) in absurd (omega arith)
+
+  pub led-stops : (s : List ℕ) (at r p : ℕ) → ledIn s at ≡ no r p → 0 < r
+  unfolding ledIn pick
+  led-stops s at r p h = stopped _ _ r p h (column-stops tag (2 ^ 64 - 1) s at r p) (λ e q h. chosen e q (known e) h)
+    where
+      chosen : (e q : ℕ) (t : Bool) → pick t (c e .into s q) (no (number journalMalformed) at) ≡ no r p → 0 < r
+      chosen e q true h = c e .stops s q r p h
+      chosen e q false h = let i : number journalMalformed ≡ r = cc (h) in omega (arith, i)
+
+unfoldable pub led : {A : Type 0} (tag : ℕ) (known : ℕ → Bool) (key : A → ℕ) (c : ℕ → Codec A) → ((e : ℕ) (x : A) → c e .Fits x → key x ≡ e) → Codec A
+led tag known key c h = record {
+  out = ledOut tag known key c h;
+  into = ledIn tag known key c h;
+  Fits = LedFits tag known key c h;
+  back = led-back tag known key c h;
+  same = led-same tag known key c h;
+  stops = led-stops tag known key c h;
 }

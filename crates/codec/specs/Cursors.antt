@@ -15,7 +15,7 @@ use Rattle.wire.specs.Field.{begins, numberAt}
 use Rattle.money.specs.Range.{ofBits, bitsOf}
 use Rattle.money.specs.Facts.{bits-of-bits}
 use lib.IntN.{ℤ}
-use Rattle.codec.specs.Codec.{Got, got, no, marked, mark-bind, bind, Codec, columnIn, column, countIn, someIn, some-last, rowsIn, rows, pairIn, viaIn, _then_, via}
+use Rattle.codec.specs.Codec.{Got, got, no, marked, mark-true, mark-bind, bind, Codec, columnIn, column, countIn, someIn, some-last, rowsIn, rows, pairIn, viaIn, _then_, via, led, ledIn, restIn}
 use Rattle.codec.specs.Columns.{whole, signed, flag, isOne, oneIf, flag-back}
 use Rattle.codec.specs.Cursor.{cursor, landed, nextOf, countOf}
 use Rattle.codec.specs.declared.Cursor.{Cursor}
@@ -226,3 +226,35 @@ module _ {E : Type 0} (a : Codec E) (s : List ℕ) (k : Cursor) where
 pub fill-done : {E : Type 0} {a : Codec E} {s : List ℕ} {c k d : Cursor} {t : List E} {tag most i : ℕ} → Count s c tag most k → i ≡ k .x → Filling a s k i t d → Takes s c (rows tag most a) d t
 unfolding rows rowsIn
 fill-done {E} {a} {s} {c} {k} {d} {t} {tag} {most} {i} m j g = record { walks = walks-on (λ v. someIn a v) (m .walks) (rw j at (g .walks)) }
+
+-- ── The key first, and the rest by it ─────────────────────────────
+module _ {A : Type 0} (tag : ℕ) (known : ℕ → Bool) (key : A → ℕ) (c : ℕ → Codec A) (h : (e : ℕ) (x : A) → c e .Fits x → key x ≡ e) {s : List ℕ} {at : ℕ} {k : Cursor} (n : Next s (cursor 0 at true 0) tag (2 ^ 64 - 1) k) where
+  pub takes-known : {d : Cursor} {x : A} → known (k .x) ≡ true → Takes s k (c (k .x)) d x → Takes s (cursor 0 at true 0) (led tag known key c h) d x
+  unfolding led ledIn column from pick
+  takes-known {d} {x} t g = record { walks = record { is = walks-on (λ e l p. restIn tag known key c h at e l p) (n .takes .walks) (rest (g .walks)) .is } }
+    where
+      rest : Walks s k (c (k .x) .into) d x → Walks s k (restIn tag known key c h at (k .x)) d x
+      rest w = record { is = w .is ∙ ap (λ (b : Bool). from k (λ l p. pick b (c (k .x) .into l p) (no (number journalMalformed) at)) s) (sym t) }
+
+  -- where the number is there and not known, reading ends at its tag
+  pub led-unknown : begins tag 8 (drop at s) ≡ true → known (k .x) ≡ false → ledIn tag known key c h s at ≡ no (number journalMalformed) at
+  unfolding ledIn columnIn nextOf landed bind marked pick
+  led-unknown b u = ap (λ (g : Got ℕ). bind g (λ e p. restIn tag known key c h at e s p)) (pick-on _ _ b) ∙ go (leb v (2 ^ 64 - 1)) (rw (n .is ∙ ap (landed (cursor 0 at true 0)) (pick-on _ _ b)) at u)
+    where
+      v : ℕ
+      v = numberAt 8 (drop (at + 3) s)
+
+      go : (t : Bool) → known (landed (cursor 0 at true 0) (pick t (got v (at + 11) true) (got 0 (at + 11) false)) .x) ≡ false
+          → bind (pick t (got v (at + 11) true) (got 0 (at + 11) false)) (λ e p. restIn tag known key c h at e s p) ≡ no (number journalMalformed) at
+      go true u = ap (marked true) (pick-off _ _ u)
+      go false u = ap (marked false) (pick-off _ _ u)
+
+-- a cursor that has refused stays, whatever is read on from it
+pub stays : {A : Type 0} {s : List ℕ} {k d : Cursor} {a : Codec A} {x : A} → eqb (k .code) 0 ≡ false → Takes s k a d x → shows d x ≡ no (k .code) (k .at)
+unfolding from
+stays e g = g .walks .is ∙ pick-off _ _ e
+
+-- what is read from the first byte on
+pub from-start : {A : Type 0} {s : List ℕ} {d : Cursor} {a : Codec A} {x : A} → Takes s (cursor 0 0 true 0) a d x → shows d x ≡ a .into s 0
+unfolding from pick
+from-start {A} {s} {d} {a} g = g .walks .is ∙ mark-true (a .into s 0)

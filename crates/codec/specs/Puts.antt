@@ -12,7 +12,7 @@ use Rattle.sheet.specs.declared.Pen.{Pen}
 use Rattle.sheet.specs.Sheet.{Wrote}
 use Rattle.sheet.specs.SheetLaws.{next, retext, none, kept}
 use Rattle.wire.specs.Field.{bytesOf, fieldOf}
-use Rattle.codec.specs.Codec.{Codec, column, _then_, via, allOut, AllFit, rows}
+use Rattle.codec.specs.Codec.{Codec, column, _then_, via, allOut, AllFit, rows, led}
 use Rattle.codec.specs.Columns.{whole, signed, flag, isOne, oneIf, flag-back}
 
 -- x was written by the codec a
@@ -59,6 +59,12 @@ module _ {A B : Type 0} {ink : Bool} where
   pub puts-via : (f : A → B) (g : B → A) {a : Codec A} (h : (x : A) → a .Fits x → g (f x) ≡ x) {y : B} {l m : List ℕ} {p q : Pen} → f (g y) ≡ y → Puts ink a (g y) l p m q → Puts ink (via f g a h) y l p m q
   unfolding via
   puts-via f g h e w = record { wrote = w .wrote; fits = (w .fits, e) }
+
+-- ── The key first, and the rest by it ─────────────────────────────
+pub puts-led : {A : Type 0} {ink : Bool} (tag : ℕ) (known : ℕ → Bool) (key : A → ℕ) (c : ℕ → Codec A) (h : (e : ℕ) (x : A) → c e .Fits x → key x ≡ e) {x : A} {l m n : List ℕ} {p q r : Pen} → known (key x) ≡ true → Puts ink (whole tag) (key x) l p m q → Puts ink (c (key x)) x m q n r
+    → Puts ink (led tag known key c h) x l p n r
+unfolding led column
+puts-led tag known key c h k g w = record { wrote = next (g .wrote) (w .wrote); fits = record { small = g .fits .1; is = k; fits = w .fits } }
 
 -- ── The rows: a loop that has written the list t ──────────────────
 pub record Listing {E : Type 0} (a : Codec E) (ink : Bool) (t : List E) (l : List ℕ) (p : Pen) (m : List ℕ) (q : Pen) : Type 0 where

@@ -1,5 +1,6 @@
 -- How many bytes a value takes at most, by its codec. Assumes nothing.
 use mathlib.Core.Path.{_≡_}
+use mathlib.Core.Bool.{Bool}
 use mathlib.Core.List.{List, [], _∷_, _++_}
 use Prim.Native.Nat.{ℕ, zero, suc, _+_, _*_, _-_, _^_, _≤_}
 use native.Mathlib.Omega.{arith}
@@ -8,7 +9,7 @@ use lib.IntN.{ℤ}
 use lib.ListN.{length, length-append}
 use Rattle.wire.specs.Field.{bytesOf, fieldOf}
 use Rattle.wire.specs.FieldLaws.{length-field}
-use Rattle.codec.specs.Codec.{Codec, column, _then_, via, allOut, AllFit, rows}
+use Rattle.codec.specs.Codec.{Codec, column, _then_, via, allOut, AllFit, rows, led}
 use Rattle.codec.specs.Columns.{whole, signed, flag}
 
 pub record Weighs {A : Type 0} (a : Codec A) (n : ℕ) : Type 0 where
@@ -45,3 +46,11 @@ module _ {A : Type 0} {a : Codec A} {n : ℕ} (u : Weighs a n) where
   weighs-rows tag most = record {
     most = λ xs f. omega (arith, length-append (fieldOf tag (bytesOf 8 (length xs))) (allOut a xs), length-field tag (length xs), all-weigh xs (f .1), mul-le-mul-right n (f .0 .0));
   }
+
+-- a codec for each key, none of which takes more
+pub weighs-led : {A : Type 0} (tag : ℕ) (known : ℕ → Bool) (key : A → ℕ) (c : ℕ → Codec A) (h : (e : ℕ) (x : A) → c e .Fits x → key x ≡ e) {n : ℕ} → ((e : ℕ) → Weighs (c e) n) → Weighs (led tag known key c h) (11 + n)
+unfolding led
+weighs-led tag known key c h u = record { most = λ x f. omega (arith, length-append (fieldOf tag (bytesOf 8 (key x))) (c (key x) .out x), length-field tag (key x), u (key x) .most x (f .fits)) }
+
+pub weighs-less : {A : Type 0} {a : Codec A} {n m : ℕ} → Weighs a n → n ≤ m → Weighs a m
+weighs-less u h = record { most = λ x f. omega (arith, u .most x f, h) }

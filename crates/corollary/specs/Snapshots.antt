@@ -1,9 +1,8 @@
 -- A book that was read from a snapshot starts a new history: each figure is the snapshot's, and what the accepted commands after it add to it or take from it.
-use mathlib.Core.Path.{_≡_, subst}
+use mathlib.Core.Path.{_≡_}
 use mathlib.Core.Bool.{true}
 use mathlib.Core.List.{List, []}
 use Prim.Native.Nat.{ℕ}
-use Rattle.edition.specs.Edition.{snapshotEdition}
 use Rattle.wire.specs.NumberLaws.{Bytes}
 use Rattle.command.specs.declared.Command.{Command}
 use Rattle.book.specs.Stored.{modelOf, bookTest}
@@ -26,8 +25,8 @@ module _ (s : List ℕ) (k : Bytes s) (l : Loaded) (e : l ≡ reading s) (z : l 
 
   -- after a journal, by `replay_from`: the commands that it holds for the snapshot's edition
   module _ (j : List ℕ) (r : Outcome) (q : r ≡ replayedFrom (l .book) j) where
-    pub snapshot-since : MeetsSince (modelOf (l .book)) (from (modelOf (l .book)) (commandsOn snapshotEdition j) .history) (modelOf (r .book))
-    snapshot-since = subst (λ (x : ℕ). MeetsSince (modelOf (l .book)) (from (modelOf (l .book)) (commandsOn x j) .history) (modelOf (r .book))) (source .edition) (replay-since (l .book) (source .typed) (source .sound) j r q)
+    pub snapshot-since : MeetsSince (modelOf (l .book)) (from (modelOf (l .book)) (commandsOn (l .book .settings .edition) j) .history) (modelOf (r .book))
+    snapshot-since = replay-since (l .book) (source .typed) (source .sound) j r q
 
     pub snapshot-sound : bookTest (r .book) ≡ true
     snapshot-sound = from-sound (l .book) (source .typed) (source .sound) j r q

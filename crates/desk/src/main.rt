@@ -22,7 +22,7 @@ fn help() {
         b"./run desk < JOURNAL
   Replays a journal from a fresh book of its edition, and lists its answers and the book that it leaves.
 ./run desk --from SNAPSHOT < JOURNAL
-  The same on the book of SNAPSHOT. The journal's edition is the snapshot's, 3.
+  The same on the book of SNAPSHOT. The journal's edition is the snapshot's.
 The lines: the edition; a command's number and its answer; account ID BALANCE ALLOWANCE OFFERED ACCEPTED; totals FINANCED REPAID FEES.
 ",
     );

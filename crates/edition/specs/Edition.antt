@@ -8,7 +8,7 @@ abbrev pub firstEdition : ℕ
 firstEdition = 1
 
 abbrev pub latestEdition : ℕ
-latestEdition = 3
+latestEdition = 4
 
 unfoldable pub listed : ℕ → Bool
 listed e = leb firstEdition e && leb e latestEdition
@@ -21,6 +21,10 @@ holdsAmount e = leb 2 e
 unfoldable pub freshWindow : ℕ → ℕ
 freshWindow e = cond (leb 3 e) 259200 604800
 
--- the edition of a book that is read from a snapshot, which has no field for it (a)
-abbrev pub snapshotEdition : ℕ
-snapshotEdition = 3
+-- how many rounds an offer gets at most: more from edition 4 on (f)
+unfoldable pub roundLimit : ℕ → ℕ
+roundLimit e = cond (leb 4 e) 16 12
+
+-- the edition of a snapshot that names none: it is from before its field was there (f)
+abbrev pub unnamedEdition : ℕ
+unnamedEdition = 3

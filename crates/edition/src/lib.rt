@@ -1,13 +1,13 @@
 // What each edition of the rules has.
 ghost use mathlib.Core.Path.{_≡_};
-ghost use Rattle.edition.specs.Edition.{listed, holdsAmount, freshWindow};
+ghost use Rattle.edition.specs.Edition.{listed, holdsAmount, freshWindow, roundLimit};
 
 pub const FIRST: u32 = 1;
 
-pub const LATEST: u32 = 3;
+pub const LATEST: u32 = 4;
 
-// A snapshot's book is of this one.
-pub const SNAPSHOT: u32 = 3;
+// A snapshot that names no edition is of this one.
+pub const UNNAMED: u32 = 3;
 
 // Whether there is such an edition.
 pub fn is_listed(edition: u32) -> bool
@@ -31,4 +31,14 @@ pub fn fresh_window(edition: u32) -> u64
         return 259200;
     }
     604800
+}
+
+// How many rounds an offer gets at most.
+pub fn round_limit(edition: u32) -> u32
+    ensures { λ r. ⌜ r ≡ roundLimit edition ⌝ }
+{
+    if 4 <= edition {
+        return 16;
+    }
+    12
 }

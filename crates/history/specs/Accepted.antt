@@ -13,6 +13,7 @@ use Rattle.terms.specs.Terms.{sameTerms}
 use Rattle.terms.specs.declared.Terms.{Terms}
 use Rattle.command.specs.Names.{namesFor}
 use Rattle.command.specs.Shape as Shape
+use Rattle.offer.specs.Kept.{in-place}
 use Rattle.rules.specs.Model.{Model, accountIn, offerIn, paperOf}
 use Rattle.rules.specs.Rules.{termsIn, settling, concluding, agreeing, counteredIn, ruled, shaped, countersIn}
 use Rattle.rules.specs.Rules as Rules
@@ -77,7 +78,7 @@ module _ {b l : Ledger} {r : Said} {m : Model} (A : Agrees l m) (R : Reads b l r
   fair (Shape.accepts now a o) p = record { known = tt; banked = λ z. listed-once (Rules.lenderOf m o) (lender-is o) (search) }
   fair (Shape.amends now a o t n) p = record { known = there (offerIn m o .here) (L .offers o) (search); banked = λ z. listed-once a (sym (eqb-true (Rules.lenderOf m o) a (not-false (eqb (Rules.lenderOf m o) a) (search))) ∙ lender-is o) (search) }
   fair (Shape.counters now a o t n) p =
-      let B : Agrees (noted o (counters t) l) (counteredIn m now o t) = noted-counter A now o t (offer-there (find (m .offers) o) (search)) (search) in
+      let B : Agrees (noted o (counters t) l) (counteredIn m now o t) = noted-counter A now o t (offer-there (find (m .offers) o) (search)) (in-place (m .settings .edition) (offerIn m o .row .negotiation) (search)) in
       record {
         known = tt;
         banked = λ z. listed-once (Rules.lenderOf (counteredIn m now o t) o) (ap (λ (k : Bargain). k .lender) (B .bargains .shown o ∙ at-offer R o (counters t)))

@@ -9,7 +9,7 @@ use Rattle.refusal.specs.Choice.{pick}
 use Rattle.refusal.specs.ChoiceLaws.{either, pick-on, pick-off}
 use Rattle.table.specs.Tables.{Found, absent, here, Table, find, insert}
 use Rattle.terms.specs.declared.Terms.{Terms}
-use Rattle.negotiation.specs.Rounds.{roundLimit, roundSlots, roundOf}
+use Rattle.negotiation.specs.Rounds.{roundSlots, roundOf}
 use Rattle.negotiation.specs.Whole.{Whole}
 use Rattle.negotiation.specs.Laws.{added-whole, accepted-whole}
 use Rattle.negotiation.specs.Latest.{none-asked, accepted-asked, amend-asked, counter-asked}
@@ -64,7 +64,7 @@ module _ {b : ℕ → Bargain} {t : Table Deal} (P : Bargained b t) (o : ℕ) wh
       go j true e = pick-on _ _ e ∙ h ∙ ap (said d) (ap (λ k. bargainOf (find t k)) (eqb-true o j e) ∙ P .shown j) ∙ sym (pick-on _ _ e)
       go j false e = pick-off _ _ e ∙ P .shown j ∙ sym (pick-off _ _ e)
 
-  module _ (now window : ℕ) (x : Terms) (n : find t o ≡ here there) (room : leb roundLimit (there .negotiation .len) ≡ false) where
+  module _ (now window : ℕ) (x : Terms) (n : find t o ≡ here there) (room : leb roundSlots (there .negotiation .len) ≡ false) where
     pub amended : Bargained (saidOn o (amends x) b) (put t o (amendedDeal now window x there))
     unfolding said amendedDeal
     amended = put-said (amends x) (amendedDeal now window x there) n

@@ -58,12 +58,12 @@ holds-next s h m c H p = record {
   late = λ a z. H .late a (still-closed (entryOf c) (readSince s h) a z);
 }
 
-whole-rounds : (t : Table Deal) → All DealKept t → Rounds t
-whole-rounds t k o = go (find t o) refl
+whole-rounds : (n : ℕ) (t : Table Deal) → All (DealKept n) t → Rounds t
+whole-rounds n t k o = go (find t o) refl
   where
     go : (f : Found Deal) → find t o ≡ f → Whole roundSlots (seenDeal f .row .negotiation)
     go absent e = none-whole
-    go (here d) e = all-found DealKept t o d k e .whole
+    go (here d) e = all-found (DealKept n) t o d k e .whole
 
 unopened : (f : Found Account) → bit (accountHere f) ≡ 0 → acceptedIn f ≡ pos 0
 unopened absent e = refl
@@ -72,7 +72,7 @@ unopened (here r) e = absurd (omega (arith, e))
 holds-first : (s : Model) → ModelSound s → HoldsSince s [] s
 unfolding ledger readAfter
 holds-first s y = record {
-  agrees = begins s (whole-rounds (s .offers) (y .offers));
+  agrees = begins s (whole-rounds (s .settings .edition) (s .offers) (y .offers));
   reads = reads-before s;
   sums = sums-before s;
   lists = record {

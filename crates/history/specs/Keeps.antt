@@ -15,6 +15,7 @@ use Rattle.negotiation.specs.Whole.{Whole}
 use Rattle.account.specs.declared.Account.{Account}
 use Rattle.account.specs.Account.{offers}
 use Rattle.account.specs.Rules.{reofferOf}
+use Rattle.offer.specs.Kept.{in-place}
 use Rattle.offer.specs.declared.Deal.{Deal}
 use Rattle.offer.specs.Rules.{acceptChecks}
 use Rattle.invoice.specs.Invoice.{invoiceOf}
@@ -51,7 +52,7 @@ module _ {l : Ledger} {m : Model} (A : Agrees l m) where
       let g : Bool = agreesOf roundSlots (offerIn m o .row .negotiation) t in
       let e : lenderOf m o ≡ a = eqb-true (lenderOf m o) a (not-false (eqb (lenderOf m o) a) (search)) in
       let B : Agrees (noted o (amends t) l) (amendedIn m now a o t) =
-      noted-amend A now o t (offer-there (find (m .offers) o) (search)) (search) a (account-there (find (m .accounts) a) (search)) (sym e) in
+      noted-amend A now o t (offer-there (find (m .offers) o) (search)) (in-place (m .settings .edition) (offerIn m o .row .negotiation) (search)) a (account-there (find (m .accounts) a) (search)) (sym e) in
       let q : Passes (agreeing g now o (amendedIn m now a o t) .checks) =
       passes-right (amendsIn m now a o t n ++ reofferOf (accountIn m a .row) (termsIn m o) t .checks) (agreeing g now o (amendedIn m now a o t) .checks) (p .1 .1) in
       subst (λ (k : Bargain). Agrees (pick (matches t (k .counter)) (sold o (noted o (amends t) l)) (noted o (amends t) l)) (agreeing g now o (amendedIn m now a o t) .done)) (A .bargains .shown o)
@@ -61,7 +62,7 @@ module _ {l : Ledger} {m : Model} (A : Agrees l m) where
   unfolding ruled post namesFor settles
   keeps-counter now a o t n p =
       let g : Bool = sameTerms (termsIn m o) t in
-      let B : Agrees (noted o (counters t) l) (counteredIn m now o t) = noted-counter A now o t (offer-there (find (m .offers) o) (search)) (search) in
+      let B : Agrees (noted o (counters t) l) (counteredIn m now o t) = noted-counter A now o t (offer-there (find (m .offers) o) (search)) (in-place (m .settings .edition) (offerIn m o .row .negotiation) (search)) in
       let q : Passes (agreeing g now o (counteredIn m now o t) .checks) =
       passes-right (countersIn m now a o t n) (agreeing g now o (counteredIn m now o t) .checks) (p .1 .1) in
       subst (λ (k : Bargain). Agrees (pick (sameTerms (k .terms) t) (sold o (noted o (counters t) l)) (noted o (counters t) l)) (agreeing g now o (counteredIn m now o t) .done)) (A .bargains .shown o)

@@ -8,7 +8,7 @@ use borrow.Author.Tests.{not-false}
 use Rattle.refusal.specs.Choice.{pick}
 use Rattle.table.specs.Tables.{here, find}
 use Rattle.terms.specs.declared.Terms.{Terms}
-use Rattle.negotiation.specs.Rounds.{roundLimit}
+use Rattle.negotiation.specs.Rounds.{roundSlots}
 use Rattle.account.specs.Purse.{reoffers}
 use Rattle.account.specs.Account.{withPurse}
 use Rattle.totals.specs.Totals.{financeOf}
@@ -59,7 +59,7 @@ module _ {l : Ledger} {m : Model} (A : Agrees l m) (now o : ℕ) where
   unfolding raised
   noted-accept = record { bargains = Bargains.accepted (A .bargains) o; papers = A .papers; purses = A .purses; financed = A .financed }
 
-  module _ (t : Terms) (n : find (m .offers) o ≡ here (offerIn m o .row)) (room : leb roundLimit (offerIn m o .row .negotiation .len) ≡ false) where
+  module _ (t : Terms) (n : find (m .offers) o ≡ here (offerIn m o .row)) (room : leb roundSlots (offerIn m o .row .negotiation .len) ≡ false) where
     pub noted-counter : Agrees (noted o (counters t) l) (counteredIn m now o t)
     unfolding raised
     noted-counter = record { bargains = Bargains.countered (A .bargains) o now (m .settings .window) t n room; papers = A .papers; purses = A .purses; financed = A .financed }

@@ -47,7 +47,7 @@ fn read(path: &[u8], s: &[u8]) -> Given
     }
 }
 
-// The book of a file, or a complaint. No snapshot has more than 65,536 bytes.
+// The book of a file, or a complaint. No snapshot has more than 81,920 bytes.
 pub fn load(path: &[u8]) -> Given
     ensures { λ r. ⌜ bookTest (r .book) ≡ true ⌝ }
 {
@@ -55,12 +55,12 @@ pub fn load(path: &[u8]) -> Given
     if fd < 0 {
         return none();
     }
-    let mut bytes: [u8; 65536] = [0; 65536];
+    let mut bytes: [u8; 81920] = [0; 81920];
     let n = io::read_full(fd, &mut bytes);
     if !files::ends(
         fd,
         path,
-        b"more than 65,536 bytes; no snapshot is so long (13)",
+        b"more than 81,920 bytes; no snapshot is so long (13)",
     ) {
         return none();
     }

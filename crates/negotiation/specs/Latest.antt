@@ -1,4 +1,4 @@
--- The originator's latest round as a negotiation goes on, and agreement with it. For any limit of rounds. Assumes nothing.
+-- The originator's latest round as a negotiation goes on, and agreement with it. For any number of places for rounds. Assumes nothing.
 use Prim.Native.Nat.{ℕ, zero, suc, _+_, _-_, _<_, _≤_}
 use native.Mathlib.Numerals.{add-one}
 use native.Mathlib.Omega.{arith}
@@ -35,31 +35,31 @@ latest-set rs r j zero h = refl
 latest-set rs r j (suc k) h = rw (getD-set-other rs j k r noRound (λ e. omega arith), latest-set rs r j k (omega arith))
 
 -- a round added is the originator's latest, if it is the originator's
-module _ (limit : ℕ) (n : Negotiation) (w : Whole limit n) (room : leb limit (n .len) ≡ false) (window : ℕ) where
-  added-asked : (r : Round) → asked limit (addedOf limit n r window) ≡ pick (eqb (r .party) 1) (here (termsOf r)) (asked limit n)
+module _ (slots : ℕ) (n : Negotiation) (w : Whole slots n) (room : leb slots (n .len) ≡ false) (window : ℕ) where
+  added-asked : (r : Round) → asked slots (addedOf slots n r window) ≡ pick (eqb (r .party) 1) (here (termsOf r)) (asked slots n)
   unfolding latestBelow
   added-asked r =
-      let l = leb-false limit (n .len) room in
-      ap (asked limit) (added-is limit n r window room)
-      ∙ pick-off absent _ (le-ltb limit (n .len + 1) (omega arith))
+      let l = leb-false slots (n .len) room in
+      ap (asked slots) (added-is slots n r window room)
+      ∙ pick-off absent _ (le-ltb slots (n .len + 1) (omega arith))
       ∙ rw (add-one, getD-set-same (n .rounds) (n .len) r noRound (omega (arith, w .long)), latest-set (n .rounds) r (n .len) (n .len) (omega arith))
-      (sym (ap (pick (eqb (r .party) 1) (here (termsOf r))) (pick-off absent _ (le-ltb limit (n .len) (omega arith)))))
+      (sym (ap (pick (eqb (r .party) 1) (here (termsOf r))) (pick-off absent _ (le-ltb slots (n .len) (omega arith)))))
 
-  pub counter-asked : (now : ℕ) (t : Terms) → asked limit (addedOf limit n (roundOf now t 1) window) ≡ here t
-  counter-asked now t = added-asked (roundOf now t 1) ∙ pick-on (here t) (asked limit n) refl
+  pub counter-asked : (now : ℕ) (t : Terms) → asked slots (addedOf slots n (roundOf now t 1) window) ≡ here t
+  counter-asked now t = added-asked (roundOf now t 1) ∙ pick-on (here t) (asked slots n) refl
 
-  pub amend-asked : (now : ℕ) (t : Terms) → asked limit (addedOf limit n (roundOf now t 0) window) ≡ asked limit n
-  amend-asked now t = added-asked (roundOf now t 0) ∙ pick-off (here t) (asked limit n) refl
+  pub amend-asked : (now : ℕ) (t : Terms) → asked slots (addedOf slots n (roundOf now t 0) window) ≡ asked slots n
+  amend-asked now t = added-asked (roundOf now t 0) ∙ pick-off (here t) (asked slots n) refl
 
-pub none-asked : (limit : ℕ) → asked limit noNegotiation ≡ absent
+pub none-asked : (slots : ℕ) → asked slots noNegotiation ≡ absent
 unfolding latestBelow
-none-asked limit = pick-off absent absent (le-ltb limit 0 (omega arith))
+none-asked slots = pick-off absent absent (le-ltb slots 0 (omega arith))
 
-pub accepted-asked : (limit : ℕ) (n : Negotiation) → asked limit (acceptedOf n) ≡ asked limit n
-accepted-asked limit n = accepted-has (λ m. asked limit m ≡ asked limit n) n refl refl
+pub accepted-asked : (slots : ℕ) (n : Negotiation) → asked slots (acceptedOf n) ≡ asked slots n
+accepted-asked slots n = accepted-has (λ m. asked slots m ≡ asked slots n) n refl refl
 
-pub closed-asked : (limit o : ℕ) (n : Negotiation) → asked limit (closedAs o n) ≡ asked limit n
-closed-asked limit o n = refl
+pub closed-asked : (slots o : ℕ) (n : Negotiation) → asked slots (closedAs o n) ≡ asked slots n
+closed-asked slots o n = refl
 
 -- agreement is with just the terms of that round
 pub matches-is : (t : Terms) (o : Found Terms) → matches t o ≡ true → o ≡ here t

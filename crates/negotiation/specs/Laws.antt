@@ -1,4 +1,4 @@
--- What the crates above need of rounds and negotiations: which are zero, and that every change keeps a negotiation sound and whole. For any limit of rounds. Assumes nothing.
+-- What the crates above need of rounds and negotiations: which are zero, and that every change keeps a negotiation sound and whole. For any number of places and any limit of rounds. Assumes nothing.
 use Prim.Native.Nat.{ℕ, _+_}
 use native.Mathlib.Omega.{arith}
 use mathlib.Core.Path.{_≡_, refl, sym, _∙_}
@@ -56,9 +56,9 @@ pub none-zero : negotiationZero roundSlots noNegotiation ≡ true
 unfolding negotiationZero roundZero
 none-zero = refl
 
-pub none-sound : negotiationSound roundSlots noNegotiation ≡ true
+pub none-sound : (limit : ℕ) → negotiationSound roundSlots limit noNegotiation ≡ true
 unfolding negotiationSound roundZero
-none-sound = refl
+none-sound limit = rw (le-leb 0 limit (omega arith))
 
 pub none-whole : Whole roundSlots noNegotiation
 none-whole = record { long = refl }
@@ -72,21 +72,21 @@ abbrev pub stored : ℕ → Bool
 stored o = leb 2 o && leb o 4
 
 -- what soundness says of a negotiation
-record Sound (limit : ℕ) (n : Negotiation) : Type 0 where
+record Sound (slots limit : ℕ) (n : Negotiation) : Type 0 where
   pub few : leb (n .len) limit ≡ true
-  pub rows : rowsTest roundSound roundZero noRound limit (n .len) (n .rounds) ≡ true
+  pub rows : rowsTest roundSound roundZero noRound slots (n .len) (n .rounds) ≡ true
   pub outcome : eqb (n .outcome) 0 || stored (n .outcome) ≡ true
 
-sound-parts : (limit : ℕ) (n : Negotiation) → negotiationSound limit n ≡ true → Sound limit n
+sound-parts : (slots limit : ℕ) (n : Negotiation) → negotiationSound slots limit n ≡ true → Sound slots limit n
 unfolding negotiationSound
-sound-parts limit n e =
+sound-parts slots limit n e =
     let b = both _ _ e in
     let a = both _ _ (b .0) in
     record { few = a .0; rows = a .1; outcome = b .1 }
 
-parts-sound : (limit : ℕ) (n : Negotiation) → Sound limit n → negotiationSound limit n ≡ true
+parts-sound : (slots limit : ℕ) (n : Negotiation) → Sound slots limit n → negotiationSound slots limit n ≡ true
 unfolding negotiationSound
-parts-sound limit n s = rw (s .few, s .rows, s .outcome)
+parts-sound slots limit n s = rw (s .few, s .rows, s .outcome)
 
 -- ── One round more ────────────────────────────────────────────────
 abbrev pub more : Negotiation → Round → ℕ → Negotiation
@@ -97,30 +97,31 @@ more n r window = record {
   outcome = n .outcome;
 }
 
-pub added-is : (limit : ℕ) (n : Negotiation) (r : Round) (window : ℕ) → leb limit (n .len) ≡ false → addedOf limit n r window ≡ more n r window
+pub added-is : (slots : ℕ) (n : Negotiation) (r : Round) (window : ℕ) → leb slots (n .len) ≡ false → addedOf slots n r window ≡ more n r window
 unfolding addedOf
-added-is limit n r window room = pick-off n (more n r window) room
+added-is slots n r window room = pick-off n (more n r window) room
 
-module _ (limit : ℕ) (n : Negotiation) (w : Whole limit n) (room : leb limit (n .len) ≡ false) (r : Round) (window : ℕ) where
-  pub added-whole : Whole limit (addedOf limit n r window)
-  added-whole = rw (added-is limit n r window room) (record { long = length-set (n .rounds) (n .len) r ∙ w .long })
+module _ (slots : ℕ) (n : Negotiation) (w : Whole slots n) (room : leb slots (n .len) ≡ false) (r : Round) (window : ℕ) where
+  pub added-whole : Whole slots (addedOf slots n r window)
+  added-whole = rw (added-is slots n r window room) (record { long = length-set (n .rounds) (n .len) r ∙ w .long })
 
-  pub added-sound : roundSound r ≡ true → negotiationSound limit n ≡ true → negotiationSound limit (addedOf limit n r window) ≡ true
-  added-sound h e =
-      let s = sound-parts limit n e in
-      let l = leb-false limit (n .len) room in
-      rw (added-is limit n r window room) (parts-sound limit (more n r window) (record {
+  pub added-sound : (limit : ℕ) → leb limit (n .len) ≡ false → roundSound r ≡ true → negotiationSound slots limit n ≡ true → negotiationSound slots limit (addedOf slots n r window) ≡ true
+  added-sound limit few h e =
+      let s = sound-parts slots limit n e in
+      let l = leb-false slots (n .len) room in
+      let m = leb-false limit (n .len) few in
+      rw (added-is slots n r window room) (parts-sound slots limit (more n r window) (record {
         few = le-leb (n .len + 1) limit (omega arith);
-        rows = rows-more roundSound roundZero noRound limit (n .len) (n .rounds) r (w .long) l h (s .rows);
+        rows = rows-more roundSound roundZero noRound slots (n .len) (n .rounds) r (w .long) l h (s .rows);
         outcome = s .outcome;
       }))
 
 -- ── An outcome stored ─────────────────────────────────────────────
-pub closed-whole : (limit o : ℕ) (n : Negotiation) → Whole limit n → Whole limit (closedAs o n)
-closed-whole limit o n w = record { long = w .long }
+pub closed-whole : (slots o : ℕ) (n : Negotiation) → Whole slots n → Whole slots (closedAs o n)
+closed-whole slots o n w = record { long = w .long }
 
-pub closed-sound : (limit o : ℕ) (n : Negotiation) → stored o ≡ true → negotiationSound limit n ≡ true → negotiationSound limit (closedAs o n) ≡ true
-closed-sound limit o n h e = let s = sound-parts limit n e in parts-sound limit (closedAs o n) (record { few = s .few; rows = s .rows; outcome = either (eqb o 0) })
+pub closed-sound : (slots limit o : ℕ) (n : Negotiation) → stored o ≡ true → negotiationSound slots limit n ≡ true → negotiationSound slots limit (closedAs o n) ≡ true
+closed-sound slots limit o n h e = let s = sound-parts slots limit n e in parts-sound slots limit (closedAs o n) (record { few = s .few; rows = s .rows; outcome = either (eqb o 0) })
   where
     either : (b : Bool) → b || stored o ≡ true
     either true = refl
@@ -136,8 +137,8 @@ accepted-has P n p q = go (eqb (n .len) 0) (not (eqb (n .outcome) 0))
     go false true = p
     go false false = q
 
-pub accepted-whole : (limit : ℕ) (n : Negotiation) → Whole limit n → Whole limit (acceptedOf n)
-accepted-whole limit n w = accepted-has (Whole limit) n w (closed-whole limit 3 n w)
+pub accepted-whole : (slots : ℕ) (n : Negotiation) → Whole slots n → Whole slots (acceptedOf n)
+accepted-whole slots n w = accepted-has (Whole slots) n w (closed-whole slots 3 n w)
 
-pub accepted-sound : (limit : ℕ) (n : Negotiation) → negotiationSound limit n ≡ true → negotiationSound limit (acceptedOf n) ≡ true
-accepted-sound limit n e = accepted-has (λ m. negotiationSound limit m ≡ true) n e (closed-sound limit 3 n refl e)
+pub accepted-sound : (slots limit : ℕ) (n : Negotiation) → negotiationSound slots limit n ≡ true → negotiationSound slots limit (acceptedOf n) ≡ true
+accepted-sound slots limit n e = accepted-has (λ m. negotiationSound slots limit m ≡ true) n e (closed-sound slots limit 3 n refl e)

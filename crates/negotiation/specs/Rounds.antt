@@ -15,13 +15,9 @@ use Rattle.table.specs.Test.{allBelow, rowsTest}
 use Rattle.negotiation.specs.declared.Round.{Round}
 use Rattle.negotiation.specs.declared.Negotiation.{Negotiation}
 
--- an offer has places for this many rounds
+-- an offer has places for this many rounds; how many of them it gets is its edition's
 abbrev pub roundSlots : ℕ
-roundSlots = 12
-
--- and gets at most this many
-abbrev pub roundLimit : ℕ
-roundLimit = 12
+roundSlots = 16
 
 abbrev pub noRound : Round
 noRound = record { amount = pos 0; duration = 0; time = 0; rate = 0; party = 0 }
@@ -96,9 +92,9 @@ roundSound r = termsOk (termsOf r) && leb (r .party) 1
 unfoldable pub roundZero : Round → Bool
 roundZero r = (((isZero (r .amount) && eqb (r .duration) 0) && eqb (r .time) 0) && eqb (r .rate) 0) && eqb (r .party) 0
 
-unfoldable pub negotiationSound : ℕ → Negotiation → Bool
-negotiationSound slots n =
-    (leb (n .len) slots && rowsTest roundSound roundZero noRound slots (n .len) (n .rounds))
+unfoldable pub negotiationSound : ℕ → ℕ → Negotiation → Bool
+negotiationSound slots limit n =
+    (leb (n .len) limit && rowsTest roundSound roundZero noRound slots (n .len) (n .rounds))
     && (eqb (n .outcome) 0 || (leb 2 (n .outcome) && leb (n .outcome) 4))
 
 unfoldable pub negotiationZero : ℕ → Negotiation → Bool

@@ -4,5 +4,5 @@ use mathlib.Core.Path.{_≡_}
 use lib.ListN.{length}
 use Rattle.negotiation.specs.declared.Negotiation.{Negotiation}
 
-pub record Whole (limit : ℕ) (n : Negotiation) : Type 0 where
-  pub long : length (n .rounds) ≡ limit
+pub record Whole (slots : ℕ) (n : Negotiation) : Type 0 where
+  pub long : length (n .rounds) ≡ slots

@@ -3,7 +3,7 @@ use terms::Terms;
 ghost use mathlib.Core.Path.{_≡_};
 ghost use mathlib.Core.Bool.{cond};
 ghost use Rattle.refusal.specs.Refusal.{first};
-ghost use Rattle.negotiation.specs.Rounds.{termsOf, roundOf, deadlineOf, statusOf, negotiable, addedOf, acceptedOf, closedAs, agreesOf, roundLimit, roundSlots, roundSound, roundZero, noNegotiation, negotiationSound, negotiationZero};
+ghost use Rattle.negotiation.specs.Rounds.{termsOf, roundOf, deadlineOf, statusOf, negotiable, addedOf, acceptedOf, closedAs, agreesOf, roundSlots, roundSound, roundZero, noNegotiation, negotiationSound, negotiationZero};
 ghost use Rattle.negotiation.specs.Whole.{Whole};
 
 // 32 bytes, so that a book of sixteen rounds an offer stays small.
@@ -20,13 +20,11 @@ pub const LENDER: u32 = 0;
 
 pub const ORIGINATOR: u32 = 1;
 
-// An offer has places for this many rounds, and gets at most so many.
-pub const ROUND_SLOTS: u32 = 12;
-
-pub const ROUND_LIMIT: u32 = 12;
+// An offer has places for this many rounds; how many of them it gets is its edition's.
+pub const ROUND_SLOTS: u32 = 16;
 
 pub struct Negotiation {
-    pub rounds: [Round; 12],
+    pub rounds: [Round; 16],
     pub deadline: u64,
     pub len: u32,
     pub outcome: u32,
@@ -125,7 +123,7 @@ impl Negotiation {
             rate: 0,
             party: 0,
         };
-        let rs = [r; 12];
+        let rs = [r; 16];
         Negotiation {
             rounds: rs,
             deadline: 0,
@@ -157,8 +155,8 @@ impl Negotiation {
     }
 
     // The number of what stands against one more round, 0 where nothing does.
-    pub fn refusal(self, pending: bool, now: u64, round: u32) -> u64
-        ensures { λ r. ⌜ r ≡ first (negotiable roundLimit self pending now round) ⌝ }
+    pub fn refusal(self, limit: u32, pending: bool, now: u64, round: u32) -> u64
+        ensures { λ r. ⌜ r ≡ first (negotiable limit self pending now round) ⌝ }
     {
         if !pending {
             return refusal::INVALID_TRANSITION;
@@ -171,7 +169,7 @@ impl Negotiation {
         if count != round {
             return refusal::INVALID_INPUT;
         }
-        if ROUND_LIMIT <= count {
+        if limit <= count {
             return refusal::INVALID_TRANSITION;
         }
         0
@@ -240,22 +238,22 @@ impl Negotiation {
         false
     }
 
-    // In range, with rows past the rounds zero.
-    pub fn sound(self) -> bool
-        ensures tested { λ r. ⌜ r ≡ negotiationSound roundSlots self ⌝ }
+    // In range, with at most so many rounds and rows past them zero.
+    pub fn sound(self, limit: u32) -> bool
+        ensures tested { λ r. ⌜ r ≡ negotiationSound roundSlots limit self ⌝ }
         ensures whole { λ r. ⌜ Whole roundSlots self ⌝ }
     {
         let n = self.len as usize;
         let mut ok = true;
         let mut i = 0;
-        while i < 12 {
+        while i < 16 {
             let r = self.rounds[i];
             let fits = r.fits(i < n);
             ok = ok & fits;
             i += 1;
         }
         let outcome = self.outcome;
-        (n <= 12) & ok & ((outcome == 0) | ((2 <= outcome) & (outcome <= 4)))
+        (n <= limit as usize) & ok & ((outcome == 0) | ((2 <= outcome) & (outcome <= 4)))
     }
 
     // Whether every number is 0.
@@ -265,7 +263,7 @@ impl Negotiation {
     {
         let mut ok = true;
         let mut i = 0;
-        while i < 12 {
+        while i < 16 {
             let r = self.rounds[i];
             let zero = r.zero();
             ok = ok & zero;

@@ -1,16 +1,18 @@
 -- That every rule on an offer's row, and every part of a command put on it, leaves a sound row sound where the checks pass. Assumes nothing.
-use Prim.Native.Nat.{ℕ}
+use Prim.Native.Nat.{ℕ, _≤_}
 use mathlib.Core.Path.{_≡_, refl, sym, ap, _∙_}
-use mathlib.Core.Bool.{Bool, true, false}
+use native.Mathlib.Omega.{arith}
+use mathlib.Core.Bool.{Bool, true, false, cond}
 use lib.Dec.{leb, eqb}
 use lib.IntN.{ℤ}
-use borrow.Author.Tests.{eqb-true, not-false}
+use borrow.Author.Tests.{eqb-true, not-false, leb-false, lt-leb}
 use Rattle.money.specs.Range.{inTotal, inInstallment, isZero}
 use Rattle.refusal.specs.Choice.{pick}
 use Rattle.refusal.specs.ChoiceLaws.{pick-on, pick-off}
 use Rattle.refusal.specs.Refusal.{first}
 use Rattle.refusal.specs.Rule.{Rule, after}
 use Rattle.refusal.specs.RuleLaws.{Keeps, passed}
+use Rattle.edition.specs.Edition.{roundLimit}
 use Rattle.terms.specs.Status.{statusListed}
 use Rattle.terms.specs.Terms.{termsOk, countOk}
 use Rattle.terms.specs.Schedule.{periodListed}
@@ -18,7 +20,7 @@ use Rattle.terms.specs.Installment.{installmentOf}
 use Rattle.terms.specs.Laws.{terms-in, installment-valid, installment-in, made-ok}
 use Rattle.terms.specs.declared.Terms.{Terms}
 use Rattle.terms.specs.declared.Schedule.{Schedule}
-use Rattle.negotiation.specs.Rounds.{roundLimit, roundSlots, negotiable, roundOf, addedOf, acceptedOf, closedAs}
+use Rattle.negotiation.specs.Rounds.{roundSlots, negotiable, roundOf, addedOf, acceptedOf, closedAs}
 use Rattle.negotiation.specs.Laws.{stored, round-sound, added-sound, added-whole, closed-sound, closed-whole, accepted-sound, accepted-whole}
 use Rattle.negotiation.specs.declared.Negotiation.{Negotiation}
 use Rattle.account.specs.declared.Account.{Account}
@@ -30,61 +32,75 @@ use Rattle.offer.specs.Rules.{withdrawOf, rejectOf, amendChecks, counter
 use Rattle.offer.specs.Laws.{DealKept, kept-ranges, offer-kept, negotiation-kept, schedule-kept}
 
 -- ── Settlement ────────────────────────────────────────────────────
-pub settled-kept : (now : ℕ) (d : Deal) → DealKept d → DealKept (settledDeal now d)
+pub settled-kept : {e : ℕ} (now : ℕ) (d : Deal) → DealKept e d → DealKept e (settledDeal now d)
 unfolding settledDeal
-settled-kept now d h =
+settled-kept {e} now d h =
     let r = kept-ranges h in
     negotiation-kept (offer-kept h (withFunded now (withStatus 1 (d .offer))) (r .terms-in) (r .repaid-in) refl)
-    (acceptedOf (d .negotiation)) (accepted-sound roundSlots (d .negotiation) (r .rounds-in)) (accepted-whole roundSlots (d .negotiation) (h .whole))
+    (acceptedOf (d .negotiation)) (accepted-sound roundSlots (roundLimit e) (d .negotiation) (r .rounds-in)) (accepted-whole roundSlots (d .negotiation) (h .whole))
 
 -- ── A round more ──────────────────────────────────────────────────
 -- where one may be added there is room for it
 pub room-left : (limit : ℕ) (n : Negotiation) (pending : Bool) (now round : ℕ) → first (negotiable limit n pending now round) ≡ 0 → leb limit (n .len) ≡ false
 room-left limit n pending now round e = passed _ _ _ (passed _ _ _ (passed _ _ _ (passed _ _ _ e .1) .1) .1) .0
 
-round-kept : (now window : ℕ) (t : Terms) (party : ℕ) {d : Deal} → leb party 1 ≡ true → termsOk t ≡ true → leb roundLimit (d .negotiation .len) ≡ false → DealKept d
-    → DealKept (record { offer = d .offer; negotiation = addedOf roundSlots (d .negotiation) (roundOf now t party) window; schedule = d .schedule })
-round-kept now window t party {d} l k room h =
+-- no edition has more rounds than an offer has places for
+pub limit-in-slots : (e : ℕ) → roundLimit e ≤ roundSlots
+unfolding roundLimit
+limit-in-slots e = go (leb 4 e)
+  where
+    go : (b : Bool) → cond b 16 12 ≤ roundSlots
+    go true = omega arith
+    go false = omega arith
+
+-- so that where its limit leaves a round there is a place for it
+pub in-place : (e : ℕ) (n : Negotiation) → leb (roundLimit e) (n .len) ≡ false → leb roundSlots (n .len) ≡ false
+in-place e n few = lt-leb roundSlots (n .len) (omega (arith, leb-false (roundLimit e) (n .len) few, limit-in-slots e))
+
+round-kept : {e : ℕ} (now window : ℕ) (t : Terms) (party : ℕ) {d : Deal} → leb party 1 ≡ true → termsOk t ≡ true → leb (roundLimit e) (d .negotiation .len) ≡ false → DealKept e d
+    → DealKept e (record { offer = d .offer; negotiation = addedOf roundSlots (d .negotiation) (roundOf now t party) window; schedule = d .schedule })
+round-kept {e} now window t party {d} l k few h =
     let n = d .negotiation in
+    let room = in-place e n few in
     negotiation-kept h (addedOf roundSlots n (roundOf now t party) window)
-    (added-sound roundSlots n (h .whole) room (roundOf now t party) window (round-sound now t party l k) (kept-ranges h .rounds-in))
+    (added-sound roundSlots n (h .whole) room (roundOf now t party) window (roundLimit e) few (round-sound now t party l k) (kept-ranges h .rounds-in))
     (added-whole roundSlots n (h .whole) room (roundOf now t party) window)
 
-pub amended-kept : (edition : ℕ) (s : SeenDeal) (now caller : ℕ) (lender : Account) (t : Terms) (round : ℕ) (paper : SeenInvoice) (window : ℕ)
-    → DealKept (s .row) → first (amendChecks edition s now caller lender t round paper) ≡ 0 → DealKept (amendedDeal now window t (s .row))
+pub amended-kept : (e : ℕ) (s : SeenDeal) (now caller : ℕ) (lender : Account) (t : Terms) (round : ℕ) (paper : SeenInvoice) (window : ℕ)
+    → DealKept e (s .row) → first (amendChecks e s now caller lender t round paper) ≡ 0 → DealKept e (amendedDeal now window t (s .row))
 unfolding amendedDeal
-amended-kept edition s now caller lender t round paper window h e =
-    let a = passed _ _ _ (passed _ _ _ e .1) in
+amended-kept e s now caller lender t round paper window h z =
+    let a = passed _ _ _ (passed _ _ _ z .1) in
     let k = not-false (termsOk t) (a .0) in
-    let room = room-left roundLimit (s .row .negotiation) (pending (s .row)) now round (passed _ _ _ (passed _ _ _ (passed _ _ _ (passed _ _ _ (a .1) .1) .1) .1) .1) in
+    let room = room-left (roundLimit e) (s .row .negotiation) (pending (s .row)) now round (passed _ _ _ (passed _ _ _ (passed _ _ _ (passed _ _ _ (a .1) .1) .1) .1) .1) in
     let r = kept-ranges h in
     round-kept now window t 0 refl k room (offer-kept h (withTerms t (s .row .offer)) k (r .repaid-in) (r .status-in))
 
-pub countered-kept : (edition : ℕ) (s : SeenDeal) (now caller : ℕ) (originator : Account) (t : Terms) (round : ℕ) (paper : SeenInvoice) (window : ℕ)
-    → DealKept (s .row) → first (counterChecks edition s now caller originator t round paper) ≡ 0 → DealKept (counteredDeal now window t (s .row))
+pub countered-kept : (e : ℕ) (s : SeenDeal) (now caller : ℕ) (originator : Account) (t : Terms) (round : ℕ) (paper : SeenInvoice) (window : ℕ)
+    → DealKept e (s .row) → first (counterChecks e s now caller originator t round paper) ≡ 0 → DealKept e (counteredDeal now window t (s .row))
 unfolding counteredDeal
-countered-kept edition s now caller originator t round paper window h e =
-    let a = passed _ _ _ (passed _ _ _ e .1) in
+countered-kept e s now caller originator t round paper window h z =
+    let a = passed _ _ _ (passed _ _ _ z .1) in
     let k = not-false (termsOk t) (a .0) in
-    let room = room-left roundLimit (s .row .negotiation) (pending (s .row)) now round (passed _ _ _ (passed _ _ _ (passed _ _ _ (passed _ _ _ (a .1) .1) .1) .1) .1) in
+    let room = room-left (roundLimit e) (s .row .negotiation) (pending (s .row)) now round (passed _ _ _ (passed _ _ _ (passed _ _ _ (passed _ _ _ (a .1) .1) .1) .1) .1) in
     round-kept now window t 1 refl k room h
 
 -- so the row is sound after it
-pub after-kept : (d : Deal) (u : Rule Deal) → Keeps DealKept d u → DealKept d → DealKept (after d u)
+pub after-kept : {n : ℕ} (d : Deal) (u : Rule Deal) → Keeps (DealKept n) d u → DealKept n d → DealKept n (after d u)
 unfolding after
-after-kept d u k h = go (eqb (first (u .checks)) 0) refl
+after-kept {n} d u k h = go (eqb (first (u .checks)) 0) refl
   where
-    go : (t : Bool) → eqb (first (u .checks)) 0 ≡ t → DealKept (pick (eqb (first (u .checks)) 0) (u .done) d)
+    go : (t : Bool) → eqb (first (u .checks)) 0 ≡ t → DealKept n (pick (eqb (first (u .checks)) 0) (u .done) d)
     go true e = rw (pick-on (u .done) d e) (k h (eqb-true _ _ e))
     go false e = rw (pick-off (u .done) d e) h
 
-rejected-kept : (d : Deal) → DealKept d → DealKept (record { offer = withStatus 2 (d .offer); negotiation = d .negotiation; schedule = d .schedule })
+rejected-kept : {e : ℕ} (d : Deal) → DealKept e d → DealKept e (record { offer = withStatus 2 (d .offer); negotiation = d .negotiation; schedule = d .schedule })
 rejected-kept d h = let r = kept-ranges h in offer-kept h (withStatus 2 (d .offer)) (r .terms-in) (r .repaid-in) refl
 
-pub withdraw-keeps : (s : SeenDeal) (caller : ℕ) → Keeps DealKept (s .row) (withdrawOf s caller)
+pub withdraw-keeps : {e : ℕ} (s : SeenDeal) (caller : ℕ) → Keeps (DealKept e) (s .row) (withdrawOf s caller)
 withdraw-keeps s caller h e = rejected-kept (s .row) h
 
-pub reject-keeps : (s : SeenDeal) (caller : ℕ) (paper : SeenInvoice) → Keeps DealKept (s .row) (rejectOf s caller paper)
+pub reject-keeps : {e : ℕ} (s : SeenDeal) (caller : ℕ) (paper : SeenInvoice) → Keeps (DealKept e) (s .row) (rejectOf s caller paper)
 reject-keeps s caller paper h e = rejected-kept (s .row) h
 
 -- what a close stores can be stored
@@ -96,11 +112,11 @@ outcome-stored status = go (eqb status 4)
     go true = refl
     go false = refl
 
-pub close-keeps : (s : SeenDeal) (now caller : ℕ) (paper : SeenInvoice) → Keeps DealKept (s .row) (closeOf s now caller paper)
-close-keeps s now caller paper h e =
+pub close-keeps : {e : ℕ} (s : SeenDeal) (now caller : ℕ) (paper : SeenInvoice) → Keeps (DealKept e) (s .row) (closeOf s now caller paper)
+close-keeps {e} s now caller paper h z =
     let n = s .row .negotiation in
     let o = outcomeAt (standing s now) in
-    negotiation-kept h (closedAs o n) (closed-sound roundSlots o n (outcome-stored (standing s now)) (kept-ranges h .rounds-in)) (closed-whole roundSlots o n (h .whole))
+    negotiation-kept h (closedAs o n) (closed-sound roundSlots (roundLimit e) o n (outcome-stored (standing s now)) (kept-ranges h .rounds-in)) (closed-whole roundSlots o n (h .whole))
 
 -- an installment that is not 0, of valid terms
 stored-installment : (t : Terms) (count : ℕ) → termsOk t ≡ true → countOk count ≡ true → isZero (installmentOf t count .1) ≡ false
@@ -109,7 +125,7 @@ stored-installment t count h k z =
     let v = ap (λ (q : ℕ × ℤ). q .1) (installment-valid t count h k) in
     ap inInstallment v ∙ installment-in t count (terms-in t h) (ap isZero (sym v) ∙ z)
 
-pub schedule-keeps : (s : SeenDeal) (now caller count code first : ℕ) (paper : SeenInvoice) → Keeps DealKept (s .row) (scheduleOf s now caller count code first paper)
+pub schedule-keeps : {e : ℕ} (s : SeenDeal) (now caller count code first : ℕ) (paper : SeenInvoice) → Keeps (DealKept e) (s .row) (scheduleOf s now caller count code first paper)
 schedule-keeps s now caller count code first paper h e =
     let t = s .row .offer .terms in
     let a = passed _ _ _ e in
@@ -120,12 +136,12 @@ schedule-keeps s now caller count code first paper h e =
     let made : Schedule = record { count = count; code = code; installment = installmentOf t count .1; first = first } in
     schedule-kept h made (made-ok made k (not-false (periodListed code) (b .0)) x)
 
-pub status-update-keeps : (s : SeenDeal) (allowed : Bool) (code : ℕ) → Keeps DealKept (s .row) (statusUpdateOf s allowed code)
+pub status-update-keeps : {e : ℕ} (s : SeenDeal) (allowed : Bool) (code : ℕ) → Keeps (DealKept e) (s .row) (statusUpdateOf s allowed code)
 status-update-keeps s allowed code h e =
     let r = kept-ranges h in
     offer-kept h (withStatus code (s .row .offer)) (r .terms-in) (r .repaid-in) (not-false (statusListed code) (passed _ _ _ (passed _ _ _ e .1) .0))
 
-pub repaid-update-keeps : (s : SeenDeal) (allowed : Bool) (x : ℤ) → Keeps DealKept (s .row) (repaidUpdateOf s allowed x)
+pub repaid-update-keeps : {e : ℕ} (s : SeenDeal) (allowed : Bool) (x : ℤ) → Keeps (DealKept e) (s .row) (repaidUpdateOf s allowed x)
 repaid-update-keeps s allowed x h e =
     let r = kept-ranges h in
     let l = not-false (inTotal x) (passed _ _ _ (passed _ _ _ (passed _ _ _ e .1) .1) .0) in

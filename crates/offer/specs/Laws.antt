@@ -6,6 +6,7 @@ use lib.Dec.{leb}
 use lib.IntN.{pos}
 use borrow.Author.Tests.{eqb-true}
 use Rattle.money.specs.Range.{inTotal}
+use Rattle.edition.specs.Edition.{roundLimit}
 use Rattle.money.specs.Facts.{both, zero-is}
 use Rattle.terms.specs.Terms.{termsOk}
 use Rattle.terms.specs.Schedule.{scheduleOk, scheduleZero}
@@ -74,52 +75,52 @@ no-deal-zero = rw none-zero
 
 -- ── Sound rows ────────────────────────────────────────────────────
 -- a row passes the test, and its negotiation has room for all its rounds
-pub record DealKept (d : Deal) : Type 0 where
-  pub test : dealSound d ≡ true
+pub record DealKept (e : ℕ) (d : Deal) : Type 0 where
+  pub test : dealSound e d ≡ true
   pub whole : Whole roundSlots (d .negotiation)
 
 -- what that says of each part
-pub record Ranges (d : Deal) : Type 0 where
+pub record Ranges (e : ℕ) (d : Deal) : Type 0 where
   pub terms-in : termsOk (d .offer .terms) ≡ true
   pub repaid-in : inTotal (d .offer .repaid) ≡ true
   pub status-in : leb (d .offer .status) 5 ≡ true
-  pub rounds-in : negotiationSound roundSlots (d .negotiation) ≡ true
+  pub rounds-in : negotiationSound roundSlots (roundLimit e) (d .negotiation) ≡ true
   pub schedule-in : scheduleZero (d .schedule) || scheduleOk (d .schedule) ≡ true
 
-pub kept-ranges : {d : Deal} → DealKept d → Ranges d
+pub kept-ranges : {e : ℕ} {d : Deal} → DealKept e d → Ranges e d
 unfolding dealSound
-kept-ranges {d} h =
-    let e = both _ _ (h .test) in
-    let c = both _ _ (e .0) in
+kept-ranges {e} {d} h =
+    let f = both _ _ (h .test) in
+    let c = both _ _ (f .0) in
     let b = both _ _ (c .0) in
     let a = both _ _ (b .0) in
-    record { terms-in = a .0; repaid-in = a .1; status-in = b .1; rounds-in = c .1; schedule-in = e .1 }
+    record { terms-in = a .0; repaid-in = a .1; status-in = b .1; rounds-in = c .1; schedule-in = f .1 }
 
-pub ranges-kept : {d : Deal} → Ranges d → Whole roundSlots (d .negotiation) → DealKept d
+pub ranges-kept : {e : ℕ} {d : Deal} → Ranges e d → Whole roundSlots (d .negotiation) → DealKept e d
 unfolding dealSound
-ranges-kept {d} r w = record { test = rw (r .terms-in, r .repaid-in, r .status-in, r .rounds-in, r .schedule-in); whole = w }
+ranges-kept {e} {d} r w = record { test = rw (r .terms-in, r .repaid-in, r .status-in, r .rounds-in, r .schedule-in); whole = w }
 
 -- a new offer of valid terms
-pub new-kept : (lender invoice : ℕ) (t : Terms) (expires : ℕ) → termsOk t ≡ true → DealKept (newDeal lender invoice t expires)
+pub new-kept : {e : ℕ} (lender invoice : ℕ) (t : Terms) (expires : ℕ) → termsOk t ≡ true → DealKept e (newDeal lender invoice t expires)
 unfolding scheduleZero
-new-kept lender invoice t expires h = ranges-kept (record { terms-in = h; repaid-in = refl; status-in = refl; rounds-in = none-sound; schedule-in = refl }) none-whole
+new-kept lender invoice t expires h = ranges-kept (record { terms-in = h; repaid-in = refl; status-in = refl; rounds-in = none-sound _; schedule-in = refl }) none-whole
 
-module _ {d : Deal} (h : DealKept d) where
-  pub offer-kept : (o : Offer) → termsOk (o .terms) ≡ true → inTotal (o .repaid) ≡ true → leb (o .status) 5 ≡ true → DealKept (withOffer o d)
+module _ {e : ℕ} {d : Deal} (h : DealKept e d) where
+  pub offer-kept : (o : Offer) → termsOk (o .terms) ≡ true → inTotal (o .repaid) ≡ true → leb (o .status) 5 ≡ true → DealKept e (withOffer o d)
   offer-kept o a b s =
       let r = kept-ranges h in
       ranges-kept (record { terms-in = a; repaid-in = b; status-in = s; rounds-in = r .rounds-in; schedule-in = r .schedule-in }) (h .whole)
 
-  pub negotiation-kept : (n : Negotiation) → negotiationSound roundSlots n ≡ true → Whole roundSlots n → DealKept (withNegotiation n d)
+  pub negotiation-kept : (n : Negotiation) → negotiationSound roundSlots (roundLimit e) n ≡ true → Whole roundSlots n → DealKept e (withNegotiation n d)
   negotiation-kept n s w =
       let r = kept-ranges h in
       ranges-kept (record { terms-in = r .terms-in; repaid-in = r .repaid-in; status-in = r .status-in; rounds-in = s; schedule-in = r .schedule-in }) w
 
-  pub schedule-kept : (s : Schedule) → scheduleOk s ≡ true → DealKept (withSchedule s d)
-  schedule-kept s e =
+  pub schedule-kept : (s : Schedule) → scheduleOk s ≡ true → DealKept e (withSchedule s d)
+  schedule-kept s k =
       let r = kept-ranges h in
       ranges-kept (record { terms-in = r .terms-in; repaid-in = r .repaid-in; status-in = r .status-in; rounds-in = r .rounds-in; schedule-in = either (scheduleZero s) }) (h .whole)
     where
       either : (b : Bool) → b || scheduleOk s ≡ true
       either true = refl
-      either false = e
+      either false = k

@@ -4,6 +4,7 @@ use mathlib.Core.Bool.{Bool, not, _&&_, _||_}
 use lib.Dec.{leb, eqb}
 use lib.IntN.{ℤ, pos}
 use Rattle.money.specs.Range.{inTotal, isZero}
+use Rattle.edition.specs.Edition.{roundLimit}
 use Rattle.terms.specs.Status.{statusPending, statusAccepted, statusListed}
 use Rattle.terms.specs.Terms.{termsOk}
 use Rattle.terms.specs.Schedule.{scheduleOk, scheduleZero}
@@ -73,9 +74,10 @@ unfoldable pub counteredDeal : ℕ → ℕ → Terms → Deal → Deal
 counteredDeal now window t d = record { offer = d .offer; negotiation = addedOf roundSlots (d .negotiation) (roundOf now t 1) window; schedule = d .schedule }
 
 -- ── What a sound book holds of it ─────────────────────────────────
-unfoldable pub dealSound : Deal → Bool
-dealSound d =
-    (((termsOk (d .offer .terms) && inTotal (d .offer .repaid)) && statusListed (d .offer .status)) && negotiationSound roundSlots (d .negotiation))
+-- its rounds are at most as many as the book's edition has
+unfoldable pub dealSound : ℕ → Deal → Bool
+dealSound e d =
+    (((termsOk (d .offer .terms) && inTotal (d .offer .repaid)) && statusListed (d .offer .status)) && negotiationSound roundSlots (roundLimit e) (d .negotiation))
     && (scheduleZero (d .schedule) || scheduleOk (d .schedule))
 
 unfoldable pub offerZero : Offer → Bool

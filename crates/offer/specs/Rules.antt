@@ -8,13 +8,13 @@ use Rattle.money.specs.Range.{inTotal, isZero}
 use Rattle.refusal.specs.Choice.{pick}
 use Rattle.refusal.specs.Refusal.{Check, _gives_, blacklisted, invalidInput, notFound, alreadyExists, unauthorized, invalidTransition, offerExpired, outOfRange, noRoom}
 use Rattle.refusal.specs.Rule.{Rule}
-use Rattle.edition.specs.Edition.{holdsAmount}
+use Rattle.edition.specs.Edition.{holdsAmount, roundLimit}
 use Rattle.terms.specs.Status.{statusRejected, statusRepaid, statusDefaulted, statusListed}
 use Rattle.terms.specs.Terms.{termsOk, countOk}
 use Rattle.terms.specs.Schedule.{periodListed}
 use Rattle.terms.specs.Installment.{installmentOf}
 use Rattle.terms.specs.declared.Terms.{Terms}
-use Rattle.negotiation.specs.Rounds.{roundLimit, statusOf, negotiable, closedAs}
+use Rattle.negotiation.specs.Rounds.{statusOf, negotiable, closedAs}
 use Rattle.account.specs.declared.Account.{Account}
 use Rattle.account.specs.declared.SeenAccount.{SeenAccount}
 use Rattle.invoice.specs.Invoice.{invoicePending, covers}
@@ -79,7 +79,7 @@ acceptChecks s now caller paper =
 
 -- A round: the amount against the invoice's where the edition holds it (02 b), right after the ownership check; then negotiable
 abbrev pub roundChecks : ℕ → SeenDeal → ℕ → Terms → ℕ → SeenInvoice → List Check
-roundChecks e s now t round paper = within (holdsAmount e) paper t ∷ negotiable roundLimit (s .row .negotiation) (pending (s .row)) now round
+roundChecks e s now t round paper = within (holdsAmount e) paper t ∷ negotiable (roundLimit e) (s .row .negotiation) (pending (s .row)) now round
 
 -- Amend: caller blacklisted 2; terms 3; 4; not lender 6; invoice 4, where the edition holds the amount (02 b); a round's
 abbrev pub amendChecks : ℕ → SeenDeal → ℕ → ℕ → Account → Terms → ℕ → SeenInvoice → List Check

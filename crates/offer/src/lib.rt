@@ -136,18 +136,19 @@ impl Deal {
         }
     }
 
-    // Ranges, a listed status, and a sound negotiation and schedule.
-    pub fn sound(self) -> bool
-        ensures tested { λ r. ⌜ r ≡ dealSound self ⌝ }
+    // Ranges, a listed status, and a sound negotiation and schedule, by the book's edition.
+    pub fn sound(self, edition: u32) -> bool
+        ensures tested { λ r. ⌜ r ≡ dealSound edition self ⌝ }
         ensures whole { λ r. ⌜ Whole roundSlots (self .negotiation) ⌝ }
     {
+        let limit = edition::round_limit(edition);
         let offer = self.offer;
         let terms = offer.terms;
         let a = terms::terms_valid(terms);
         let b = money::in_total_range(offer.repaid);
         let status = offer.status;
         let negotiation = self.negotiation;
-        let sound = negotiation.sound();
+        let sound = negotiation.sound(limit);
         let schedule = self.schedule;
         let d = terms::schedule_zero(schedule);
         let e = terms::schedule_ok(schedule);
@@ -169,12 +170,12 @@ impl Deal {
     }
 
     // Whether the row can stand at a place: sound where the place is in use, else zero.
-    pub fn fits(self, used: bool) -> bool
-        ensures tested { λ r. ⌜ r ≡ cond used (dealSound self) (dealZero self) ⌝ }
+    pub fn fits(self, edition: u32, used: bool) -> bool
+        ensures tested { λ r. ⌜ r ≡ cond used (dealSound edition self) (dealZero self) ⌝ }
         ensures whole { λ r. ⌜ Whole roundSlots (self .negotiation) ⌝ }
     {
         if used {
-            return self.sound();
+            return self.sound(edition);
         }
         self.zero()
     }
@@ -383,7 +384,8 @@ impl SeenDeal {
         }
         let status = offer.status;
         let negotiation = row.negotiation;
-        negotiation.refusal(status == terms::PENDING, now, round)
+        let limit = edition::round_limit(edition);
+        negotiation.refusal(limit, status == terms::PENDING, now, round)
     }
 
     // The number of what stands against the originator's round, 0 where nothing does.
@@ -425,7 +427,8 @@ impl SeenDeal {
         let offer = row.offer;
         let status = offer.status;
         let negotiation = row.negotiation;
-        negotiation.refusal(status == terms::PENDING, now, round)
+        let limit = edition::round_limit(edition);
+        negotiation.refusal(limit, status == terms::PENDING, now, round)
     }
 
     // The negotiation ends, as Closed or as Expired.

@@ -50,21 +50,21 @@ amount-in : (t : Terms) → termsOk t ≡ true → inAmount (t .amount) ≡ true
 unfolding termsOk
 amount-in t h = both _ _ (both _ _ (both _ _ (both _ _ h .0) .0) .0) .0
 
-amount-of : (d : Deal) → dealSound d ≡ true → inAmount (d .offer .terms .amount) ≡ true
+amount-of : (e : ℕ) (d : Deal) → dealSound e d ≡ true → inAmount (d .offer .terms .amount) ≡ true
 unfolding dealSound
-amount-of d h = amount-in (d .offer .terms) (both _ _ (both _ _ (both _ _ (both _ _ h .0) .0) .0) .0)
+amount-of e d h = amount-in (d .offer .terms) (both _ _ (both _ _ (both _ _ (both _ _ h .0) .0) .0) .0)
 
-deals-test : (b : Book) → bookTest b ≡ true → dealsTest (b .offers) ≡ true
+deals-test : (b : Book) → bookTest b ≡ true → dealsTest (b .settings .edition) (b .offers) ≡ true
 unfolding bookTest
 deals-test b e =
     let rows = accountsTest (b .accounts) && invoicesTest (b .invoices) in
-    let s = both ((rows && dealsTest (b .offers)) && totalsSound (b .totals)) (settingsSound (b .settings)) e in
-    let t = both (rows && dealsTest (b .offers)) (totalsSound (b .totals)) (s .0) in
-    both rows (dealsTest (b .offers)) (t .0) .1
+    let s = both ((rows && dealsTest (b .settings .edition) (b .offers)) && totalsSound (b .totals)) (settingsSound (b .settings)) e in
+    let t = both (rows && dealsTest (b .settings .edition) (b .offers)) (totalsSound (b .totals)) (s .0) in
+    both rows (dealsTest (b .settings .edition) (b .offers)) (t .0) .1
 
-rows-test : (t : Offers) → dealsTest t ≡ true → rowsTest dealSound dealZero noDeal 64 (t .count) (rowsOf t) ≡ true
+rows-test : (n : ℕ) (t : Offers) → dealsTest n t ≡ true → rowsTest (dealSound n) dealZero noDeal 64 (t .count) (rowsOf t) ≡ true
 unfolding dealsTest
-rows-test t e = both (idsTest 64 (t .count) (t .ids)) (rowsTest dealSound dealZero noDeal 64 (t .count) (rowsOf t)) e .1
+rows-test n t e = both (idsTest 64 (t .count) (t .ids)) (rowsTest (dealSound n) dealZero noDeal 64 (t .count) (rowsOf t)) e .1
 
 module _ {b : Book} (k : Shelved b) where
   pub offers-held : offersOf (offersOnly (b .offers)) ≡ offersIn (modelOf b)
@@ -77,18 +77,19 @@ module _ {b : Book} (k : Shelved b) where
 
   pub amounts-held : bookTest b ≡ true → InRange (offersOnly (b .offers))
   amounts-held e i h =
+      let n = b .settings .edition in
       let t = b .offers in
-      let row = all-at (rowTest dealSound dealZero noDeal (t .count) (rowsOf t)) 64 (rows-test t (deals-test b e)) i (omega (arith, k .offers .shelf .few)) in
-      let s = used (t .count) i (dealSound (getD (rowsOf t) i noDeal)) (dealZero (getD (rowsOf t) i noDeal)) row h in
+      let row = all-at (rowTest (dealSound n) dealZero noDeal (t .count) (rowsOf t)) 64 (rows-test n t (deals-test b e)) i (omega (arith, k .offers .shelf .few)) in
+      let s = used (t .count) i (dealSound n (getD (rowsOf t) i noDeal)) (dealZero (getD (rowsOf t) i noDeal)) row h in
       let d = getD-join dealOf (t .rows) (t .negotiations) (t .schedules) (k .offers .level) i noOffer noNegotiation noSchedule in
-      ap (λ (x : Deal). inAmount (x .offer .terms .amount)) (sym d) ∙ amount-of (getD (rowsOf t) i noDeal) s
+      ap (λ (x : Deal). inAmount (x .offer .terms .amount)) (sym d) ∙ amount-of n (getD (rowsOf t) i noDeal) s
 
 -- on a sound row that has a schedule the due rule's arguments are in range, so the installment due is module 1's number
 or-else : (s t : Bool) → s || t ≡ true → s ≡ false → t ≡ true
 or-else true t h e = cc
 or-else false t h e = h
 
-pub due-number : (d : Deal) (now : ℕ) → DealKept d → scheduleZero (d .schedule) ≡ false
+pub due-number : {e : ℕ} (d : Deal) (now : ℕ) → DealKept e d → scheduleZero (d .schedule) ≡ false
     → dueIn d now ≡ numberOf (d .schedule) (d .offer .status) (d .offer .repaid) now
 unfolding dueIn dueOf dueArguments
 due-number d now h z =

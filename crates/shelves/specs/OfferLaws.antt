@@ -38,7 +38,7 @@ deals-keeping = record {
   back = λ {t} f. ap (λ r. tableOf (padded 0 key 64 t) r (length t)) (rows-stored t) ∙ table-stored noDeal 64 t (f .fits);
 }
 
-module _ (a : Offers) (w : WholeDeals a) (t : dealsTest a ≡ true) where
+module _ (e : ℕ) (a : Offers) (w : WholeDeals a) (t : dealsTest e a ≡ true) where
   even : Level (a .rows) (a .negotiations) (a .schedules)
   even = level (a .rows) (a .negotiations) (a .schedules) (w .rows-long) (w .negotiations-long) (w .schedules-long)
 
@@ -51,21 +51,21 @@ module _ (a : Offers) (w : WholeDeals a) (t : dealsTest a ≡ true) where
   pub deals-shelf : DealShelf a
   unfolding dealsTest
   deals-shelf = record {
-    shelf = shelf-of dealSound dealZero noDeal 64 (a .count) (a .ids) (rowsOf a) (w .ids-long) rows-long t (λ i h. deal-zero _ (whole-at i h));
+    shelf = shelf-of (dealSound e) dealZero noDeal 64 (a .count) (a .ids) (rowsOf a) (w .ids-long) rows-long t (λ i h. deal-zero _ (whole-at i h));
     level = even;
   }
 
-  pub deals-sound : All DealKept (dealsOf a)
+  pub deals-sound : All (DealKept e) (dealsOf a)
   unfolding dealsTest
-  deals-sound = rows-of dealSound dealZero noDeal 64 (a .count) (a .ids) (rowsOf a) (w .ids-long) rows-long t DealKept (λ i h e. record { test = e; whole = whole-at i h })
+  deals-sound = rows-of (dealSound e) dealZero noDeal 64 (a .count) (a .ids) (rowsOf a) (w .ids-long) rows-long t (DealKept e) (λ i h k. record { test = k; whole = whole-at i h })
 
-pub deals-pass : {a : Offers} → DealShelf a → All DealKept (dealsOf a) → dealsTest a ≡ true
+pub deals-pass : (e : ℕ) {a : Offers} → DealShelf a → All (DealKept e) (dealsOf a) → dealsTest e a ≡ true
 unfolding dealsTest
-deals-pass {a} s o = passes dealSound dealZero noDeal no-deal-zero (s .shelf) (all-map DealKept (λ d. dealSound d ≡ true) (dealsOf a) (λ d k. k .test) o)
+deals-pass e {a} s o = passes (dealSound e) dealZero noDeal no-deal-zero (s .shelf) (all-map (DealKept e) (λ d. dealSound e d ≡ true) (dealsOf a) (λ d k. k .test) o)
 
 -- the arrays are as long as their types say, and every negotiation there has all its rounds
-pub deals-whole : {a : Offers} → DealShelf a → All DealKept (dealsOf a) → WholeDeals a
-deals-whole {a} s o =
+pub deals-whole : (e : ℕ) {a : Offers} → DealShelf a → All (DealKept e) (dealsOf a) → WholeDeals a
+deals-whole e {a} s o =
     let whole-row : Deal → Type 0 = λ d. Whole roundSlots (d .negotiation) in
     let long = offers-long s in
     record {
@@ -74,5 +74,5 @@ deals-whole {a} s o =
       negotiations-long = s .level .second ∙ long;
       schedules-long = s .level .third ∙ long;
       whole = λ k h. rw (getD-join dealOf (a .rows) (a .negotiations) (a .schedules) (s .level) k noOffer noNegotiation noSchedule) at
-          (everywhere whole-row (s .shelf) (all-map DealKept whole-row (dealsOf a) (λ d q. q .whole) o) none-whole k);
+          (everywhere whole-row (s .shelf) (all-map (DealKept e) whole-row (dealsOf a) (λ d q. q .whole) o) none-whole k);
     }

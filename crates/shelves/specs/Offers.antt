@@ -36,9 +36,9 @@ pub record DealShelf (a : Offers) : Type 0 where
   pub shelf : Shelf noDeal 64 (a .ids) (rowsOf a) (a .count)
   pub level : Level (a .rows) (a .negotiations) (a .schedules)
 
--- at most 64 rows, ids that ascend strictly, numbers in range, codes listed, unused rows zero
-unfoldable pub dealsTest : Offers → Bool
-dealsTest a = idsTest 64 (a .count) (a .ids) && rowsTest dealSound dealZero noDeal 64 (a .count) (rowsOf a)
+-- at most 64 rows, ids that ascend strictly, numbers in range, codes listed, rounds within the edition's limit, unused rows zero
+unfoldable pub dealsTest : ℕ → Offers → Bool
+dealsTest e a = idsTest 64 (a .count) (a .ids) && rowsTest (dealSound e) dealZero noDeal 64 (a .count) (rowsOf a)
 
 -- what the types of the arrays say
 pub record WholeDeals (a : Offers) : Type 0 where

@@ -251,9 +251,9 @@ impl Offers {
         }
     }
 
-    // Whether ids ascend, rows are sound, and the places past the count are zero.
-    pub fn sound(self) -> bool
-        ensures tested { λ r. ⌜ r ≡ dealsTest self ⌝ }
+    // Whether ids ascend, rows are sound in the book's edition, and the places past the count are zero.
+    pub fn sound(self, edition: u32) -> bool
+        ensures tested { λ r. ⌜ r ≡ dealsTest edition self ⌝ }
         ensures whole { λ r. ⌜ WholeDeals self ⌝ }
     {
         let count = self.count;
@@ -269,7 +269,7 @@ impl Offers {
                 negotiation: g,
                 schedule: p,
             };
-            let fits = d.fits(i < count);
+            let fits = d.fits(edition, i < count);
             ok = ok & fits;
             i += 1;
         }

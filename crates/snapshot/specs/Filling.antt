@@ -92,7 +92,7 @@ module _ (a : Codec Round) (s : List ℕ) (k : Cursor) where
     rows-are = set-next noRound (λ r. r) (g .list) r (g .filling .count) h (g .rows-are);
   }
 
-pub rounds-done : {a : Codec Round} {s : List ℕ} {c k d : Cursor} {i tag : ℕ} {rs : List Round} → Count s c tag roundSlots k → i ≡ k .x → FillingRounds a s k i rs d → Reads laidRounds (rows tag roundSlots a) s c (rs, k .x) d
+pub rounds-done : {a : Codec Round} {s : List ℕ} {c k d : Cursor} {i tag limit : ℕ} {rs : List Round} → Count s c tag limit k → i ≡ k .x → FillingRounds a s k i rs d → Reads laidRounds (rows tag limit a) s c (rs, k .x) d
 rounds-done {rs = rs} m e g = record {
   all = g .list;
   takes = fill-done m e (g .filling);

@@ -1,11 +1,12 @@
--- THE TABLE: the fields of a snapshot in their order (docs/SNAPSHOT.md). A field more is a line more; its laws come with it.
-use mathlib.Core.Path.{_≡_, refl}
+-- THE TABLE: the fields of a snapshot in their order, by the edition (docs/SNAPSHOT.md). A field more is a line more; its laws come with it.
+use mathlib.Core.Path.{_≡_, refl, sym, ap}
 use mathlib.Core.Bool.{Bool}
 use mathlib.Core.List.{List}
-use Prim.Native.Nat.{ℕ}
+use Prim.Native.Nat.{ℕ, _≤_}
+use native.Mathlib.Omega.{arith}
 use lib.IntN.{ℤ}
 use lib.ListN.{length, take}
-use Rattle.edition.specs.Edition.{snapshotEdition}
+use Rattle.edition.specs.Edition.{listed, roundLimit}
 use Rattle.table.specs.Tables.{Table}
 use Rattle.table.specs.Padded.{padded}
 use Rattle.terms.specs.declared.Terms.{Terms}
@@ -20,22 +21,23 @@ use Rattle.settings.specs.declared.Settings.{Settings}
 use Rattle.totals.specs.declared.Totals.{Totals}
 use Rattle.offer.specs.declared.Offer.{Offer}
 use Rattle.offer.specs.declared.Deal.{Deal}
+use Rattle.offer.specs.Kept.{limit-in-slots}
 use Rattle.rules.specs.Model.{Model}
-use Rattle.codec.specs.Codec.{Codec, _then_, via, rows}
+use Rattle.codec.specs.Codec.{Codec, _then_, via, rows, led}
 use Rattle.codec.specs.Columns.{whole, half, signed, flag}
 use Rattle.snapshot.specs.Rounds.{rounds-back}
 
 -- ── What the admins set, and the book's totals ────────────────────
-abbrev pub settingsFrom : ℕ × (ℕ × (ℕ × (Bool × (Bool × ℕ)))) → Settings
-settingsFrom (window, (seats, (threshold, (paused, (appointed, repayer))))) =
-    record { window = window; repayer = repayer; seats = seats; threshold = threshold; edition = snapshotEdition; appointed = appointed; paused = paused }
+abbrev pub settingsFrom : ℕ → ℕ × (ℕ × (ℕ × (Bool × (Bool × ℕ)))) → Settings
+settingsFrom e (window, (seats, (threshold, (paused, (appointed, repayer))))) =
+    record { window = window; repayer = repayer; seats = seats; threshold = threshold; edition = e; appointed = appointed; paused = paused }
 
 abbrev pub settingsParts : Settings → ℕ × (ℕ × (ℕ × (Bool × (Bool × ℕ))))
 settingsParts s = (s .window, (s .seats, (s .threshold, (s .paused, (s .appointed, s .repayer)))))
 
-unfoldable pub settings : Codec Settings
-settings =
-    via settingsFrom settingsParts
+unfoldable pub settings : ℕ → Codec Settings
+settings e =
+    via (settingsFrom e) settingsParts
     (whole 0x11
     then half 0x0d
     then half 0x0e
@@ -154,21 +156,21 @@ round =
     then whole 0x01)
     (λ x _. refl)
 
--- the rounds in use; the places after them are zero
+-- the rounds in use, at most as many as the edition has; the places after them are zero
 abbrev pub negotiationFrom : ℕ × (ℕ × List Round) → Negotiation
 negotiationFrom (deadline, (outcome, rs)) = record { rounds = padded noRound (λ r. r) roundSlots rs; deadline = deadline; len = length rs; outcome = outcome }
 
 abbrev pub negotiationParts : Negotiation → ℕ × (ℕ × List Round)
 negotiationParts n = (n .deadline, (n .outcome, take (n .len) (n .rounds)))
 
-unfoldable pub negotiation : Codec Negotiation
+unfoldable pub negotiation : ℕ → Codec Negotiation
 unfolding _then_ rows
-negotiation =
+negotiation e =
     via negotiationFrom negotiationParts
     (whole 0x95
     then half 0x96
-    then rows 0x97 roundSlots round)
-    (λ x f. rounds-back (x .0) (x .1 .0) (x .1 .1) (f .1 .1 .0 .0))
+    then rows 0x97 (roundLimit e) round)
+    (λ x f. rounds-back (x .0) (x .1 .0) (x .1 .1) (omega (arith, f .1 .1 .0 .0, limit-in-slots e)))
 
 abbrev pub scheduleFrom : ℕ × (ℕ × (ℤ × ℕ)) → Schedule
 scheduleFrom (count, (code, (installment, first))) = record { count = count; code = code; installment = installment; first = first }
@@ -191,12 +193,12 @@ dealFrom (id, (o, (n, s))) = (id, record { offer = o; negotiation = n; schedule 
 abbrev pub dealParts : ℕ × Deal → ℕ × (Offer × (Negotiation × Schedule))
 dealParts (id, d) = (id, (d .offer, (d .negotiation, d .schedule)))
 
-unfoldable pub deal : Codec (ℕ × Deal)
-deal =
+unfoldable pub deal : ℕ → Codec (ℕ × Deal)
+deal e =
     via dealFrom dealParts
     (whole 0x03
     then offer
-    then negotiation
+    then negotiation e
     then schedule)
     (λ x _. refl)
 
@@ -207,12 +209,24 @@ modelFrom (s, (t, (a, (i, o)))) = record { accounts = a; invoices = i; offers = 
 abbrev pub modelParts : Model → Settings × (Totals × (Table Account × (Table Invoice × Table Deal)))
 modelParts m = (m .settings, (m .totals, (m .accounts, (m .invoices, m .offers))))
 
-unfoldable pub layout : Codec Model
-layout =
+-- the fields of an edition
+unfoldable pub fields : ℕ → Codec Model
+fields e =
     via modelFrom modelParts
-    (settings
+    (settings e
     then totals
     then rows 0x70 64 account
     then rows 0x80 64 invoice
-    then rows 0x90 64 deal)
+    then rows 0x90 64 (deal e))
     (λ x _. refl)
+
+abbrev pub editionIn : Model → ℕ
+editionIn m = m .settings .edition
+
+pub of-edition : (e : ℕ) (m : Model) → fields e .Fits m → editionIn m ≡ e
+unfolding fields settings _then_ via
+of-edition e m f = sym (ap (λ (s : Settings). s .edition) (f .0 .0 .1))
+
+-- the edition first, and its fields
+unfoldable pub layout : Codec Model
+layout = led 0x10 listed editionIn fields of-edition

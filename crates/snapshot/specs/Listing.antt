@@ -70,7 +70,7 @@ pub table-whole : {A : Type 0} {a : Codec (ℕ × A)} {ink : Bool} (ids : List �
 table-whole ids rs {n = n} tag most e h k z w g = list-done tag most (length-table ids rs n h k) z w (rw e at g)
 
 -- ── Offers, whose rows are kept in three arrays ───────────────────
-module _ (a : Offers) (e : dealsTest a ≡ true) where
+module _ (n : ℕ) (a : Offers) (e : dealsTest n a ≡ true) where
   pub few-deals : a .count ≤ 64
   unfolding dealsTest
   few-deals = leb-true (a .count) 64 (both _ _ (both _ _ e .0) .0)
@@ -86,9 +86,9 @@ module _ (a : Offers) (e : dealsTest a ≡ true) where
       pub deal-at : (d : Deal) → getD (rowsOf a) i d ≡ dealOf (getD (a .rows) i o) (getD (a .negotiations) i t) (getD (a .schedules) i s)
       deal-at d = join-at dealOf (a .rows) (a .negotiations) (a .schedules) even i (omega (arith, x, few-deals, h)) d o t s
 
-      pub deal-sound : dealSound (dealOf (getD (a .rows) i o) (getD (a .negotiations) i t) (getD (a .schedules) i s)) ≡ true
+      pub deal-sound : dealSound n (dealOf (getD (a .rows) i o) (getD (a .negotiations) i t) (getD (a .schedules) i s)) ≡ true
       unfolding dealsTest
       deal-sound =
-          let r : rowsTest dealSound dealZero noDeal 64 (a .count) (rowsOf a) ≡ true = both (idsTest 64 (a .count) (a .ids)) (rowsTest dealSound dealZero noDeal 64 (a .count) (rowsOf a)) e .1 in
+          let r : rowsTest (dealSound n) dealZero noDeal 64 (a .count) (rowsOf a) ≡ true = both (idsTest 64 (a .count) (a .ids)) (rowsTest (dealSound n) dealZero noDeal 64 (a .count) (rowsOf a)) e .1 in
           let x = getD (rowsOf a) i noDeal in
-          rw (← deal-at noDeal) (used (a .count) i (dealSound x) (dealZero x) (all-at (rowTest dealSound dealZero noDeal (a .count) (rowsOf a)) 64 r i (omega (arith, few-deals, h))) h)
+          rw (← deal-at noDeal) (used (a .count) i (dealSound n x) (dealZero x) (all-at (rowTest (dealSound n) dealZero noDeal (a .count) (rowsOf a)) 64 r i (omega (arith, few-deals, h))) h)

@@ -14,9 +14,8 @@ use Rattle.book.specs.Stored.{stored, bookTest}
 use Rattle.soundness.specs.Sound.{fresh-model}
 use Rattle.soundness.specs.Books.{book-sound}
 use Rattle.codec.specs.Codec.{Got, got, no}
-use Rattle.codec.specs.Whole.{Reading, loaded, refused, closing, readingOf}
-use Rattle.snapshot.specs.Layout.{layout}
-use Rattle.snapshot.specs.Snapshot.{soundIn, modelIn, loadedAs, reading}
+use Rattle.codec.specs.Whole.{Reading, loaded, refused, closing}
+use Rattle.snapshot.specs.Snapshot.{soundIn, bookIn, modelIn, loadedAs, reading}
 
 pub fresh-sound : bookTest (stored (freshModel firstEdition)) ≡ true
 unfolding listed
@@ -35,5 +34,5 @@ closed k (got m n v) = chosen m n (eqb n k) (v && soundIn m) (and-right v (sound
 closed k (no r p) = fresh-sound
 
 pub reading-sound : (s : List ℕ) → bookTest (reading s .book) ≡ true
-unfolding reading modelIn readingOf
-reading-sound s = closed (length s) (layout .into s 0)
+unfolding reading modelIn
+reading-sound s = closed (length s) (bookIn s)

@@ -8,6 +8,7 @@ use lib.Dec.{leb}
 use lib.ListN.{length, getD, take, replicate}
 use lib.Seq.{length-take-le}
 use borrow.Author.Tests.{leb-true}
+use Rattle.edition.specs.Edition.{roundLimit}
 use Rattle.money.specs.Range.{inTotal}
 use Rattle.money.specs.Facts.{both}
 use Rattle.terms.specs.Terms.{termsOk}
@@ -52,33 +53,34 @@ module _ {A : Type 0} (d : A) where
       rw (← e) (ap (λ w. d ∷ w) (pad-take n rs 0 (omega arith) (omega arith) (λ i p q. f (suc i) (omega arith) (omega arith))))
   pad-take (suc n) (x ∷ rs) (suc c) l h f = ap (λ w. x ∷ w) (pad-take n rs c (omega arith) (omega arith) (λ i p q. f (suc i) (omega arith) (omega arith)))
 
-pub few-rounds : (n : Negotiation) → negotiationSound roundSlots n ≡ true → n .len ≤ roundSlots
-unfolding negotiationSound
-few-rounds n e = leb-true (n .len) roundSlots (both _ _ (both _ _ e .0) .0)
+module _ (limit : ℕ) (n : Negotiation) (e : negotiationSound roundSlots limit n ≡ true) where
+  pub few-rounds : n .len ≤ limit
+  unfolding negotiationSound
+  few-rounds = leb-true (n .len) limit (both _ _ (both _ _ e .0) .0)
 
-rest-zero : (n : Negotiation) → negotiationSound roundSlots n ≡ true → (i : ℕ) → n .len ≤ i → i < roundSlots → getD (n .rounds) i noRound ≡ noRound
-unfolding negotiationSound
-rest-zero n e i h k =
-    let few = leb (n .len) roundSlots in
-    let all = rowsTest roundSound roundZero noRound roundSlots (n .len) (n .rounds) in
-    let r = both few all (both (few && all) _ e .0) .1 in
-    let x = getD (n .rounds) i noRound in
-    round-zero x (free (n .len) i (roundSound x) (roundZero x) (all-at (rowTest roundSound roundZero noRound (n .len) (n .rounds)) roundSlots r i k) h)
+  rest-zero : (i : ℕ) → n .len ≤ i → i < roundSlots → getD (n .rounds) i noRound ≡ noRound
+  unfolding negotiationSound
+  rest-zero i h k =
+      let few = leb (n .len) limit in
+      let all = rowsTest roundSound roundZero noRound roundSlots (n .len) (n .rounds) in
+      let r = both few all (both (few && all) _ e .0) .1 in
+      let x = getD (n .rounds) i noRound in
+      round-zero x (free (n .len) i (roundSound x) (roundZero x) (all-at (rowTest roundSound roundZero noRound (n .len) (n .rounds)) roundSlots r i k) h)
 
-pub same-rounds : (n : Negotiation) → length (n .rounds) ≡ roundSlots → negotiationSound roundSlots n ≡ true
-    → _≡_ {A = Negotiation} (record { rounds = padded noRound (λ r. r) roundSlots (take (n .len) (n .rounds)); deadline = n .deadline; len = length (take (n .len) (n .rounds)); outcome = n .outcome }) n
-same-rounds n l e =
-    made (pad-take noRound roundSlots (n .rounds) (n .len) l (few-rounds n e) (rest-zero n e)) (length-take-le (n .len) (n .rounds) (omega (arith, l, few-rounds n e)))
-  where
-    made : {rs : List Round} {k : ℕ} → rs ≡ n .rounds → k ≡ n .len → _≡_ {A = Negotiation} (record { rounds = rs; deadline = n .deadline; len = k; outcome = n .outcome }) n
-    made p q = rw (p, q)
+  pub same-rounds : limit ≤ roundSlots → length (n .rounds) ≡ roundSlots
+      → _≡_ {A = Negotiation} (record { rounds = padded noRound (λ r. r) roundSlots (take (n .len) (n .rounds)); deadline = n .deadline; len = length (take (n .len) (n .rounds)); outcome = n .outcome }) n
+  same-rounds m l =
+      made (pad-take noRound roundSlots (n .rounds) (n .len) l (omega (arith, few-rounds, m)) rest-zero) (length-take-le (n .len) (n .rounds) (omega (arith, l, few-rounds, m)))
+    where
+      made : {rs : List Round} {k : ℕ} → rs ≡ n .rounds → k ≡ n .len → _≡_ {A = Negotiation} (record { rounds = rs; deadline = n .deadline; len = k; outcome = n .outcome }) n
+      made p q = rw (p, q)
 
-pub deal-rounds : (d : Deal) → dealSound d ≡ true → negotiationSound roundSlots (d .negotiation) ≡ true
+pub deal-rounds : (e : ℕ) (d : Deal) → dealSound e d ≡ true → negotiationSound roundSlots (roundLimit e) (d .negotiation) ≡ true
 unfolding dealSound
-deal-rounds d e =
+deal-rounds e d h =
     let s = (termsOk (d .offer .terms) && inTotal (d .offer .repaid)) && statusListed (d .offer .status) in
-    let n = negotiationSound roundSlots (d .negotiation) in
-    both s n (both (s && n) (scheduleZero (d .schedule) || scheduleOk (d .schedule)) e .0) .1
+    let n = negotiationSound roundSlots (roundLimit e) (d .negotiation) in
+    both s n (both (s && n) (scheduleZero (d .schedule) || scheduleOk (d .schedule)) h .0) .1
 
 -- a negotiation made of the rounds that were read
 pub laid-rounds : (deadline outcome : ℕ) (all : List Round) {rs : List Round} {n : ℕ} → _≡_ {A = List Round × ℕ} (rs, n) (padded noRound (λ r. r) roundSlots all, length all)

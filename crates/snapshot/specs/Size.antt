@@ -2,15 +2,17 @@
 use Prim.Native.Nat.{ℕ, _≤_}
 use native.Mathlib.Omega.{arith}
 use lib.ListN.{length}
+use Rattle.edition.specs.Edition.{roundLimit}
+use Rattle.offer.specs.Kept.{limit-in-slots}
 use Rattle.rules.specs.Model.{Model}
-use Rattle.codec.specs.Codec.{_then_}
-use Rattle.codec.specs.Weight.{Weighs, weighs-column, weighs-then, weighs-via, weighs-signed, weighs-flag, weighs-rows}
+use Rattle.codec.specs.Codec.{_then_, rows}
+use Rattle.codec.specs.Weight.{Weighs, weighs-less, weighs-led, weighs-column, weighs-then, weighs-via, weighs-signed, weighs-flag, weighs-rows}
 use Rattle.snapshot.specs.Snapshot.{snapshotMost}
-use Rattle.snapshot.specs.Layout.{settings, totals, purse, account, invoice, terms, offer, round, negotiation, schedule, deal, layout}
+use Rattle.snapshot.specs.Layout.{settings, totals, purse, account, invoice, terms, offer, round, negotiation, schedule, deal, fields, layout}
 
-weighs-settings : Weighs settings 66
+weighs-settings : (e : ℕ) → Weighs (settings e) 66
 unfolding settings
-weighs-settings = weighs-via _ _ _ (weighs-then (weighs-column _ _) (weighs-then (weighs-column _ _) (weighs-then (weighs-column _ _) (weighs-then (weighs-flag _) (weighs-then (weighs-flag _) (weighs-column _ _))))))
+weighs-settings e = weighs-via _ _ _ (weighs-then (weighs-column _ _) (weighs-then (weighs-column _ _) (weighs-then (weighs-column _ _) (weighs-then (weighs-flag _) (weighs-then (weighs-flag _) (weighs-column _ _))))))
 
 weighs-totals : Weighs totals 44
 unfolding totals
@@ -40,18 +42,26 @@ weighs-round : Weighs round 55
 unfolding round
 weighs-round = weighs-via _ _ _ (weighs-then (weighs-column _ _) (weighs-then weighs-terms (weighs-column _ _)))
 
-weighs-negotiation : Weighs negotiation 693
+-- in no edition more than all the places for rounds
+weighs-rounds : (e : ℕ) → Weighs (rows 0x97 (roundLimit e) round) 891
+weighs-rounds e = weighs-less (weighs-rows weighs-round 0x97 (roundLimit e)) (omega (arith, limit-in-slots e))
+
+weighs-negotiation : (e : ℕ) → Weighs (negotiation e) 913
 unfolding negotiation
-weighs-negotiation = weighs-via _ _ _ (weighs-then (weighs-column _ _) (weighs-then (weighs-column _ _) (weighs-rows weighs-round _ _)))
+weighs-negotiation e = weighs-via _ _ _ (weighs-then (weighs-column _ _) (weighs-then (weighs-column _ _) (weighs-rounds e)))
 
 weighs-schedule : Weighs schedule 44
 unfolding schedule
 weighs-schedule = weighs-via _ _ _ (weighs-then (weighs-column _ _) (weighs-then (weighs-column _ _) (weighs-then (weighs-signed _) (weighs-column _ _))))
 
-weighs-deal : Weighs deal 847
+weighs-deal : (e : ℕ) → Weighs (deal e) 1067
 unfolding deal
-weighs-deal = weighs-via _ _ _ (weighs-then (weighs-column _ _) (weighs-then weighs-offer (weighs-then weighs-negotiation weighs-schedule)))
+weighs-deal e = weighs-via _ _ _ (weighs-then (weighs-column _ _) (weighs-then weighs-offer (weighs-then (weighs-negotiation e) weighs-schedule)))
+
+weighs-fields : (e : ℕ) → Weighs (fields e) 76879
+unfolding fields
+weighs-fields e = weighs-via _ _ _ (weighs-then (weighs-settings e) (weighs-then weighs-totals (weighs-then (weighs-rows weighs-account _ _) (weighs-then (weighs-rows weighs-invoice _ _) (weighs-rows (weighs-deal e) _ _)))))
 
 pub weighs-layout : Weighs layout snapshotMost
 unfolding layout
-weighs-layout = weighs-via _ _ _ (weighs-then weighs-settings (weighs-then weighs-totals (weighs-then (weighs-rows weighs-account _ _) (weighs-then (weighs-rows weighs-invoice _ _) (weighs-rows weighs-deal _ _)))))
+weighs-layout = weighs-led _ _ _ _ _ weighs-fields

@@ -1,4 +1,4 @@
--- Document 02, request a: what writing a book answers and leaves, and what reading bytes answers.
+-- Document 02, requests a and f: what writing a book answers and leaves, and what reading bytes answers.
 use mathlib.Core.Path.{_≡_}
 use mathlib.Core.Bool.{Bool}
 use mathlib.Core.List.{List, _++_}
@@ -7,12 +7,14 @@ use lib.Dec.{leb}
 use lib.ListN.{length, drop}
 use Rattle.refusal.specs.Choice.{pick}
 use Rattle.refusal.specs.Refusal.{number, bufferShort, bookUnsound}
-use Rattle.edition.specs.Edition.{firstEdition}
+use Rattle.edition.specs.Edition.{firstEdition, unnamedEdition}
 use Rattle.rules.specs.Model.{Model, freshModel}
 use Rattle.book.specs.declared.Book.{Book}
 use Rattle.book.specs.Stored.{modelOf, stored, bookTest, Shelved}
-use Rattle.codec.specs.Whole.{Reading, loaded, refused, readingOf}
-use Rattle.snapshot.specs.Layout.{layout, settingsFrom, settingsParts}
+use Rattle.wire.specs.Field.{begins}
+use Rattle.codec.specs.Codec.{Got}
+use Rattle.codec.specs.Whole.{Reading, loaded, refused, closing}
+use Rattle.snapshot.specs.Layout.{fields, layout}
 use Rattle.snapshot.specs.declared.Loaded.{Loaded}
 use Rattle.snapshot.specs.declared.Written.{Written}
 
@@ -31,19 +33,15 @@ writing b l =
     (pick (leb (length w) (length l)) (written 0 (length w), w ++ drop (length w) l) (written (number bufferShort) 0, l))
     (written (number bookUnsound) 0, l)
 
--- the book that is read back: the same, in the snapshot's edition
-abbrev pub readBack : Model → Model
-readBack m = record { accounts = m .accounts; invoices = m .invoices; offers = m .offers; totals = m .totals; settings = settingsFrom (settingsParts (m .settings)) }
-
 -- a full book's has so many bytes
 abbrev pub snapshotMost : ℕ
-snapshotMost = 62799
+snapshotMost = 76890
 
 -- what `write` ensures: the answer and the buffer; of a book that was written, that each number fits its field and each array is a table; and that a buffer which holds a full book's is
 -- never short
 pub record Saved (b : Book) (l : List ℕ) (r : Written) (m : List ℕ) : Type 0 where
   pub is : (r, m) ≡ writing b l
-  pub fits : r .number ≡ 0 → layout .Fits (readBack (modelOf b))
+  pub fits : r .number ≡ 0 → layout .Fits (modelOf b)
   pub shelved : r .number ≡ 0 → Shelved b
   pub room : snapshotMost ≤ length l → r .number ≡ number bufferShort → ⊥
 
@@ -51,9 +49,16 @@ pub record Saved (b : Book) (l : List ℕ) (r : Written) (m : List ℕ) : Type 0
 unfoldable pub soundIn : Model → Bool
 soundIn m = bookTest (stored m)
 
+-- the edition that the first field names, 13 at 0 where it is not listed; without that field the one that names none
+abbrev pub named : List ℕ → Bool
+named s = begins 0x10 8 s
+
+unfoldable pub bookIn : List ℕ → Got Model
+bookIn s = pick (named s) (layout .into s 0) (fields unnamedEdition .into s 0)
+
 -- 13 at the first wrong field, 15 at once for a count past its limit; with all fields there, 15 for a book that is not sound, else its model
 unfoldable pub modelIn : List ℕ → Reading Model
-modelIn s = readingOf layout soundIn s
+modelIn s = closing soundIn (length s) (bookIn s)
 
 -- a refusal comes with the first edition's fresh book
 unfoldable pub loadedAs : Reading Model → Loaded

@@ -1,17 +1,20 @@
--- THE BYTE RULES: reading what was written gives the same book, and accepted bytes are just those that writing their book gives.
-use mathlib.Core.Path.{_≡_, refl, sym, ap, _∙_}
+-- THE BYTE RULES: reading what was written gives the same book, and accepted bytes, with the edition's field before them where they have none, are just those that writing their book gives.
+use mathlib.Core.Path.{_≡_, refl, sym, ap, subst, _∙_}
 use mathlib.Core.Bool.{Bool, true, false, _&&_}
 use mathlib.Core.List.{List, [], _∷_, _++_, map}
 use Prim.Native.Nat.{ℕ, zero, suc, _≤_, _<_}
 use native.Mathlib.Omega.{arith}
 use lib.Dec.{leb}
 use lib.ListN.{length, getD, take, drop, length-map}
-use lib.Seq.{take-append-seam}
+use lib.Seq.{take-append-seam, drop-at}
 use borrow.Author.Tests.{le-leb}
 use Rattle.refusal.specs.Choice.{pick}
-use Rattle.refusal.specs.ChoiceLaws.{pick-on}
+use Rattle.refusal.specs.ChoiceLaws.{pick-on, pick-off}
 use Rattle.refusal.specs.Refusal.{number, bufferShort, bookUnsound}
-use Rattle.edition.specs.Edition.{listed, snapshotEdition}
+use Rattle.edition.specs.Edition.{unnamedEdition}
+use Rattle.wire.specs.Field.{bytesOf, headOf, fieldOf, begins}
+use Rattle.wire.specs.FieldLaws.{length-field}
+use Rattle.wire.specs.FieldTrip.{begins-field}
 use Rattle.wire.specs.NumberLaws.{Bytes}
 use Rattle.table.specs.Tables.{Table, key, held}
 use Rattle.table.specs.Padded.{padded, length-padded}
@@ -24,10 +27,7 @@ use Rattle.negotiation.specs.Laws.{none-whole}
 use Rattle.negotiation.specs.declared.Negotiation.{Negotiation}
 use Rattle.account.specs.Account.{noAccount}
 use Rattle.invoice.specs.Invoice.{noInvoice}
-use Rattle.money.specs.Facts.{both}
-use Rattle.seats.specs.Seats.{thresholdOk}
-use Rattle.settings.specs.Settings.{inWindow, settingsSound}
-use Rattle.settings.specs.declared.Settings.{Settings}
+use Rattle.money.specs.Facts.{never}
 use Rattle.offer.specs.Offer.{noDeal}
 use Rattle.offer.specs.declared.Deal.{Deal}
 use Rattle.shelves.specs.Offers.{dealsOf, storedDeals}
@@ -36,13 +36,11 @@ use Rattle.rules.specs.Model.{Model}
 use Rattle.book.specs.declared.Book.{Book}
 use Rattle.book.specs.Stored.{modelOf, stored, bookTest, Shelved}
 use Rattle.book.specs.Shelving.{back}
-use Rattle.book.specs.Tested.{tests-of}
 use Rattle.soundness.specs.Books.{Typed}
-use Rattle.codec.specs.Codec.{AllFit, _then_, via, rows}
-use Rattle.codec.specs.Whole.{Reading, loaded, refused, readingOf, read-back, canonical, reading-stops}
-use Rattle.snapshot.specs.Layout.{settings, settingsFrom, settingsParts, negotiation, negotiationFrom, negotiationParts, deal, layout}
-use Rattle.snapshot.specs.Snapshot.{snapshotOf, readBack, written, writing, Saved, soundIn, modelIn, loadedAs, reading}
-use Rattle.snapshot.specs.Answers.{same-fields}
+use Rattle.codec.specs.Codec.{AllFit, column, _then_, via, rows, led}
+use Rattle.codec.specs.Whole.{Reading, loaded, refused, closing, readingOf, read-back, canonical, reading-stops}
+use Rattle.snapshot.specs.Layout.{settings, negotiation, negotiationFrom, negotiationParts, deal, fields, editionIn, of-edition, layout}
+use Rattle.snapshot.specs.Snapshot.{snapshotOf, written, writing, Saved, soundIn, named, bookIn, modelIn, loadedAs, reading}
 use Rattle.snapshot.specs.declared.Loaded.{Loaded}
 use Rattle.snapshot.specs.declared.Written.{Written}
 
@@ -50,39 +48,35 @@ use Rattle.snapshot.specs.declared.Written.{Written}
 rounds-whole : (n : Negotiation) → negotiationFrom (negotiationParts n) ≡ n → Whole roundSlots n
 rounds-whole n e = record { long = ap (λ (x : Negotiation). length (x .rounds)) (sym e) ∙ length-padded noRound (λ r. r) roundSlots (take (n .len) (n .rounds)) }
 
-deal-whole : (e : ℕ × Deal) → deal .Fits e → Whole roundSlots (e .1 .negotiation)
+deal-whole : (e : ℕ) (r : ℕ × Deal) → deal e .Fits r → Whole roundSlots (r .1 .negotiation)
 unfolding deal negotiation _then_ via
-deal-whole e f = rounds-whole (e .1 .negotiation) (f .0 .1 .1 .0 .1)
+deal-whole e r f = rounds-whole (r .1 .negotiation) (f .0 .1 .1 .0 .1)
 
-all-whole : (n : ℕ) (t : Table Deal) → AllFit deal t → (k : ℕ) → Whole roundSlots (getD (map (λ d. d .negotiation) (padded noDeal held n t)) k noNegotiation)
+all-whole : (e n : ℕ) (t : Table Deal) → AllFit (deal e) t → (k : ℕ) → Whole roundSlots (getD (map (λ d. d .negotiation) (padded noDeal held n t)) k noNegotiation)
 unfolding padded AllFit
-all-whole zero t f k = none-whole
-all-whole (suc n) [] f zero = none-whole
-all-whole (suc n) [] f (suc k) = all-whole n [] f k
-all-whole (suc n) (e ∷ t) f zero = deal-whole e (f .0)
-all-whole (suc n) (e ∷ t) f (suc k) = all-whole n t (f .1) k
+all-whole e zero t f k = none-whole
+all-whole e (suc n) [] f zero = none-whole
+all-whole e (suc n) [] f (suc k) = all-whole e n [] f k
+all-whole e (suc n) (r ∷ t) f zero = deal-whole e r (f .0)
+all-whole e (suc n) (r ∷ t) f (suc k) = all-whole e n t (f .1) k
 
-module _ (m : Model) (f : layout .Fits m) where
+module _ (e : ℕ) (m : Model) (f : fields e .Fits m) where
   -- the parts of what fits
   few-accounts : length (m .accounts) ≤ 64
-  unfolding layout _then_ via rows
+  unfolding fields _then_ via rows
   few-accounts = f .0 .1 .1 .0 .0 .0
 
   few-invoices : length (m .invoices) ≤ 64
-  unfolding layout _then_ via rows
+  unfolding fields _then_ via rows
   few-invoices = f .0 .1 .1 .1 .0 .0 .0
 
   few-offers : length (m .offers) ≤ 64
-  unfolding layout _then_ via rows
+  unfolding fields _then_ via rows
   few-offers = f .0 .1 .1 .1 .1 .0 .0
 
-  fit-offers : AllFit deal (m .offers)
-  unfolding layout _then_ via rows
+  fit-offers : AllFit (deal e) (m .offers)
+  unfolding fields _then_ via rows
   fit-offers = f .0 .1 .1 .1 .1 .1
-
-  pub of-edition : m .settings .edition ≡ snapshotEdition
-  unfolding layout settings _then_ via
-  of-edition = sym (ap (λ (s : Settings). s .edition) (f .0 .0 .1))
 
   pub typed : Typed (stored m)
   typed = record {
@@ -93,7 +87,7 @@ module _ (m : Model) (f : layout .Fits m) where
       rows-long = length-map (padded noDeal held 64 (m .offers)) (λ d. d .offer) ∙ length-padded noDeal held 64 (m .offers);
       negotiations-long = length-map (padded noDeal held 64 (m .offers)) (λ d. d .negotiation) ∙ length-padded noDeal held 64 (m .offers);
       schedules-long = length-map (padded noDeal held 64 (m .offers)) (λ d. d .schedule) ∙ length-padded noDeal held 64 (m .offers);
-      whole = λ k h. all-whole 64 (m .offers) fit-offers k;
+      whole = λ k h. all-whole e 64 (m .offers) fit-offers k;
     };
   }
 
@@ -103,69 +97,80 @@ module _ (m : Model) (f : layout .Fits m) where
   pub model-back : modelOf (stored m) ≡ m
   model-back = rw (table-stored noAccount 64 (m .accounts) few-accounts, table-stored noInvoice 64 (m .invoices) few-invoices, deals-back)
 
+-- ── The first field ───────────────────────────────────────────────
+names-edition : (m : Model) → named (layout .out m) ≡ true
+unfolding layout led bytesOf
+names-edition m = begins-field 0x10 (bytesOf 8 (editionIn m)) (fields (editionIn m) .out m) (omega arith)
+
+names-none : (e : ℕ) (m : Model) → named (fields e .out m) ≡ false
+unfolding fields settings _then_ via column fieldOf headOf begins
+names-none e m = nothing (leb 11 (length (fields e .out m)))
+  where
+    nothing : (b : Bool) → b && false ≡ false
+    nothing true = refl
+    nothing false = refl
+
+refusal-numbered : (s : List ℕ) (n at : ℕ) → modelIn s ≡ refused n at → 0 < n
+unfolding modelIn bookIn readingOf pick
+refusal-numbered s n at i = go (named s) i
+  where
+    go : (b : Bool) → closing soundIn (length s) (pick b (layout .into s 0) (fields unnamedEdition .into s 0)) ≡ refused n at → 0 < n
+    go true i = reading-stops layout soundIn s n at i
+    go false i = reading-stops (fields unnamedEdition) soundIn s n at i
+
 -- ── Accepted bytes ────────────────────────────────────────────────
+-- the bytes, with the field of the edition that they are read by
+abbrev pub editionField : ℕ → List ℕ
+editionField e = fieldOf 0x10 (bytesOf 8 e)
+
+unfoldable pub withEdition : List ℕ → List ℕ
+withEdition s = pick (named s) s (editionField unnamedEdition ++ s)
+
 pub record Accepted (s : List ℕ) (b : Book) : Type 0 where
-  -- they are what writing their book gives
-  pub bytes : s ≡ snapshotOf (modelOf b)
-  pub written-again : (l : List ℕ) → length s ≤ length l → writing b l ≡ (written 0 (length s), s ++ drop (length s) l)
-  -- which is sound, and of the snapshot's edition
+  -- they are what writing their book gives: whole, or without the edition's field what follows it there
+  pub bytes : withEdition s ≡ snapshotOf (modelOf b)
+  pub written-again : (l : List ℕ) → length (withEdition s) ≤ length l → writing b l ≡ (written 0 (length (withEdition s)), withEdition s ++ drop (length (withEdition s)) l)
+  -- which is sound, and of the edition that names none where they have no field for it
   pub sound : bookTest b ≡ true
   pub typed : Typed b
-  pub edition : b .settings .edition ≡ snapshotEdition
+  pub edition : named s ≡ false → b .settings .edition ≡ unnamedEdition
 
-made : (s : List ℕ) (m : Model) → s ≡ layout .out m → layout .Fits m → bookTest (stored m) ≡ true → Accepted s (stored m)
-unfolding snapshotOf writing
-made s m w f t = record {
-  bytes = fields;
-  written-again = λ l h. pick-on _ _ t ∙ rw (← fields) (pick-on _ _ (le-leb (length s) (length l) h));
-  sound = t;
-  typed = typed m f;
-  edition = of-edition m f;
-}
-  where
-    fields : s ≡ layout .out (modelOf (stored m))
-    fields = w ∙ sym (ap (λ n. layout .out n) (model-back m f))
+module _ (s : List ℕ) (m : Model) (e : ℕ) where
+  made : withEdition s ≡ snapshotOf m → fields e .Fits m → bookTest (stored m) ≡ true → (named s ≡ false → e ≡ unnamedEdition) → Accepted s (stored m)
+  unfolding writing
+  made w f t n = record {
+    bytes = same;
+    written-again = λ l h. pick-on _ _ t ∙ rw (← same) (pick-on _ _ (le-leb (length (withEdition s)) (length l) h));
+    sound = t;
+    typed = typed e m f;
+    edition = λ z. of-edition e m f ∙ n z;
+  }
+    where
+      same : withEdition s ≡ snapshotOf (modelOf (stored m))
+      same = w ∙ sym (ap snapshotOf (model-back e m f))
 
 module _ (s : List ℕ) (k : Bytes s) where
-  read-as : (m : Model) → modelIn s ≡ loaded m → Accepted s (stored m)
-  unfolding modelIn soundIn
-  read-as m i = let c = canonical layout soundIn s m k i in made s m (c .bytes) (c .fits) (c .fair)
+  -- by either reading
+  read-as : (m : Model) (b : Bool) → named s ≡ b → modelIn s ≡ loaded m → Accepted s (stored m)
+  unfolding modelIn soundIn bookIn readingOf withEdition snapshotOf layout led
+  read-as m true n i =
+      let c = canonical layout soundIn s m k (ap (closing soundIn (length s)) (sym (pick-on _ _ n)) ∙ i) in
+      made s m (editionIn m) (pick-on _ _ n ∙ c .bytes) (c .fits .fits) (c .fair) (λ z. absurd (never (sym z ∙ n)))
+  read-as m false n i =
+      let c = canonical (fields unnamedEdition) soundIn s m k (ap (closing soundIn (length s)) (sym (pick-off _ _ n)) ∙ i) in
+      let e = of-edition unnamedEdition m (c .fits) in
+      made s m unnamedEdition (pick-off _ _ n ∙ ap (λ l. editionField unnamedEdition ++ l) (c .bytes) ∙ ap (λ (x : ℕ). editionField x ++ fields x .out m) (sym e)) (c .fits) (c .fair) (λ z. refl)
 
   found : (g : Reading Model) → modelIn s ≡ g → loadedAs g .number ≡ 0 → Accepted s (loadedAs g .book)
-  unfolding loadedAs modelIn
-  found (loaded m) i z = read-as m i
-  found (refused n at) i z = absurd (omega (arith, reading-stops layout soundIn s n at i, z))
+  unfolding loadedAs
+  found (loaded m) i z = read-as m (named s) refl i
+  found (refused n at) i z = absurd (omega (arith, refusal-numbered s n at i, z))
 
   pub accepted : (r : Loaded) → r ≡ reading s → r .number ≡ 0 → Accepted s (r .book)
   unfolding reading
   accepted r e z = rw e (found (modelIn s) refl (ap (λ (x : Loaded). x .number) (sym e) ∙ z))
 
 -- ── What was written ──────────────────────────────────────────────
--- the book, in the snapshot's edition
-module _ (b : Book) (t : bookTest b ≡ true) (y : Shelved b) where
-  abbrev again : Book
-  again = record { accounts = b .accounts; invoices = b .invoices; offers = b .offers; totals = b .totals; settings = settingsFrom (settingsParts (b .settings)) }
-
-  again-stored : again ≡ stored (readBack (modelOf b))
-  again-stored = ap (λ (x : Book). record { accounts = x .accounts; invoices = x .invoices; offers = x .offers; totals = x .totals; settings = settingsFrom (settingsParts (x .settings)) }) (back y)
-
-  again-sound : bookTest again ≡ true
-  unfolding bookTest settingsSound listed
-  again-sound =
-      let e = tests-of b t in
-      rw (e .accounts, e .invoices, e .offers, e .totals) (second-true (e .settings))
-    where
-      second-true : settingsSound (b .settings) ≡ true → inWindow (b .settings .window) && thresholdOk (b .settings .seats) (b .settings .threshold) ≡ true
-      second-true h = both (listed (b .settings .edition)) _ h .1
-
-  -- READING WHAT WAS WRITTEN
-  pub reads-again : layout .Fits (readBack (modelOf b)) → reading (snapshotOf (modelOf b)) ≡ record { number = 0; at = 0; book = again }
-  unfolding reading modelIn loadedAs soundIn
-  reads-again f =
-      ap reading (sym (same-fields (modelOf b)))
-      ∙ ap loadedAs (read-back layout soundIn (readBack (modelOf b)) f (ap bookTest (sym again-stored) ∙ again-sound))
-      ∙ ap (λ (x : Book). record { number = 0; at = 0; book = x }) (sym again-stored)
-
 -- where it answers 0 the book is sound, and its fields stand at the buffer's start
 record Stood (b : Book) (r : Written) (m : List ℕ) : Type 0 where
   pub sound : bookTest b ≡ true
@@ -190,10 +195,31 @@ stood b l r m e z = go (bookTest b) refl (leb (length w) (length l)) e
     go true h false i = let y : r .number ≡ number bufferShort = ap answer i in absurd (omega (arith, y, z))
     go false h u i = let y : r .number ≡ number bookUnsound = ap answer i in absurd (omega (arith, y, z))
 
+-- a book's snapshot is read as that book
+module _ (b : Book) (t : bookTest b ≡ true) (y : Shelved b) where
+  pub reads-again : layout .Fits (modelOf b) → reading (snapshotOf (modelOf b)) ≡ record { number = 0; at = 0; book = b }
+  unfolding reading modelIn bookIn loadedAs soundIn readingOf snapshotOf
+  reads-again f =
+      ap loadedAs (ap (closing soundIn (length (snapshotOf (modelOf b)))) (pick-on _ _ (names-edition (modelOf b))) ∙ read-back layout soundIn (modelOf b) f (ap bookTest (sym (back y)) ∙ t))
+      ∙ ap (λ (x : Book). record { number = 0; at = 0; book = x }) (sym (back y))
+
+  -- and so is what follows its first field, where the book is of the edition that names none
+  pub reads-unnamed : (e : b .settings .edition ≡ unnamedEdition) → layout .Fits (modelOf b) → reading (drop 11 (snapshotOf (modelOf b))) ≡ record { number = 0; at = 0; book = b }
+  unfolding reading modelIn bookIn loadedAs soundIn readingOf snapshotOf layout led
+  reads-unnamed e f =
+      let m = modelOf b in
+      let w = fields unnamedEdition .out m in
+      let g : fields unnamedEdition .Fits m = subst (λ (n : ℕ). fields n .Fits m) e (f .fits) in
+      let d : drop 11 (layout .out m) ≡ w = drop-at (editionField (editionIn m)) (fields (editionIn m) .out m) 11 (length-field 0x10 (editionIn m)) ∙ ap (λ (n : ℕ). fields n .out m) e in
+      ap reading d
+      ∙ ap loadedAs (ap (closing soundIn (length w)) (pick-off _ _ (names-none unnamedEdition m)) ∙ read-back (fields unnamedEdition) soundIn m g (ap bookTest (sym (back y)) ∙ t))
+      ∙ ap (λ (x : Book). record { number = 0; at = 0; book = x }) (sym (back y))
+
 module _ {b : Book} {l : List ℕ} {r : Written} {m : List ℕ} (w : Saved b l r m) (z : r .number ≡ 0) where
-  pub written-read : reading (take (r .size) m) ≡ record { number = 0; at = 0; book = record { accounts = b .accounts; invoices = b .invoices; offers = b .offers; totals = b .totals; settings = settingsFrom (settingsParts (b .settings)) } }
+  -- READING WHAT WAS WRITTEN GIVES THE SAME BOOK, in each edition
+  pub written-read : reading (take (r .size) m) ≡ record { number = 0; at = 0; book = b }
   written-read = let s = stood b l r m (w .is) z in ap reading (s .fields) ∙ reads-again b (s .sound) (w .shelved z) (w .fits z)
 
-  -- the very book, where it is of the snapshot's edition
-  pub same-book : b .settings .edition ≡ snapshotEdition → reading (take (r .size) m) ≡ record { number = 0; at = 0; book = b }
-  same-book e = written-read ∙ ap (λ (x : ℕ). record { number = 0; at = 0; book = record { accounts = b .accounts; invoices = b .invoices; offers = b .offers; totals = b .totals; settings = record { window = b .settings .window; repayer = b .settings .repayer; seats = b .settings .seats; threshold = b .settings .threshold; edition = x; appointed = b .settings .appointed; paused = b .settings .paused } } }) (sym e)
+  -- without its first field too, where it is of the edition that names none
+  pub older-read : b .settings .edition ≡ unnamedEdition → reading (drop 11 (take (r .size) m)) ≡ record { number = 0; at = 0; book = b }
+  older-read e = let s = stood b l r m (w .is) z in ap (λ (x : List ℕ). reading (drop 11 x)) (s .fields) ∙ reads-unnamed b (s .sound) (w .shelved z) e (w .fits z)

@@ -4,7 +4,6 @@ mod tags;
 mod writing;
 
 use book::Book;
-use codec::Cursor;
 ghost use mathlib.Core.Path.{_≡_};
 ghost use Rattle.codec.specs.Whole.{refused};
 ghost use Rattle.snapshot.specs.Snapshot.{Saved, reading, loadedAs};
@@ -33,12 +32,12 @@ fn refused(number: u64, at: usize) -> Loaded
 pub fn read(s: &[u8]) -> Loaded
     ensures { λ r. ⌜ r ≡ reading (now (s .entry)) ⌝ }
 {
-    let start = Cursor::start();
-    let p = reading::read_settings(s, start);
+    let e = reading::read_edition(s);
+    let p = reading::read_settings(s, e.c, e.edition);
     let t = reading::read_totals(s, p.c);
     let a = reading::read_accounts(s, t.c);
     let i = reading::read_invoices(s, a.c);
-    let o = reading::read_offers(s, i.c);
+    let o = reading::read_offers(s, i.c, e.edition);
     let settings = p.row;
     let totals = t.row;
     let accounts = a.table;

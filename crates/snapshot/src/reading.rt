@@ -18,21 +18,65 @@ use totals::Totals;
 ghost use mathlib.Core.Path.{_≡_};
 ghost use Prim.Native.Nat.{_≤_};
 ghost use Rattle.codec.specs.Codec.{rows};
+ghost use Rattle.refusal.specs.Refusal.{number, journalMalformed};
+ghost use Rattle.codec.specs.Cursor.{cursor};
 ghost use Rattle.codec.specs.Cursors.{Takes};
 ghost use Rattle.shelves.specs.Accounts.{storedAccounts};
 ghost use Rattle.shelves.specs.Invoices.{storedInvoices};
 ghost use Rattle.shelves.specs.Offers.{storedDeals};
-ghost use Rattle.negotiation.specs.Rounds.{roundSlots};
+ghost use Rattle.edition.specs.Edition.{roundLimit};
 ghost use Rattle.snapshot.specs.Layout.{settings, totals, purse, account, invoice, terms, offer, round, negotiation, schedule, deal};
 ghost use Rattle.snapshot.specs.Filling.{Reads, laidRounds};
+ghost use Rattle.snapshot.specs.Answers.{Opens};
+
+// The edition that the bytes name, and where its fields begin.
+pub(crate) struct ReadEdition {
+    pub(crate) edition: u32,
+    pub(crate) c: Cursor,
+}
+
+fn unlisted(ok: bool) -> ReadEdition
+    ensures { λ r. ⌜ r .c ≡ cursor (number journalMalformed) 0 ok 0 ⌝ }
+{
+    ReadEdition {
+        edition: edition::FIRST,
+        c: Cursor {
+            code: refusal::JOURNAL_MALFORMED,
+            at: 0,
+            ok,
+            x: 0,
+        },
+    }
+}
+
+pub(crate) fn read_edition(s: &[u8]) -> ReadEdition
+    ensures { λ r. ⌜ Opens (now (s .entry)) (r .edition) (r .c) ⌝ }
+{
+    let start = Cursor::start();
+    if !wire::begins(s, 0, tags::EDITION, 8) {
+        return ReadEdition {
+            edition: edition::UNNAMED,
+            c: start,
+        };
+    }
+    let c = codec::next(s, start, tags::EDITION, codec::WHOLE);
+    if codec::HALF < c.x {
+        return unlisted(c.ok);
+    }
+    let edition = c.x as u32;
+    if !edition::is_listed(edition) {
+        return unlisted(c.ok);
+    }
+    ReadEdition { edition, c }
+}
 
 pub(crate) struct ReadSettings {
     pub(crate) row: Settings,
     pub(crate) c: Cursor,
 }
 
-pub(crate) fn read_settings(s: &[u8], c: Cursor) -> ReadSettings
-    ensures { λ r. ⌜ Takes (now (s .entry)) c settings (r .c) (r .row) ⌝ }
+pub(crate) fn read_settings(s: &[u8], c: Cursor, edition: u32) -> ReadSettings
+    ensures { λ r. ⌜ Takes (now (s .entry)) c (settings edition) (r .c) (r .row) ⌝ }
 {
     let window = codec::next(s, c, tags::WINDOW, codec::WHOLE);
     let seats = codec::next(s, window, tags::SEATS, codec::HALF);
@@ -45,7 +89,7 @@ pub(crate) fn read_settings(s: &[u8], c: Cursor) -> ReadSettings
         repayer: repayer.x,
         seats: seats.x as u32,
         threshold: threshold.x as u32,
-        edition: edition::SNAPSHOT,
+        edition,
         appointed: appointed.x == 1,
         paused: paused.x == 1,
     };
@@ -212,15 +256,16 @@ fn read_round(s: &[u8], c: Cursor) -> ReadRound
 
 // The rounds that were read, and how many they are.
 struct ReadRounds {
-    rows: [Round; 12],
+    rows: [Round; 16],
     n: u32,
     c: Cursor,
 }
 
-fn read_rounds(s: &[u8], c: Cursor) -> ReadRounds
-    ensures { λ r. ⌜ Reads laidRounds (rows 0x97 roundSlots round) (now (s .entry)) c (r .rows, r .n) (r .c) ⌝ }
+fn read_rounds(s: &[u8], c: Cursor, edition: u32) -> ReadRounds
+    ensures { λ r. ⌜ Reads laidRounds (rows 0x97 (roundLimit edition) round) (now (s .entry)) c (r .rows, r .n) (r .c) ⌝ }
 {
-    let k = codec::count(s, c, tags::ROUNDS, 12);
+    let limit = edition::round_limit(edition);
+    let k = codec::count(s, c, tags::ROUNDS, limit as u64);
     let len = k.x as usize;
     let none = Negotiation::none();
     let mut rows = none.rounds;
@@ -246,12 +291,12 @@ struct ReadNegotiation {
     c: Cursor,
 }
 
-fn read_negotiation(s: &[u8], c: Cursor) -> ReadNegotiation
-    ensures { λ r. ⌜ Takes (now (s .entry)) c negotiation (r .c) (r .row) ⌝ }
+fn read_negotiation(s: &[u8], c: Cursor, edition: u32) -> ReadNegotiation
+    ensures { λ r. ⌜ Takes (now (s .entry)) c (negotiation edition) (r .c) (r .row) ⌝ }
 {
     let deadline = codec::next(s, c, tags::DEADLINE, codec::WHOLE);
     let outcome = codec::next(s, deadline, tags::OUTCOME, codec::HALF);
-    let t = read_rounds(s, outcome);
+    let t = read_rounds(s, outcome, edition);
     let rounds = t.rows;
     let d = t.c;
     let row = Negotiation {
@@ -290,12 +335,12 @@ struct ReadDeal {
     c: Cursor,
 }
 
-fn read_deal(s: &[u8], c: Cursor) -> ReadDeal
-    ensures { λ r. ⌜ Takes (now (s .entry)) c deal (r .c) (r .id, r .row) ⌝ }
+fn read_deal(s: &[u8], c: Cursor, edition: u32) -> ReadDeal
+    ensures { λ r. ⌜ Takes (now (s .entry)) c (deal edition) (r .c) (r .id, r .row) ⌝ }
 {
     let id = codec::next(s, c, tags::ID, codec::WHOLE);
     let o = read_offer(s, id);
-    let n = read_negotiation(s, o.c);
+    let n = read_negotiation(s, o.c, edition);
     let p = read_schedule(s, n.c);
     let offer = o.row;
     let negotiation = n.row;
@@ -382,8 +427,8 @@ pub(crate) struct ReadOffers {
     pub(crate) c: Cursor,
 }
 
-pub(crate) fn read_offers(s: &[u8], c: Cursor) -> ReadOffers
-    ensures { λ r. ⌜ Reads storedDeals (rows 0x90 64 deal) (now (s .entry)) c (r .table) (r .c) ⌝ }
+pub(crate) fn read_offers(s: &[u8], c: Cursor, edition: u32) -> ReadOffers
+    ensures { λ r. ⌜ Reads storedDeals (rows 0x90 64 (deal edition)) (now (s .entry)) c (r .table) (r .c) ⌝ }
 {
     let k = codec::count(s, c, tags::OFFERS, 64);
     let n = k.x as usize;
@@ -395,7 +440,7 @@ pub(crate) fn read_offers(s: &[u8], c: Cursor) -> ReadOffers
     let mut d = k;
     let mut i: usize = 0;
     while i < n {
-        let g = read_deal(s, d);
+        let g = read_deal(s, d, edition);
         let row = g.row;
         let e = g.c;
         let o = row.offer;

@@ -23,6 +23,8 @@ pub(crate) const SEATS: u8 = 0x0d;
 
 pub(crate) const THRESHOLD: u8 = 0x0e;
 
+pub(crate) const EDITION: u8 = 0x10;
+
 pub(crate) const WINDOW: u8 = 0x11;
 
 pub(crate) const PAUSED: u8 = 0x60;

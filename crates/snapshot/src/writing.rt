@@ -23,17 +23,17 @@ ghost use lib.ListN.{take};
 ghost use Rattle.sheet.specs.Sheet.{penAt};
 ghost use Rattle.codec.specs.Codec.{rows};
 ghost use Rattle.codec.specs.Puts.{Puts};
+ghost use Rattle.edition.specs.Edition.{roundLimit};
 ghost use Rattle.negotiation.specs.Rounds.{roundSlots, negotiationSound};
 ghost use Rattle.offer.specs.Offer.{dealSound};
 ghost use Rattle.shelves.specs.Accounts.{accountsOf};
 ghost use Rattle.shelves.specs.Invoices.{invoicesOf};
 ghost use Rattle.shelves.specs.Offers.{dealsOf, dealsTest};
 ghost use Rattle.book.specs.Stored.{modelOf, bookTest};
-ghost use Rattle.snapshot.specs.Layout.{settingsFrom, settingsParts, settings, totals, purse, account, invoice, terms, offer, round, negotiation, schedule, deal, layout};
-ghost use Rattle.snapshot.specs.Snapshot.{readBack};
+ghost use Rattle.snapshot.specs.Layout.{settings, totals, purse, account, invoice, terms, offer, round, negotiation, schedule, deal, layout};
 
 fn put_settings(out: &mut [u8], pen: Pen, ink: bool, row: Settings) -> Pen
-    ensures { λ r. ⌜ Puts ink settings (settingsFrom (settingsParts row)) (now (out .entry)) pen (now (out .exit)) r ⌝ }
+    ensures { λ r. ⌜ Puts ink (settings (row .edition)) row (now (out .entry)) pen (now (out .exit)) r ⌝ }
 {
     let p = codec::put(out, pen, ink, tags::WINDOW, row.window);
     let q = codec::put_half(out, p, ink, tags::SEATS, row.seats);
@@ -111,9 +111,9 @@ fn put_round(out: &mut [u8], pen: Pen, ink: bool, row: Round) -> Pen
     codec::put(out, q, ink, tags::TIME, row.time)
 }
 
-fn put_rounds(out: &mut [u8], pen: Pen, ink: bool, n: usize, list: [Round; 12]) -> Pen
-    requires { ⌜ n ≤ 12 ⌝ }
-    ensures { λ r. ⌜ Puts ink (rows 0x97 roundSlots round) (take n list) (now (out .entry)) pen (now (out .exit)) r ⌝ }
+fn put_rounds(out: &mut [u8], pen: Pen, ink: bool, edition: u32, n: usize, list: [Round; 16]) -> Pen
+    requires { ⌜ n ≤ roundLimit edition ⌝ }
+    ensures { λ r. ⌜ Puts ink (rows 0x97 (roundLimit edition) round) (take n list) (now (out .entry)) pen (now (out .exit)) r ⌝ }
 {
     let mut p = codec::put(out, pen, ink, tags::ROUNDS, n as u64);
     let mut i: usize = 0;
@@ -125,14 +125,14 @@ fn put_rounds(out: &mut [u8], pen: Pen, ink: bool, n: usize, list: [Round; 12]) 
     p
 }
 
-fn put_negotiation(out: &mut [u8], pen: Pen, ink: bool, row: Negotiation) -> Pen
-    requires { ⌜ negotiationSound roundSlots row ≡ true ⌝ }
-    ensures { λ r. ⌜ Puts ink negotiation row (now (out .entry)) pen (now (out .exit)) r ⌝ }
+fn put_negotiation(out: &mut [u8], pen: Pen, ink: bool, edition: u32, row: Negotiation) -> Pen
+    requires { ⌜ negotiationSound roundSlots (roundLimit edition) row ≡ true ⌝ }
+    ensures { λ r. ⌜ Puts ink (negotiation edition) row (now (out .entry)) pen (now (out .exit)) r ⌝ }
 {
     let p = codec::put(out, pen, ink, tags::DEADLINE, row.deadline);
     let q = codec::put_half(out, p, ink, tags::OUTCOME, row.outcome);
     let list = row.rounds;
-    put_rounds(out, q, ink, row.len as usize, list)
+    put_rounds(out, q, ink, edition, row.len as usize, list)
 }
 
 fn put_schedule(out: &mut [u8], pen: Pen, ink: bool, row: Schedule) -> Pen
@@ -144,15 +144,15 @@ fn put_schedule(out: &mut [u8], pen: Pen, ink: bool, row: Schedule) -> Pen
     codec::put(out, u, ink, tags::FIRST_DUE, row.first)
 }
 
-fn put_deal(out: &mut [u8], pen: Pen, ink: bool, id: u64, row: Deal) -> Pen
-    requires { ⌜ dealSound row ≡ true ⌝ }
-    ensures { λ r. ⌜ Puts ink deal (id, row) (now (out .entry)) pen (now (out .exit)) r ⌝ }
+fn put_deal(out: &mut [u8], pen: Pen, ink: bool, edition: u32, id: u64, row: Deal) -> Pen
+    requires { ⌜ dealSound edition row ≡ true ⌝ }
+    ensures { λ r. ⌜ Puts ink (deal edition) (id, row) (now (out .entry)) pen (now (out .exit)) r ⌝ }
 {
     let p = codec::put(out, pen, ink, tags::ID, id);
     let o = row.offer;
     let q = put_offer(out, p, ink, o);
     let n = row.negotiation;
-    let u = put_negotiation(out, q, ink, n);
+    let u = put_negotiation(out, q, ink, edition, n);
     let s = row.schedule;
     put_schedule(out, u, ink, s)
 }
@@ -189,9 +189,9 @@ fn put_invoices(out: &mut [u8], pen: Pen, ink: bool, table: Invoices) -> Pen
     p
 }
 
-fn put_offers(out: &mut [u8], pen: Pen, ink: bool, table: Offers) -> Pen
-    requires { ⌜ dealsTest table ≡ true ⌝ }
-    ensures { λ r. ⌜ Puts ink (rows 0x90 64 deal) (dealsOf table) (now (out .entry)) pen (now (out .exit)) r ⌝ }
+fn put_offers(out: &mut [u8], pen: Pen, ink: bool, edition: u32, table: Offers) -> Pen
+    requires { ⌜ dealsTest edition table ≡ true ⌝ }
+    ensures { λ r. ⌜ Puts ink (rows 0x90 64 (deal edition)) (dealsOf table) (now (out .entry)) pen (now (out .exit)) r ⌝ }
 {
     let n = table.count;
     let mut p = codec::put(out, pen, ink, tags::OFFERS, n as u64);
@@ -206,7 +206,7 @@ fn put_offers(out: &mut [u8], pen: Pen, ink: bool, table: Offers) -> Pen
             negotiation: t,
             schedule: s,
         };
-        p = put_deal(out, p, ink, id, row);
+        p = put_deal(out, p, ink, edition, id, row);
         i += 1;
     }
     p
@@ -214,14 +214,15 @@ fn put_offers(out: &mut [u8], pen: Pen, ink: bool, table: Offers) -> Pen
 
 pub(crate) fn put_book(out: &mut [u8], ink: bool, b: Book) -> Pen
     requires { ⌜ bookTest b ≡ true ⌝ }
-    ensures { λ r. ⌜ Puts ink layout (readBack (modelOf b)) (now (out .entry)) (penAt 0 false) (now (out .exit)) r ⌝ }
+    ensures { λ r. ⌜ Puts ink layout (modelOf b) (now (out .entry)) (penAt 0 false) (now (out .exit)) r ⌝ }
 {
     let start = Pen {
         at: 0,
         short: false,
     };
     let s = b.settings;
-    let p = put_settings(out, start, ink, s);
+    let e = codec::put(out, start, ink, tags::EDITION, s.edition as u64);
+    let p = put_settings(out, e, ink, s);
     let t = b.totals;
     let q = put_totals(out, p, ink, t);
     let a = b.accounts;
@@ -229,5 +230,5 @@ pub(crate) fn put_book(out: &mut [u8], ink: bool, b: Book) -> Pen
     let i = b.invoices;
     let v = put_invoices(out, u, ink, i);
     let o = b.offers;
-    put_offers(out, v, ink, o)
+    put_offers(out, v, ink, s.edition, o)
 }

@@ -23,7 +23,7 @@ fn help() {
         b"./run snapshot JOURNAL OUT
   Replays JOURNAL from a fresh book of its edition and writes the snapshot of what it leaves to OUT.
 ./run snapshot --from SNAPSHOT JOURNAL OUT
-  The same on the book of SNAPSHOT. The journal's edition is the snapshot's, 3. OUT may be SNAPSHOT.
+  The same on the book of SNAPSHOT. The journal's edition is the snapshot's. OUT may be SNAPSHOT.
 OUT is written beside itself, as OUT.new, and takes its name when it is whole. Where anything is wrong a message says what,
 the status is 1 and OUT stays as it was. docs/SNAPSHOT.md says what a snapshot holds.
 ",
@@ -107,23 +107,10 @@ fn stopped(path: &[u8], s: &[u8], own: u32, r: Stop) {
     malformed(path, next(r.count), r.at);
 }
 
-// A snapshot's bytes do not say the edition.
-fn warn(path: &[u8], own: u32) {
-    if own != edition::SNAPSHOT {
-        files::say(b"warning: ");
-        files::say(path);
-        files::say(b" is of edition ");
-        files::say_number(own as u64);
-        files::say(b"; its snapshot will be read as a book of edition ");
-        files::say_number(edition::SNAPSHOT as u64);
-        files::say(b"\n");
-    }
-}
-
 // Why a book has no snapshot.
 fn unwritten(path: &[u8], number: u64) {
     files::say(path);
-    files::say(b": the book has no snapshot of at most 65,536 bytes (");
+    files::say(b": the book has no snapshot of at most 81,920 bytes (");
     files::say_number(number);
     files::say(b"); nothing was written\n");
     files::failed();
@@ -131,7 +118,7 @@ fn unwritten(path: &[u8], number: u64) {
 
 // Writes the snapshot of a book into a file.
 fn save(path: &[u8], book: Book) {
-    let mut out: [u8; 65536] = [0; 65536];
+    let mut out: [u8; 81920] = [0; 81920];
     let w = snapshot::write(book, &mut out);
     let n = w.size;
     if w.number != 0 {
@@ -155,8 +142,6 @@ fn keep(start: Given, journal: &[u8], s: &[u8], out: &[u8]) {
         return;
     }
     let book = r.book;
-    let after = book.settings;
-    warn(journal, after.edition);
     save(out, book);
 }
 

@@ -34,7 +34,7 @@ model-sound b y e =
       fits = fits-of (shelved-of b (y .accounts) (y .invoices) (y .offers) e);
       accounts = accounts-sound (b .accounts) (y .accounts) (t .accounts);
       invoices = invoices-sound (b .invoices) (y .invoices) (t .invoices);
-      offers = deals-sound (b .offers) (y .offers) (t .offers);
+      offers = deals-sound (b .settings .edition) (b .offers) (y .offers) (t .offers);
       totals = t .totals;
       settings = t .settings;
     }
@@ -46,8 +46,8 @@ module _ {m : Model} (s : ModelSound m) where
   invoices-in : invoicesTest (storedInvoices (m .invoices)) ≡ true
   invoices-in = invoices-pass (storedInvoices (m .invoices)) (invoices-keeping .good (s .fits .invoices)) (rw (invoices-keeping .back (s .fits .invoices)) (s .invoices))
 
-  offers-in : dealsTest (storedDeals (m .offers)) ≡ true
-  offers-in = deals-pass (deals-keeping .good (s .fits .offers)) (rw (deals-keeping .back (s .fits .offers)) (s .offers))
+  offers-in : dealsTest (m .settings .edition) (storedDeals (m .offers)) ≡ true
+  offers-in = deals-pass (m .settings .edition) (deals-keeping .good (s .fits .offers)) (rw (deals-keeping .back (s .fits .offers)) (s .offers))
 
   pub book-sound : bookTest (stored m) ≡ true
   unfolding bookTest

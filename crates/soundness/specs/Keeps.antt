@@ -74,7 +74,7 @@ module _ {m : Model} (s : ModelSound m) where
   posted a u k e =
       with-accounts s _ (account-put (m .accounts) a (u .done) (s .accounts) (λ z. k z e)) (record { accounts = fine-adjust (s .fits .accounts) _ _; invoices = s .fits .invoices; offers = s .fits .offers })
 
-  dealt : (o : ℕ) (u : Rule Deal) → Keeps DealKept (offerIn m o .row) u → first (u .checks) ≡ 0 → ModelSound (onOffer m o u .done)
+  dealt : (o : ℕ) (u : Rule Deal) → Keeps (DealKept (m .settings .edition)) (offerIn m o .row) u → first (u .checks) ≡ 0 → ModelSound (onOffer m o u .done)
   dealt o u k e =
       with-offers s _ (deal-put (m .offers) o (u .done) (s .offers) (λ z. k z e)) (record { accounts = s .fits .accounts; invoices = s .fits .invoices; offers = fine-adjust (s .fits .offers) _ _ })
 
@@ -89,7 +89,7 @@ module _ {m : Model} (s : ModelSound m) where
         fits = fits-ruled (s .fits) (creates a o i t x) e;
         accounts = account-put (m .accounts) a _ (s .accounts) (λ z. Account.offer-keeps (accountIn m a .row) t z (q .0));
         invoices = s .invoices;
-        offers = all-insert DealKept (m .offers) o (newDeal a i t x) (s .offers) (new-kept a i t x (not-false (termsOk t) (k .0)));
+        offers = all-insert (DealKept (m .settings .edition)) (m .offers) o (newDeal a i t x) (s .offers) (new-kept a i t x (not-false (termsOk t) (k .0)));
         totals = Totals.count-keeps (m .totals) (s .totals) (q .1);
         settings = s .settings;
       }
@@ -102,7 +102,7 @@ module _ {m : Model} (s : ModelSound m) where
   keeps-account a (lenderRepaid b f) = Account.lender-repaid-keeps (accountIn m a) (isRepayer (m .settings) b) f
   keeps-account a (blacklists p c) = Account.blacklist-keeps (accountIn m a) (adminPasses (m .settings) p) c
 
-  keeps-offer : (o : ℕ) (u : OnOffer) → Keeps DealKept (offerIn m o .row) (offerRule m o u)
+  keeps-offer : (o : ℕ) (u : OnOffer) → Keeps (DealKept (m .settings .edition)) (offerIn m o .row) (offerRule m o u)
   unfolding offerRule
   keeps-offer o (withdraws a) = Deal.withdraw-keeps (offerIn m o) a
   keeps-offer o (rejects a) = Deal.reject-keeps (offerIn m o) a (paperOf m o)
@@ -118,6 +118,13 @@ module _ {m : Model} (s : ModelSound m) where
   keeps-settings (appoints p i) e = Settings.repayer-keeps (m .settings) p i (accountIn m i .here) (s .settings) e
   keeps-settings (seats p h q) e = Settings.seats-keeps (m .settings) p h q (s .settings) e
 
+  same-edition : (u : OnSettings) → settingsRule m u .done .edition ≡ m .settings .edition
+  unfolding settingsRule
+  same-edition (pauses p b) = refl
+  same-edition (waits p w) = refl
+  same-edition (appoints p i) = refl
+  same-edition (seats p h q) = refl
+
   -- the rule of each command
   ruled-sound : (c : Shape) → first (ruled m c .checks) ≡ 0 → ModelSound (ruled m c .done)
   unfolding ruled
@@ -132,7 +139,7 @@ module _ {m : Model} (s : ModelSound m) where
   ruled-sound (amends now a o t n) e = amending-sound s now a o t n e
   ruled-sound (counters now a o t n) e = countering-sound s now a o t n e
   ruled-sound (totals a x y) e = with-totals s _ (Totals.repay-keeps (m .totals) (isRepayer (m .settings) a) x y (s .totals) e)
-  ruled-sound (settings u) e = with-settings s _ (keeps-settings u e)
+  ruled-sound (settings u) e = with-settings s _ (keeps-settings u e) (same-edition u)
 
   -- every command, accepted or refused, leaves a sound model
   pub keeps-sound : (c : Command) → first (commanded m c .checks) ≡ 0 → ModelSound (commanded m c .done)

@@ -7,3 +7,4 @@ pub mod Played
 pub mod Staying
 pub mod Books
 pub mod Calls
+pub mod Bytes

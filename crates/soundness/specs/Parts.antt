@@ -46,8 +46,8 @@ pub invoice-put : (t : Table Invoice) (i : ℕ) (x : Invoice) → All (λ r. inv
     → All (λ r. invoiceSound r ≡ true) (adjust t i (λ old. x))
 invoice-put t i x = put-sound (λ r. invoiceSound r ≡ true) (λ o. seenInvoice o .row) (λ r. refl) t i x
 
-pub deal-put : (t : Table Deal) (o : ℕ) (x : Deal) → All DealKept t → (DealKept (seenDeal (find t o) .row) → DealKept x) → All DealKept (adjust t o (λ old. x))
-deal-put t o x = put-sound DealKept (λ o. seenDeal o .row) (λ r. refl) t o x
+pub deal-put : {e : ℕ} (t : Table Deal) (o : ℕ) (x : Deal) → All (DealKept e) t → (DealKept e (seenDeal (find t o) .row) → DealKept e x) → All (DealKept e) (adjust t o (λ old. x))
+deal-put {e} t o x = put-sound (DealKept e) (λ o. seenDeal o .row) (λ r. refl) t o x
 
 on-row : (a : ℕ) (f : Account → Rule Account) (t : Table Account) → ((r : Account) → KeepsTest accountSound r (f r)) → Good t → first (onRow a f t .checks) ≡ 0 → Good (onRow a f t .done)
 on-row a f t k g e = account-put t a (f (seenIn t a .row) .done) g (λ s. k (seenIn t a .row) s (passed _ _ _ e .1))
@@ -96,11 +96,12 @@ module _ {m : Model} (s : ModelSound m) where
   pub with-invoices : (t : Table Invoice) → All (λ r. invoiceSound r ≡ true) t → Fits (withInvoices t m) → ModelSound (withInvoices t m)
   with-invoices t g f = record { fits = f; accounts = s .accounts; invoices = g; offers = s .offers; totals = s .totals; settings = s .settings }
 
-  pub with-offers : (t : Table Deal) → All DealKept t → Fits (withOffers t m) → ModelSound (withOffers t m)
+  pub with-offers : (t : Table Deal) → All (DealKept (m .settings .edition)) t → Fits (withOffers t m) → ModelSound (withOffers t m)
   with-offers t g f = record { fits = f; accounts = s .accounts; invoices = s .invoices; offers = g; totals = s .totals; settings = s .settings }
 
   pub with-totals : (t : Totals) → totalsSound t ≡ true → ModelSound (withTotals t m)
   with-totals t g = record { fits = record { accounts = s .fits .accounts; invoices = s .fits .invoices; offers = s .fits .offers }; accounts = s .accounts; invoices = s .invoices; offers = s .offers; totals = g; settings = s .settings }
 
-  pub with-settings : (t : Settings) → settingsSound t ≡ true → ModelSound (withSettings t m)
-  with-settings t g = record { fits = record { accounts = s .fits .accounts; invoices = s .fits .invoices; offers = s .fits .offers }; accounts = s .accounts; invoices = s .invoices; offers = s .offers; totals = s .totals; settings = g }
+  -- no setting that is put anew is of another edition
+  pub with-settings : (t : Settings) → settingsSound t ≡ true → t .edition ≡ m .settings .edition → ModelSound (withSettings t m)
+  with-settings t g e = record { fits = record { accounts = s .fits .accounts; invoices = s .fits .invoices; offers = s .fits .offers }; accounts = s .accounts; invoices = s .invoices; offers = rw e (s .offers); totals = s .totals; settings = g }

@@ -15,7 +15,7 @@ use Rattle.command.specs.Shape.{shapeOf}
 use Rattle.command.specs.Names.{accountNames, offerNames, settingsNames, namesFor}
 use Rattle.command.specs.declared.Command.{Command}
 use Rattle.command.specs.declared.Command.the-variants.{OpenAccount, Deposit, Approve, RegisterInvoice, CreateOffer, AcceptOffer, AmendOffer, CounterOffer}
-use Rattle.edition.specs.Edition.{holdsAmount, freshWindow}
+use Rattle.edition.specs.Edition.{holdsAmount, freshWindow, roundLimit}
 use Rattle.rules.specs.Model.{Model, freshModel, accountIn}
 use Rattle.soundness.specs.Played.{played, answersOf}
 use Rattle.rules.specs.Rules.{settling, concluding, agreeing, accountRule, offerRule, settingsRule, ruled}
@@ -39,7 +39,7 @@ session =
     ∷ []
 
 pub session-answers : answersOf (freshModel 1) session ≡ 0 ∷ 0 ∷ 0 ∷ 0 ∷ 0 ∷ 0 ∷ 0 ∷ 3 ∷ 0 ∷ 7 ∷ []
-unfolding answersOf session pick first after find adjust insert termsOk sameTerms holdsAmount freshWindow deadlineOf statusOf addedOf acceptedOf latestBelow matches agreesOf expired settledDeal amendedDeal counteredDeal settling concluding agreeing shapeOf accountNames offerNames settingsNames namesFor accountRule offerRule settingsRule ruled
+unfolding answersOf session pick first after find adjust insert termsOk sameTerms holdsAmount freshWindow roundLimit deadlineOf statusOf addedOf acceptedOf latestBelow matches agreesOf expired settledDeal amendedDeal counteredDeal settling concluding agreeing shapeOf accountNames offerNames settingsNames namesFor accountRule offerRule settingsRule ruled
 session-answers = refl
 
 -- balance, allowance, offered, accepted
@@ -47,13 +47,13 @@ abbrev figures : Model → ℕ → List ℤ
 figures m a = accountIn m a .row .purse .balance ∷ accountIn m a .row .purse .allowance ∷ accountIn m a .row .purse .offered ∷ accountIn m a .row .purse .accepted ∷ []
 
 pub session-lender : figures (played (freshModel 1) session) 1 ≡ pos 4100 ∷ pos 4100 ∷ pos 900 ∷ pos 900 ∷ []
-unfolding played session pick first after find adjust insert termsOk sameTerms holdsAmount freshWindow deadlineOf statusOf addedOf acceptedOf latestBelow matches agreesOf expired settledDeal amendedDeal counteredDeal settling concluding agreeing shapeOf accountNames offerNames settingsNames namesFor accountRule offerRule settingsRule ruled
+unfolding played session pick first after find adjust insert termsOk sameTerms holdsAmount freshWindow roundLimit deadlineOf statusOf addedOf acceptedOf latestBelow matches agreesOf expired settledDeal amendedDeal counteredDeal settling concluding agreeing shapeOf accountNames offerNames settingsNames namesFor accountRule offerRule settingsRule ruled
 session-lender = refl
 
 pub session-originator : figures (played (freshModel 1) session) 2 ≡ pos 900 ∷ pos 0 ∷ pos 0 ∷ pos 0 ∷ []
-unfolding played session pick first after find adjust insert termsOk sameTerms holdsAmount freshWindow deadlineOf statusOf addedOf acceptedOf latestBelow matches agreesOf expired settledDeal amendedDeal counteredDeal settling concluding agreeing shapeOf accountNames offerNames settingsNames namesFor accountRule offerRule settingsRule ruled
+unfolding played session pick first after find adjust insert termsOk sameTerms holdsAmount freshWindow roundLimit deadlineOf statusOf addedOf acceptedOf latestBelow matches agreesOf expired settledDeal amendedDeal counteredDeal settling concluding agreeing shapeOf accountNames offerNames settingsNames namesFor accountRule offerRule settingsRule ruled
 session-originator = refl
 
 pub session-totals : played (freshModel 1) session .totals ≡ record { financed = pos 900; repaid = pos 0; fees = pos 0; offers = 1 }
-unfolding played session pick first after find adjust insert termsOk sameTerms holdsAmount freshWindow deadlineOf statusOf addedOf acceptedOf latestBelow matches agreesOf expired settledDeal amendedDeal counteredDeal settling concluding agreeing shapeOf accountNames offerNames settingsNames namesFor accountRule offerRule settingsRule ruled
+unfolding played session pick first after find adjust insert termsOk sameTerms holdsAmount freshWindow roundLimit deadlineOf statusOf addedOf acceptedOf latestBelow matches agreesOf expired settledDeal amendedDeal counteredDeal settling concluding agreeing shapeOf accountNames offerNames settingsNames namesFor accountRule offerRule settingsRule ruled
 session-totals = refl

@@ -21,7 +21,7 @@ pub record ModelSound (m : Model) : Type 0 where
   pub fits : Fits m
   pub accounts : All (λ r. accountSound r ≡ true) (m .accounts)
   pub invoices : All (λ r. invoiceSound r ≡ true) (m .invoices)
-  pub offers : All DealKept (m .offers)
+  pub offers : All (DealKept (m .settings .edition)) (m .offers)
   pub totals : totalsSound (m .totals) ≡ true
   pub settings : settingsSound (m .settings) ≡ true
 

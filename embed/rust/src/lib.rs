@@ -11,7 +11,7 @@
 //! ```
 //!
 //! Nothing is kept between calls but the bytes of the journal: every read replays them. A snapshot holds a whole book, so that a
-//! journal of edition 3 can go on from there:
+//! journal of its edition can go on from there:
 //!
 //! ```
 //! use solgaverna::Journal;

@@ -5,13 +5,15 @@ use crate::{calls, told, with_room, Journal, Refusal, LISTING_ROOM};
 /// The bytes of a snapshot (docs/SNAPSHOT.md). `Snapshot::from` takes any bytes; malformed ones are refused by the offset of the
 /// first wrong field, those of no sound book with 15.
 ///
-/// Its book is of edition 3, and so must the journals be that go on from it: one of another edition is refused with 13.
+/// It names the edition of its book, and so must the journals that go on from it: one of another edition is refused with 13. Bytes
+/// that name none are from before there was a field for it, and are read as edition 3.
 #[derive(Clone, Debug, PartialEq, Eq)]
 pub struct Snapshot(Vec<u8>);
 
-/// A field's bytes, and the most fields: settings, totals and three counts, and 64 accounts, invoices and offers with 12 rounds each.
+/// A field's bytes, and the most fields: edition, settings, totals and three counts, and 64 accounts, invoices and offers with 16
+/// rounds each.
 const FIELD: usize = 11;
-const MOST_FIELDS: usize = 13 + 64 * (8 + 4 + 17 + 12 * 5);
+const MOST_FIELDS: usize = 14 + 64 * (8 + 4 + 17 + 16 * 5);
 
 impl From<Vec<u8>> for Snapshot {
     fn from(bytes: Vec<u8>) -> Snapshot {

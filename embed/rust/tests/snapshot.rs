@@ -81,14 +81,14 @@ fn the_session_goes_on_from_a_snapshot() {
     assert_eq!(before().then(&journal(AFTER)), whole.snapshot());
     assert_eq!(listing_past(&whole.listing(), 7), LISTING);
     // settings, totals and counts, two accounts, an invoice, an offer, and a round before the cut and two after it
-    assert_eq!(before().bytes().len(), FIELD * (13 + 2 * 8 + 4 + 17 + 5));
-    assert_eq!(whole.snapshot().expect("a whole journal").bytes().len(), FIELD * (13 + 2 * 8 + 4 + 17 + 2 * 5));
+    assert_eq!(before().bytes().len(), FIELD * (14 + 2 * 8 + 4 + 17 + 5));
+    assert_eq!(whole.snapshot().expect("a whole journal").bytes().len(), FIELD * (14 + 2 * 8 + 4 + 17 + 2 * 5));
 }
 
 #[test]
 fn a_snapshot_is_read_back() {
     assert_eq!(before().then(&journal("")), Ok(before()));
-    assert_eq!(journal("").snapshot().expect("no commands").bytes().len(), FIELD * 13);
+    assert_eq!(journal("").snapshot().expect("no commands").bytes().len(), FIELD * 14);
     for name in stored("questions") {
         let kept = read(&name).snapshot().expect("a whole journal");
         assert_eq!(kept.then(&journal("")), Ok(kept.clone()), "{}", name.display());
@@ -149,7 +149,7 @@ fn damaged_bytes_are_refused_at_the_first_wrong_field() {
         // another tag, another length
         if at - field < 3 {
             let mut bytes = whole.clone();
-            bytes[at] ^= 0x01;
+            bytes[at] ^= 0x02;
             refused(&bytes, Refusal::Field(field as u64));
         }
     }
@@ -161,15 +161,15 @@ fn damaged_bytes_are_refused_at_the_first_wrong_field() {
 #[test]
 fn an_unsound_book_is_refused() {
     // a window past its range, a balance below 0, ids that do not ascend
-    for (at, byte) in [(3, 1), (FIELD * 12 + 3, 0x80), (FIELD * 11 + 3, 1)] {
+    for (at, byte) in [(FIELD + 3, 1), (FIELD * 13 + 3, 0x80), (FIELD * 12 + 3, 1)] {
         let mut bytes = before().bytes().to_vec();
         bytes[at] = byte;
         refused(&bytes, Refusal::Number(15));
     }
     // a count past its limit at once, whatever follows
     let mut bytes = before().bytes().to_vec();
-    bytes[FIELD * 10 + 10] = 65;
-    bytes.truncate(FIELD * 11);
+    bytes[FIELD * 11 + 10] = 65;
+    bytes.truncate(FIELD * 12);
     refused(&bytes, Refusal::Number(15));
 }
 
@@ -192,15 +192,58 @@ fn a_journal_that_does_not_go_on_is_refused() {
     assert_eq!(Journal::from(Vec::new()).snapshot(), Err(Refusal::Number(13)));
 }
 
+/// The same journal in an edition.
+fn in_edition(edition: u64, text: &str) -> Journal {
+    let mut journal = Journal::of_edition(edition).expect("an edition that there is");
+    journal.write(text).expect("lines of commands");
+    journal
+}
+
 #[test]
-fn earlier_editions_are_read_as_edition_3() {
-    let mut first = Journal::new();
-    first.write(BEFORE).expect("lines of commands");
-    let kept = first.snapshot().expect("a whole journal");
-    // the window of the first edition stays
-    assert_eq!(kept.ask(&journal(""), "window\n").as_deref(), Ok("0 604800\n"));
-    assert_eq!(before().ask(&journal(""), "window\n").as_deref(), Ok("0 259200\n"));
-    assert_eq!(kept.listing(&journal(AFTER)).as_deref(), Ok(LISTING));
+fn a_snapshot_keeps_its_edition() {
+    for edition in 1..=4 {
+        let kept = in_edition(edition, BEFORE).snapshot().expect("a whole journal");
+        assert_eq!(kept.bytes()[..FIELD], [0x10, 0, 8, 0, 0, 0, 0, 0, 0, 0, edition as u8]);
+        let listing = LISTING.replace("edition 3", &format!("edition {edition}"));
+        assert_eq!(kept.listing(&in_edition(edition, AFTER)), Ok(listing));
+        assert_eq!(kept.then(&in_edition(edition % 4 + 1, AFTER)), Err(Refusal::Number(13)));
+    }
+}
+
+#[test]
+fn a_snapshot_that_names_no_edition_is_of_edition_3() {
+    let old = Snapshot::from(before().bytes()[FIELD..].to_vec());
+    assert_eq!(old.listing(&journal(AFTER)).as_deref(), Ok(LISTING));
+    // it is written with its edition
+    assert_eq!(old.then(&journal("")), Ok(before()));
+    assert_eq!(old.then(&in_edition(4, "")), Err(Refusal::Number(13)));
+}
+
+#[test]
+fn an_edition_that_there_is_not_is_refused_at_0() {
+    for (at, byte) in [(10, 0), (10, 5), (6, 1), (3, 0x80)] {
+        let mut bytes = before().bytes().to_vec();
+        bytes[at] = byte;
+        refused(&bytes, Refusal::Field(0));
+    }
+}
+
+/// An offer with so many rounds, the lender's and the originator's in turn.
+fn rounds(count: u64) -> String {
+    let round = |n| format!("{} 100 {} 20 {} 500 86400 {n}\n", ["counter", "amend"][n as usize % 2], 2 - n % 2, 900 + n);
+    let before = BEFORE.lines().take(6).map(|line| format!("{line}\n"));
+    before.chain((0..count).map(round)).collect()
+}
+
+#[test]
+fn sixteen_rounds_in_edition_4_and_twelve_before() {
+    for (edition, most) in [(1, 12), (2, 12), (3, 12), (4, 16)] {
+        let kept = in_edition(edition, &rounds(most)).snapshot().expect("a whole journal");
+        assert_eq!(kept.bytes().len(), FIELD * (14 + 2 * 8 + 4 + 17 + 5 * most as usize));
+        let last = rounds(most + 1).lines().last().map(|line| format!("{line}\n")).expect("a round");
+        let more = kept.listing(&in_edition(edition, &last)).expect("a sound snapshot");
+        assert!(more.starts_with(&format!("edition {edition}\n1 7\n")), "{more}");
+    }
 }
 
 #[test]
@@ -211,7 +254,7 @@ fn a_journal_is_written_in_its_edition() {
     assert_eq!(journal.write("edition 3\npause 100 1\n"), Err(Refusal::Line(1)));
     assert_eq!(Journal::new().write("edition 3\npause 100 1\n"), Err(Refusal::Line(1)));
     assert_eq!(Journal::of_edition(1), Ok(Journal::new()));
-    for none in [0, 4, u64::MAX] {
+    for none in [0, 5, u64::MAX] {
         assert_eq!(Journal::of_edition(none), Err(Refusal::Number(13)));
     }
 }

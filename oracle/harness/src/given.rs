@@ -121,7 +121,7 @@ fn offer(chance: &mut Chance, id: u64, accounts: &[u64], invoices: &[u64], most:
     let absent = invoices.is_empty() || chance.percent(20);
     let rounds = match chance.below(4) {
         0 => 0,
-        1 => chance.within(most - 2, most),
+        1 => chance.within(10, most),
         _ => chance.within(1, 4),
     };
     Offer {

@@ -1,12 +1,11 @@
 //! Both sides in step: the same record to each, then everything compared.
 
 use journal::Command;
-use plain::edition::OF_SNAPSHOTS;
 use side::{Book, Offer, Query, Reply, Side};
 
 use crate::questions::questions;
 use crate::reference::{Answer, Reference};
-use crate::snapshots::{restored_alike, written_alike};
+use crate::snapshots::{old_form_alike, restored_alike, written_alike};
 
 /// Where a run starts: a fresh book of an edition, or given rows.
 #[derive(Clone, Debug)]
@@ -122,17 +121,15 @@ impl<'a> Pair<'a> {
         Ok(())
     }
 
-    /// Reads the snapshot of the present book. In the edition of snapshots both sides go on from
-    /// there; in another the book is put back.
+    /// Reads the snapshot of the present book, first in the old form. Both sides go on from there; the
+    /// original, which has no snapshots, from where it is.
     fn read_back(&mut self, bytes: &[u8]) -> Result<(), String> {
+        old_form_alike(self.other, bytes)?;
         restored_alike(self.other, bytes, &self.book)?;
-        self.met.read_back += 1;
-        if self.book.edition == OF_SNAPSHOTS {
-            restored_alike(self.reference.side(), bytes, &self.book)?;
-        } else {
-            self.book.flat(&mut self.room.first);
-            self.other.load(&self.room.first);
+        if let Reference::Plain(plain) = &mut self.reference {
+            restored_alike(&mut **plain, bytes, &self.book)?;
         }
+        self.met.read_back += 1;
         self.compare_books()
     }
 

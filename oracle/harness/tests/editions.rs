@@ -119,6 +119,37 @@ fn a_fresh_window_is_shorter_from_edition_3_on() {
     }
 }
 
+/// An offer has twelve rounds, from edition 4 on sixteen; a round after one that is refused is a wrong
+/// one.
+#[test]
+fn an_offer_has_more_rounds_from_edition_4_on() {
+    for party in ["amend caller=1", "counter caller=2"] {
+        for (rounds, answers) in
+            [(11, [0, 0, 0, 0]), (12, [7, 7, 7, 0]), (15, [3, 3, 3, 0]), (16, [3, 3, 3, 7])]
+        {
+            let lines = format!("for 0 {rounds} {party} id=20 amount=1 rate=2 round=% : 0");
+            let text = [OFFER, &lines].concat();
+            let given = [1, 2, 3, 4].map(|edition| last(edition, None, &text));
+            assert_eq!(given, answers, "{party} {rounds}");
+        }
+    }
+}
+
+/// No more rounds may stand in a book than its edition has.
+#[test]
+fn a_book_with_a_round_too_many_is_unsound() {
+    let book = |rounds| {
+        let mut book = without_invoice();
+        let round = Round { party: 0, amount: 1, rate: 1, duration: 86_400, time: 100 };
+        book.offers[0].rounds = vec![round; rounds];
+        book
+    };
+    let opens = |edition, rounds| last(edition, Some(&book(rounds)), "open caller=3 : 0");
+    assert_eq!([1, 2, 3, 4].map(|edition| opens(edition, 12)), [0, 0, 0, 0]);
+    assert_eq!([1, 2, 3, 4].map(|edition| opens(edition, 13)), [15, 15, 15, 0]);
+    assert_eq!([1, 2, 3, 4].map(|edition| opens(edition, 17)), [15, 15, 15, 15]);
+}
+
 #[test]
 fn a_fresh_book_says_its_edition() {
     for edition in 1..=LATEST {

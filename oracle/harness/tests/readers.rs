@@ -1,8 +1,10 @@
 //! Readers and writers of snapshots with a mistake, each of which the comparison finds.
 
 use harness::compare::{compare, Found};
-use harness::snapshots::{compare_damaged, compare_samples, samples, unsound_alike, written_alike};
-use plain::edition::{fresh, OF_SNAPSHOTS};
+use harness::snapshots::{compare_damaged, compare_samples, samples};
+use harness::snapshots::{unsound_alike, without_edition, written_alike};
+use journal::LATEST;
+use plain::edition::fresh;
 use plain::snapshot::{examine, read, write, write_within, Refusal};
 use plain::Plain;
 use side::{Book, Query, Refused, Reply, Side};
@@ -93,12 +95,80 @@ fn counts_are_seen_late(plain: &mut Plain, bytes: &[u8]) -> Result<(), Refused> 
 
 fn seats_are_cut_to_32_bits(plain: &mut Plain, bytes: &[u8]) -> Result<(), Refused> {
     let mut bytes = bytes.to_vec();
-    bytes.iter_mut().skip(14).take(4).for_each(|byte| *byte = 0);
+    let seats = if has_edition(&bytes) { 22 } else { 11 };
+    bytes.iter_mut().skip(seats + 3).take(4).for_each(|byte| *byte = 0);
     plain.restore(&bytes)
 }
 
 fn a_refusal_loses_the_book(plain: &mut Plain, bytes: &[u8]) -> Result<(), Refused> {
-    plain.restore(bytes).inspect_err(|_| plain.reset(OF_SNAPSHOTS))
+    plain.restore(bytes).inspect_err(|_| plain.reset(LATEST))
+}
+
+fn has_edition(bytes: &[u8]) -> bool {
+    bytes.starts_with(&[0x10, 0, 8]) && bytes.len() >= 11
+}
+
+/// The bytes with another edition, where they have one.
+fn with_edition(bytes: &[u8], edition: u64) -> Vec<u8> {
+    let mut bytes = bytes.to_vec();
+    if has_edition(&bytes) {
+        bytes[3..11].copy_from_slice(&edition.to_be_bytes());
+    }
+    bytes
+}
+
+fn the_edition_is_needed(plain: &mut Plain, bytes: &[u8]) -> Result<(), Refused> {
+    if has_edition(bytes) {
+        plain.restore(bytes)
+    } else {
+        Err((13, 0))
+    }
+}
+
+fn the_edition_is_cut_to_32_bits(plain: &mut Plain, bytes: &[u8]) -> Result<(), Refused> {
+    let low = bytes.get(7..11).and_then(|low| low.try_into().ok()).map_or(0, u32::from_be_bytes);
+    plain.restore(&with_edition(bytes, low.into()))
+}
+
+/// An edition that there is not is unsound after all fields and not malformed at once.
+fn editions_are_tested_late(plain: &mut Plain, bytes: &[u8]) -> Result<(), Refused> {
+    match read(&with_edition(bytes, LATEST)) {
+        Err(refused) => Err(refused),
+        Ok(_) => plain.restore(bytes).map_err(|_| (15, 0)),
+    }
+}
+
+/// The number of rounds is held to the latest edition's limit as it is read, and to its own in the end.
+fn every_edition_reads_sixteen_rounds(plain: &mut Plain, bytes: &[u8]) -> Result<(), Refused> {
+    match (plain.restore(bytes), read(&with_edition(bytes, LATEST))) {
+        (Err((15, 0)), Err(refused)) => Err(refused),
+        (answer, _) => answer,
+    }
+}
+
+fn every_edition_reads_twelve_rounds(plain: &mut Plain, bytes: &[u8]) -> Result<(), Refused> {
+    match read(&with_edition(bytes, 3)) {
+        Err((15, 0)) => Err((15, 0)),
+        _ => plain.restore(bytes),
+    }
+}
+
+fn old_bytes_are_of_the_latest_edition(plain: &mut Plain, bytes: &[u8]) -> Result<(), Refused> {
+    plain.restore(bytes)?;
+    if !has_edition(bytes) {
+        let mut flat = Vec::new();
+        Book { edition: LATEST, ..plain.book().clone() }.flat(&mut flat);
+        plain.load(&flat);
+    }
+    Ok(())
+}
+
+fn all_books_are_of_edition_3(plain: &mut Plain, bytes: &[u8]) -> Result<(), Refused> {
+    plain.restore(bytes)?;
+    if has_edition(bytes) {
+        return plain.restore(without_edition(bytes));
+    }
+    Ok(())
 }
 
 /// The schedule's four numbers are not tested where its count is 0.
@@ -124,7 +194,7 @@ fn idle_accounts_are_dropped(plain: &mut Plain, bytes: &[u8]) -> Result<(), Refu
 
 #[test]
 fn every_mistake_in_a_reader_is_found() {
-    let mistakes: [Reader; 7] = [
+    let mistakes: [Reader; 14] = [
         offset_of_the_number,
         bytes_after_the_end_are_taken,
         counts_are_seen_late,
@@ -132,6 +202,13 @@ fn every_mistake_in_a_reader_is_found() {
         a_refusal_loses_the_book,
         absent_schedules_are_not_tested,
         idle_accounts_are_dropped,
+        the_edition_is_needed,
+        the_edition_is_cut_to_32_bits,
+        editions_are_tested_late,
+        every_edition_reads_sixteen_rounds,
+        every_edition_reads_twelve_rounds,
+        old_bytes_are_of_the_latest_edition,
+        all_books_are_of_edition_3,
     ];
     for (number, mistake) in mistakes.into_iter().enumerate() {
         let found =
@@ -157,9 +234,9 @@ fn every_sample_is_compared() {
 /// unsound ones are refused so.
 fn passes(writer: Writer) -> [bool; 2] {
     let mut side = Mistaken::writing(writer);
-    side.reset(OF_SNAPSHOTS);
-    let sound = written_alike(&mut side, &fresh(OF_SNAPSHOTS)).is_ok();
-    [sound, unsound_alike(&mut side, &fresh(OF_SNAPSHOTS)).is_ok()]
+    side.reset(LATEST);
+    let sound = written_alike(&mut side, &fresh(LATEST)).is_ok();
+    [sound, unsound_alike(&mut side, &fresh(LATEST)).is_ok()]
 }
 
 #[test]
@@ -168,16 +245,28 @@ fn every_mistake_in_a_writer_is_found() {
     assert_eq!(passes(|book, _| write(book)), [false, true]);
     assert_eq!(passes(|book, room| write_within(book, room.saturating_sub(1))), [false, true]);
     assert_eq!(passes(|book, room| if room == 0 { Err(14) } else { write(book) }), [false, false]);
-    assert_eq!(passes(|_, room| write_within(&fresh(OF_SNAPSHOTS), room)), [true, false]);
+    assert_eq!(passes(|_, room| write_within(&fresh(LATEST), room)), [true, false]);
+    let old: Writer = |book, room| {
+        let bytes = write(book).map(|bytes| without_edition(&bytes).to_vec())?;
+        if bytes.len() <= room {
+            Ok(bytes)
+        } else {
+            Err(14)
+        }
+    };
+    assert_eq!(passes(old), [false, true]);
+    let third: Writer = |book, room| write_within(book, room).map(|bytes| with_edition(&bytes, 3));
+    assert_eq!(passes(third), [false, true]);
 }
 
 /// In every edition the comparison writes and reads snapshots, and cuts a difference down.
 #[test]
 fn the_comparison_finds_mistakes() {
-    let reader: Reader = |plain, bytes| plain.restore(bytes).map(|()| plain.reset(OF_SNAPSHOTS));
+    let reader: Reader = |plain, bytes| plain.restore(bytes).map(|()| plain.reset(LATEST));
     let writer: Writer = |book, room| write_within(&Book { paused: false, ..book.clone() }, room);
-    for edition in 1..=OF_SNAPSHOTS {
-        for mut side in [Mistaken::reading(reader), Mistaken::writing(writer)] {
+    for edition in 1..=LATEST {
+        let old = Mistaken::reading(the_edition_is_needed);
+        for mut side in [Mistaken::reading(reader), Mistaken::writing(writer), old] {
             let (_, found) = compare(&mut side, edition, 1, 5_000);
             let Some(Found::Run(failure)) = found else { panic!("not found in edition {edition}") };
             assert_eq!(failure.commands.len(), 1, "{}", failure.what);

@@ -10,6 +10,7 @@ fn every_planted_slip_is_found() {
         let (_, found) = compare(&mut plain, edition, 1, 20_000);
         let Some(Found::Run(failure)) = found else { panic!("{slip:?} is not found") };
         let most = match slip {
+            Slip::TwelveRounds | Slip::SixteenRounds => 17,
             Slip::AnyCounter | Slip::DefaultedActive => 7,
             Slip::DeadlineMoves | Slip::AmountLate => 6,
             Slip::RoundStays | Slip::WithdrawLowers | Slip::AmountReached => 5,

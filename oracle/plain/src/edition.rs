@@ -2,8 +2,8 @@
 
 use side::Book;
 
-/// The edition of a book that is read from a snapshot.
-pub const OF_SNAPSHOTS: u64 = 3;
+/// The edition of a snapshot's book where no field says it: those from before there was one.
+pub const OF_OLD_SNAPSHOTS: u64 = 3;
 
 /// Whether there is such an edition.
 pub fn is_listed(edition: u64) -> bool {
@@ -25,8 +25,12 @@ pub fn fresh_window(edition: u64) -> u64 {
 }
 
 /// The number of rounds that an offer has at most.
-pub fn most_rounds(_edition: u64) -> usize {
-    12
+pub fn most_rounds(edition: u64) -> usize {
+    if edition >= 4 {
+        16
+    } else {
+        12
+    }
 }
 
 /// A fresh book.

@@ -55,10 +55,14 @@ pub enum Slip {
     AmountLate,
     /// Amend and counter refuse the invoice's amount itself, not only more.
     AmountReached,
+    /// A thirteenth round is refused in every edition.
+    TwelveRounds,
+    /// Sixteen rounds may be added in every edition.
+    SixteenRounds,
 }
 
 /// Each with the first edition in which it shows.
-pub const SLIPS: [(Slip, u64); 7] = [
+pub const SLIPS: [(Slip, u64); 9] = [
     (Slip::AnyCounter, 1),
     (Slip::RoundStays, 1),
     (Slip::WithdrawLowers, 1),
@@ -66,6 +70,8 @@ pub const SLIPS: [(Slip, u64); 7] = [
     (Slip::DefaultedActive, 1),
     (Slip::AmountLate, 2),
     (Slip::AmountReached, 2),
+    (Slip::TwelveRounds, 4),
+    (Slip::SixteenRounds, 1),
 ];
 
 pub struct Plain {

@@ -159,7 +159,15 @@ impl Desk {
     }
 
     fn negotiable(&self, index: usize, now: u64, round: u32) -> Test {
-        negotiable(&self.book.offers[index], now, round, most_rounds(self.book.edition))
+        negotiable(&self.book.offers[index], now, round, self.most_rounds())
+    }
+
+    fn most_rounds(&self) -> usize {
+        match self.slip {
+            Some(Slip::TwelveRounds) => 12,
+            Some(Slip::SixteenRounds) => 16,
+            _ => most_rounds(self.book.edition),
+        }
     }
 
     fn put_round(&mut self, index: usize, party: u64, terms: &Terms, now: u64) {

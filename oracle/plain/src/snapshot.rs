@@ -7,12 +7,15 @@ mod tests;
 
 use side::{Account, Book, Invoice, Offer, Round, Schedule};
 
-use crate::edition::{most_rounds, OF_SNAPSHOTS};
+use crate::edition::{is_listed, most_rounds, OF_OLD_SNAPSHOTS};
 use crate::money::MOST_ROWS;
 use crate::{sound, MALFORMED, UNSOUND};
 use pass::{Pass, Reader, Writer};
 
 const SHORT: u64 = 14;
+
+/// The tag of the first field.
+const EDITION: u8 = 0x10;
 
 /// Why bytes are no snapshot.
 #[derive(Clone, Copy, Debug, PartialEq, Eq)]
@@ -41,7 +44,8 @@ pub fn write(book: &Book) -> Result<Vec<u8>, u64> {
         return Err(UNSOUND);
     }
     let mut writer = Writer::default();
-    let done = fields(&mut writer, &mut book.clone());
+    let edition = writer.number(EDITION, book.edition);
+    let done = edition.and_then(|_| fields(&mut writer, &mut book.clone()));
     done.map(|()| writer.bytes).map_err(|refusal| refusal.answer().0)
 }
 
@@ -58,13 +62,22 @@ pub fn read(bytes: &[u8]) -> Result<Book, (u64, u64)> {
 /// The book of these bytes, or why there is none.
 pub fn examine(bytes: &[u8]) -> Result<Book, Refusal> {
     let mut reader = Reader::of(bytes);
-    let mut book = Book { edition: OF_SNAPSHOTS, ..Book::default() };
+    let mut book = Book { edition: edition_of(&mut reader)?, ..Book::default() };
     fields(&mut reader, &mut book)?;
     let fits = reader.ended()?;
     if fits && sound(&book) {
         Ok(book)
     } else {
         Err(Refusal::Unsound)
+    }
+}
+
+/// The edition that the first field says. Bytes that begin without it are from before there was one.
+fn edition_of(reader: &mut Reader) -> Result<u64, Refusal> {
+    match reader.number(EDITION, 0) {
+        Ok(edition) if is_listed(edition) => Ok(edition),
+        Ok(_) => Err(Refusal::Malformed(0)),
+        Err(_) => Ok(OF_OLD_SNAPSHOTS),
     }
 }
 

@@ -61,6 +61,8 @@ fn sound_schedule(row: &Schedule) -> bool {
 
 #[cfg(test)]
 mod tests {
+    use side::Round;
+
     use super::*;
 
     #[test]
@@ -85,6 +87,21 @@ mod tests {
         ];
         for (number, book) in faults.iter().enumerate() {
             assert!(!sound(book), "fault {number}");
+        }
+    }
+
+    #[test]
+    fn an_offer_has_the_rounds_of_its_edition() {
+        let (amount, rate, duration) = (1, 1, 86_400);
+        let round = Round { amount, rate, duration, ..Round::default() };
+        let with_rounds = |edition, rounds| {
+            let rounds = vec![round; rounds];
+            let offer = Offer { amount, rate, duration, rounds, ..Offer::default() };
+            Book { edition, offers: vec![offer], ..Book::fresh() }
+        };
+        for (edition, most) in [(1, 12), (2, 12), (3, 12), (4, 16)] {
+            assert!(sound(&with_rounds(edition, most)), "{edition}");
+            assert!(!sound(&with_rounds(edition, most + 1)), "{edition}");
         }
     }
 }

@@ -5,7 +5,7 @@ mod pipe;
 
 use std::cell::RefCell;
 
-use pipe::{Pipe, Request, LARGE, SMALL};
+use pipe::{Pipe, Request, SMALL, WIDE};
 use side::{Query, Reading, Refused, Reply, Restored, Side, PROGRAM_HOLDS, TOO_LONG};
 
 /// Names the command that starts the program, its words parted by spaces.
@@ -149,7 +149,7 @@ impl Side for Port {
 
     fn snapshot(&mut self, room: usize) -> Result<Vec<u8>, u64> {
         let pipe = self.pipe.get_mut();
-        pipe.send(Request::Write, &[room.min(LARGE) as u64], &[]);
+        pipe.send(Request::Write, &[room.min(WIDE) as u64], &[]);
         let answer = pipe.answer();
         match answer[0] {
             0 => Ok(pipe.bytes(answer[1] as usize)),

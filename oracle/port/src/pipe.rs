@@ -5,9 +5,10 @@ use std::process::{Child, ChildStdin, ChildStdout, Command, Stdio};
 
 const FRAME: usize = 128;
 const RECORD: usize = 32;
-/// What follows a frame has one of two sizes.
+/// The room for a book or a journal that follows a frame, and the two for a snapshot.
+const LARGE: usize = 65_536;
 pub const SMALL: usize = 4_096;
-pub const LARGE: usize = 65_536;
+pub const WIDE: usize = 81_920;
 
 /// What a request asks, by its number in the program.
 #[derive(Clone, Copy)]
@@ -37,9 +38,9 @@ impl Pipe {
         let mut start = Command::new(name);
         let start = start.args(words).stdin(Stdio::piped()).stdout(Stdio::piped());
         let mut program = start.spawn()?;
-        let requests = program.stdin.take().map(|pipe| BufWriter::with_capacity(2 * LARGE, pipe));
+        let requests = program.stdin.take().map(|pipe| BufWriter::with_capacity(2 * WIDE, pipe));
         let answers = program.stdout.take().ok_or(io::ErrorKind::BrokenPipe)?;
-        Ok(Pipe { program, requests, answers: BufReader::with_capacity(LARGE, answers) })
+        Ok(Pipe { program, requests, answers: BufReader::with_capacity(WIDE, answers) })
     }
 
     /// A frame: the request, its numbers, and a record in the place of its numbers from the fourth.
@@ -57,18 +58,18 @@ impl Pipe {
 
     /// The book or the journal that follows a frame.
     pub fn send_large(&mut self, bytes: &[u8]) {
-        assert!(bytes.len() <= LARGE, "{} bytes are too many", bytes.len());
-        self.write(bytes);
-        self.write(&vec![0; LARGE - bytes.len()]);
+        self.send_in(LARGE, bytes);
     }
 
     /// A snapshot that follows a frame: in the smaller size where it has room there.
     pub fn send_snapshot(&mut self, bytes: &[u8]) {
-        if bytes.len() > SMALL {
-            return self.send_large(bytes);
-        }
+        self.send_in(if bytes.len() > SMALL { WIDE } else { SMALL }, bytes);
+    }
+
+    fn send_in(&mut self, room: usize, bytes: &[u8]) {
+        assert!(bytes.len() <= room, "{} bytes are too many", bytes.len());
         self.write(bytes);
-        self.write(&[0; SMALL][bytes.len()..]);
+        self.write(&vec![0; room - bytes.len()]);
     }
 
     /// The numbers of an answer.

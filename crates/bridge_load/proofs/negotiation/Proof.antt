@@ -6,7 +6,7 @@ use Rattle.bridge_load.proofs.negotiation.Statement.{statement}
 use Rattle.bridge_load.proofs.negotiation.Tie as tie
 
 abbrev Inv-loop : tie.InvT-loop
-Inv-loop s at n m rows₀ p₀ i₀ rows p i = ((i ≤ m) × (m ≤ 12)) × (length rows ≡ 12)
+Inv-loop s at n m rows₀ p₀ i₀ rows p i = ((i ≤ m) × (m ≤ 16)) × (length rows ≡ 16)
 
 abbrev μ-loop : tie.MeasureT-loop
 μ-loop s at n m rows₀ p₀ i₀ rows p i = m - i

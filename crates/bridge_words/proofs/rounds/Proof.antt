@@ -4,10 +4,10 @@ use Rattle.bridge_words.proofs.rounds.Statement.{statement}
 use Rattle.bridge_words.proofs.rounds.Tie as tie
 
 abbrev Inv-loop : tie.InvT-loop
-Inv-loop out₀ at n rows p₀ i₀ out p i = i ≤ 12
+Inv-loop out₀ at n rows p₀ i₀ out p i = i ≤ 16
 
 abbrev μ-loop : tie.MeasureT-loop
-μ-loop out₀ at n rows p₀ i₀ out p i = 12 - i
+μ-loop out₀ at n rows p₀ i₀ out p i = 16 - i
 
 returns : tie.Need-returns Inv-loop μ-loop
 returns c = search needs

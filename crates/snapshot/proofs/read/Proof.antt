@@ -5,10 +5,9 @@ use borrow.Author.Tests.{not-true, not-false}
 use Rattle.rules.specs.Model.{Model}
 use Rattle.book.specs.declared.Book.{Book}
 use Rattle.book.specs.Stored.{stored, bookTest}
-use Rattle.codec.specs.Cursor.{cursor}
-use Rattle.codec.specs.Cursors.{Takes, takes-then, takes-via}
-use Rattle.snapshot.specs.Layout.{layout, modelFrom, modelParts}
-use Rattle.snapshot.specs.Snapshot.{loadedAs}
+use Rattle.codec.specs.Cursors.{shows, Takes, takes-then, takes-via}
+use Rattle.snapshot.specs.Layout.{fields, modelFrom, modelParts}
+use Rattle.snapshot.specs.Snapshot.{bookIn, loadedAs}
 use Rattle.snapshot.specs.Answers.{read-refused, read-past, read-unsound, read-whole}
 use Rattle.snapshot.proofs.read.Statement.{statement}
 use Rattle.snapshot.proofs.read.Tie as tie
@@ -24,15 +23,19 @@ module _ (c : tie.After-read-offers) where
   made-stored : made ≡ stored model
   made-stored = rw (c .before .before .read-accounts .ensures .is, c .before .read-invoices .ensures .is, c .read-offers .ensures .is)
 
-  takes : Takes (c .before .before .before .before .before .before .before .args .s .now) (cursor 0 0 true 0) layout (c .read-offers .result .c) model
-  unfolding layout
-  takes = takes-via modelFrom modelParts (λ x _. refl) (takes-then (rw (c .before .before .before .before .before .start .ensures) at (c .before .before .before .before .read-settings .ensures)) (takes-then (c .before .before .before .read-totals .ensures) (takes-then (c .before .before .read-accounts .ensures .takes) (takes-then (c .before .read-invoices .ensures .takes) (c .read-offers .ensures .takes)))))
+  takes : Takes (c .before .before .before .before .before .before .before .args .s .now) (c .before .before .before .before .before .read-edition .result .c) (fields (c .before .before .before .before .before .read-edition .result .edition)) (c .read-offers .result .c) model
+  unfolding fields
+  takes = takes-via modelFrom modelParts (λ x _. refl) (takes-then (c .before .before .before .before .read-settings .ensures) (takes-then (c .before .before .before .read-totals .ensures) (takes-then (c .before .before .read-accounts .ensures .takes) (takes-then (c .before .read-invoices .ensures .takes) (c .read-offers .ensures .takes)))))
+
+  -- what the bytes give
+  given : shows (c .read-offers .result .c) model ≡ bookIn (c .before .before .before .before .before .before .before .args .s .now)
+  given = c .before .before .before .before .before .read-edition .ensures .on takes
 
 returns : tie.Need-returns
-returns c = let d = c .before .before .before .before .before .before .before .before .before in c .refused .ensures ∙ read-refused _ _ (model d) (takes d) (c .before .if1 .taken)
+returns c = let d = c .before .before .before .before .before .before .before .before .before in c .refused .ensures ∙ read-refused _ _ (model d) (given d) (c .before .if1 .taken)
 
 returns-2 : tie.Need-returns-2
-returns-2 c = let d = c .before .before .before .before .before .before .before .before .before .before .before in c .refused2 .ensures ∙ read-past _ _ (model d) (takes d) (c .before .before .before .if1 .left) (c .before .if2 .taken)
+returns-2 c = let d = c .before .before .before .before .before .before .before .before .before .before .before in c .refused2 .ensures ∙ read-past _ _ (model d) (given d) (c .before .before .before .if1 .left) (c .before .if2 .taken)
 
 -- the code's test
 test : (c : tie.After-sound) → c .before .before .before .before .before .before .before .before .before .before .before .read-offers .result .c .ok && c .sound .result ≡ c .before .before .before .before .before .before .before .before .before .before .before .read-offers .result .c .ok && bookTest (stored (model (c .before .before .before .before .before .before .before .before .before .before .before)))
@@ -42,14 +45,14 @@ returns-3 : tie.Need-returns-3
 returns-3 c =
     let g = c .before .before .before in
     let d = c .before .before .before .before .before .before .before .before .before .before .before .before .before .before in
-    c .refused3 .ensures ∙ read-unsound _ _ (model d) (takes d) (c .before .before .before .before .before .before .if1 .left) (c .before .before .before .before .if2 .left) (test g) (not-true _ (c .before .if3 .taken))
+    c .refused3 .ensures ∙ read-unsound _ _ (model d) (given d) (c .before .before .before .before .before .before .if1 .left) (c .before .before .before .before .if2 .left) (test g) (not-true _ (c .before .if3 .taken))
 
 returns-4 : tie.Need-returns-4
 unfolding loadedAs
 returns-4 c =
     let g = c .before .before in
     let d = c .before .before .before .before .before .before .before .before .before .before .before .before .before in
-    rw (made-stored d) (read-whole _ _ (model d) (takes d) (c .before .before .before .before .before .if1 .left) (c .before .before .before .if2 .left) (test g) (not-false _ (c .if3 .left)))
+    rw (made-stored d) (read-whole _ _ (model d) (given d) (c .before .before .before .before .before .if1 .left) (c .before .before .before .if2 .left) (test g) (not-false _ (c .if3 .left)))
 
 pub read-spec : {M : Type 1} → statement M
 read-spec =

@@ -181,4 +181,16 @@ mod test {
         assert!(new.iter().all(|path| owed(2).iter().any(|owed| owed == path)));
         assert!(new.iter().all(|path| owed(1).iter().all(|owed| owed != path)));
     }
+
+    #[test]
+    fn the_fourth_edition_owes_its_rounds() {
+        let owed = |edition| Coverage::of(edition).unwalked();
+        let new = [
+            "never: an amendment is the thirteenth round",
+            "never: a counter is the thirteenth round",
+            "never: a seventeenth round is refused",
+        ];
+        assert!(new.iter().all(|path| owed(4).iter().any(|owed| owed == path)));
+        assert!(new.iter().all(|path| owed(3).iter().all(|owed| owed != path)));
+    }
 }

@@ -77,6 +77,16 @@ impl Walk<'_> {
         party == Some(self.numbers[0x02])
     }
 
+    /// A round that comes after so many, by its place in the command too.
+    fn comes_after(&self, rounds: usize) -> bool {
+        self.was.rounds.len() == rounds && self.numbers[0x09] == rounds as u64
+    }
+
+    /// Refused for want of room for a round after so many: nothing else stands against it.
+    fn refused_after(&self, rounds: usize) -> bool {
+        self.is_round() && self.comes_after(rounds) && !self.is_late() && self.answer == 7
+    }
+
     /// By how much the amount is above the invoice's; 0 where it is not.
     fn above(&self) -> u64 {
         let invoiced = self.invoice.map_or(u64::MAX, |row| row.amount as u64);
@@ -143,6 +153,20 @@ const ON_OFFERS: [Path; 15] = [
     }),
 ];
 
+/// Where an offer may have more than twelve rounds.
+const ON_MORE_ROUNDS: [Path; 6] = [
+    ("an amendment is the thirteenth round", |walk| walk.accepted(AMEND) && walk.comes_after(12)),
+    ("a counter is the thirteenth round", |walk| walk.accepted(COUNTER) && walk.comes_after(12)),
+    ("an amendment settles past the twelfth round", |walk| {
+        walk.settles(AMEND) && walk.is.rounds.len() > 12
+    }),
+    ("a counter settles past the twelfth round", |walk| {
+        walk.settles(COUNTER) && walk.is.rounds.len() > 12
+    }),
+    ("a sixteenth round is added", |walk| walk.adds_round() && walk.comes_after(15)),
+    ("a seventeenth round is refused", |walk| walk.refused_after(16)),
+];
+
 /// Where the amount is held to the invoice's.
 const ON_AMOUNTS: [Path; 11] = [
     ("an amendment above the invoice's amount is refused", |walk| walk.refused_above(AMEND)),
@@ -183,7 +207,8 @@ const BACK: &str = "a command is accepted at an earlier time than the one before
 
 fn on_offers(edition: u64) -> impl Iterator<Item = &'static Path> {
     let on_amounts: &[Path] = if holds_amount(edition) { &ON_AMOUNTS } else { &[] };
-    ON_OFFERS.iter().chain(on_amounts)
+    let on_rounds: &[Path] = if most_rounds(edition) > 12 { &ON_MORE_ROUNDS } else { &[] };
+    ON_OFFERS.iter().chain(on_amounts).chain(on_rounds)
 }
 
 /// The paths that are to be walked in an edition.

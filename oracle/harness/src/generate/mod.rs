@@ -75,12 +75,14 @@ impl Generator {
         let invoices = book.invoices.iter().filter(|row| row.status == 0).count();
         let offers = book.offers.iter().filter(|row| self.is_open(book, row)).count();
         let wanted = |rows: usize, live: usize, aim: usize| rows < MOST_ROWS && live < aim;
+        let long = self.long(book).is_some();
         let raised = |tag: u8, weight: u64| match tag {
             0x21 if book.accounts.len() < self.plan.accounts => 80,
             0x22 if book.accounts.iter().any(|row| row.balance == 0) => 30,
             0x24 if book.accounts.iter().any(|row| row.allowance == 0) => 30,
             0x25 if wanted(book.invoices.len(), invoices, self.plan.invoices) => 40,
             0x31 if wanted(book.offers.len(), offers, self.plan.offers) => 60,
+            0x35 | 0x36 if long => 120,
             0x52 if book.paused => 200,
             0x54 if book.repayment.is_none() => 15,
             0x55 if book.accounts.iter().any(|row| row.blacklisted == 1) => 15,
@@ -94,7 +96,7 @@ impl Generator {
         match tag {
             0x21..0x31 => self.port_command(tag, book),
             0x31 => self.create(book),
-            0x32..0x41 => match self.offer(book).cloned() {
+            0x32..0x41 => match self.chosen(tag, book).cloned() {
                 Some(offer) => self.on_offer(tag, book, &offer),
                 None => self.create(book),
             },

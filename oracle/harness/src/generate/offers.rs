@@ -90,12 +90,21 @@ impl Generator {
         }
     }
 
+    /// How many rounds in a hundred aim at agreement: many of those past the thirteenth.
+    fn agreeing(&self, offer: &Offer) -> u64 {
+        if offer.rounds.len() > 12 {
+            50
+        } else {
+            self.plan.agreeing
+        }
+    }
+
     fn amended(&mut self, offer: &Offer) -> Terms {
         let counters: Vec<_> = offer.rounds.iter().filter(|round| round.party == 1).collect();
         let terms = counters.iter().map(|round| (round.amount, round.rate as u32, round.duration));
         let terms: Vec<_> = terms.collect();
         let Some(latest) = terms.last() else { return self.near(present(offer)) };
-        if self.chance.percent(self.plan.agreeing) {
+        if self.chance.percent(self.agreeing(offer)) {
             return *latest;
         }
         match self.chance.below(10) {
@@ -107,7 +116,7 @@ impl Generator {
     }
 
     fn countered(&mut self, offer: &Offer) -> Terms {
-        if self.chance.percent(self.plan.agreeing / 2) {
+        if self.chance.percent(self.agreeing(offer) / 2) {
             return present(offer);
         }
         let rounds = offer.rounds.iter().map(|row| (row.amount, row.rate as u32, row.duration));

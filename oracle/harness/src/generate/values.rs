@@ -100,6 +100,30 @@ impl Generator {
         self.any_offer(book)
     }
 
+    /// The offer that this command is about; a round mostly goes on with a long negotiation.
+    pub(super) fn chosen<'a>(&mut self, tag: u8, book: &'a Book) -> Option<&'a Offer> {
+        let long = self.long(book).filter(|_| [0x35, 0x36].contains(&tag));
+        match long {
+            Some(offer) if self.chance.percent(75) => Some(offer),
+            _ => self.offer(book),
+        }
+    }
+
+    /// Where more than twelve rounds may be added, an offer that has some and may settle.
+    pub(super) fn long<'a>(&self, book: &'a Book) -> Option<&'a Offer> {
+        let longer = most_rounds(book.edition) > 12;
+        let mut offers = book.offers.iter().filter(|offer| longer && offer.rounds.len() > 4);
+        offers.find(|offer| self.may_settle(book, offer))
+    }
+
+    /// Whether the offer is open, not expired, and its invoice Pending.
+    fn may_settle(&self, book: &Book, offer: &Offer) -> bool {
+        let mut invoices = book.invoices.iter();
+        let pending = invoices.any(|row| row.id == offer.invoice && row.status == 0);
+        let expired = offer.expires != 0 && offer.expires <= self.clock;
+        self.is_open(book, offer) && pending && !expired
+    }
+
     pub(super) fn any_offer<'a>(&mut self, book: &'a Book) -> Option<&'a Offer> {
         let rows = book.offers.len() as u64;
         (rows > 0).then(|| &book.offers[self.chance.below(rows) as usize])

@@ -1,13 +1,14 @@
 //! The same book on both sides: the bytes that it gives, and the book that they give again.
 
-use plain::edition::OF_SNAPSHOTS;
 use plain::snapshot::write;
 use side::{Book, Side};
 
+use super::expected::Expected;
 use super::unsound::FAULTS;
+use super::without_edition;
 
 /// A buffer that every snapshot fits.
-pub const WIDE: usize = 65_536;
+pub const WIDE: usize = 81_920;
 
 const UNSOUND: u64 = 15;
 const SHORT: u64 = 14;
@@ -31,13 +32,21 @@ pub fn written_alike(side: &mut dyn Side, book: &Book) -> Result<Vec<u8>, String
     }
 }
 
-/// The side reads these bytes as this book, in the edition of snapshots.
+/// The side reads a snapshot without its edition as the plain reader does: where the book has no more
+/// rounds than edition 3 allows, as the same book of that one.
+pub fn old_form_alike(side: &mut dyn Side, bytes: &[u8]) -> Result<(), String> {
+    let mut expected = Expected::default();
+    let _ = expected.take(without_edition(bytes).to_vec())?;
+    expected.compare(side)
+}
+
+/// The side reads these bytes as this book, of its own edition.
 pub fn restored_alike(side: &mut dyn Side, bytes: &[u8], book: &Book) -> Result<(), String> {
     if let Err((number, offset)) = side.restore(bytes) {
         return Err(format!("{} refuses a snapshot: {number} {offset}", side.name()));
     }
     let mut flat = Vec::new();
-    Book { edition: OF_SNAPSHOTS, ..book.clone() }.flat(&mut flat);
+    book.flat(&mut flat);
     if side.flat() == flat {
         Ok(())
     } else {

@@ -1,7 +1,10 @@
 //! Bytes to read as snapshots, and what the plain reader makes of each.
 
+use plain::edition::OF_OLD_SNAPSHOTS;
 use plain::snapshot::{examine, write, Refusal};
 use side::{Book, Reading, Restored, Side};
+
+use super::without_edition;
 
 /// After one refusal in so many the present book is looked at: it stays as it was.
 const STAYS_IN: usize = 16;
@@ -21,12 +24,13 @@ impl Expected {
         self.readings.len()
     }
 
-    /// Reads bytes with the plain reader. The book of accepted ones is written as the very bytes.
+    /// Reads bytes with the plain reader. The book of accepted ones is written as the very bytes, or
+    /// as the edition and these bytes where they are without it.
     pub fn take(&mut self, bytes: Vec<u8>) -> Result<Result<Book, Refusal>, String> {
         let read = examine(&bytes);
         let shown = match &read {
             Ok(book) => {
-                if write(book).as_ref() != Ok(&bytes) {
+                if !gives(book, &bytes) {
                     return Err(format!("accepted, but written otherwise: {}", hex(&bytes)));
                 }
                 let mut flat = Vec::new();
@@ -59,6 +63,14 @@ impl Expected {
             Err(format!("{read}: {bytes}\nthe plain model: {one:?}\n{name}: {two:?}"))
         })
     }
+}
+
+/// Whether writing the book gives these bytes: with its edition, or what follows that.
+fn gives(book: &Book, bytes: &[u8]) -> bool {
+    write(book).is_ok_and(|written| {
+        let old = book.edition == OF_OLD_SNAPSHOTS && without_edition(&written) == bytes;
+        old || written == bytes
+    })
 }
 
 fn hex(bytes: &[u8]) -> String {

@@ -1,15 +1,17 @@
-//! The three books whose snapshots are damaged byte by byte.
+//! The three books whose snapshots are damaged byte by byte: two of edition 3, the first without a
+//! field that says so, and one of edition 4.
 
-use plain::edition::{fresh, OF_SNAPSHOTS};
+use plain::edition::{fresh, OF_OLD_SNAPSHOTS};
 use plain::snapshot::write;
 use plain::Plain;
 use side::{Account, Book, Invoice, Offer, Round, Schedule, Side, Totals};
 
+use super::without_edition;
 use crate::chance::Chance;
 use crate::generate::{Generator, Plan};
 
 /// So long at most, so that every damage can be tried.
-const LONGEST: usize = 1_000;
+const LONGEST: usize = 1_300;
 
 /// A snapshot and its name.
 pub struct Sample {
@@ -22,7 +24,9 @@ pub fn samples() -> [Sample; 3] {
         let bytes = write(book).expect("the sample's books are sound");
         Sample { name, bytes }
     };
-    [sample("small", &small()), sample("middle", &middle()), sample("generated", &generated())]
+    let small = sample("small", &small());
+    let old = Sample { name: "old", bytes: without_edition(&small.bytes).to_vec() };
+    [old, sample("middle", &middle()), sample("generated", &generated())]
 }
 
 /// Two accounts, an invoice, an offer on it with two rounds and a schedule.
@@ -51,7 +55,7 @@ fn small() -> Book {
         accounts: vec![lender, account(2)],
         invoices: vec![Invoice { id: 10, originator: 2, amount: 2_000, status: 0 }],
         offers: vec![offer],
-        ..fresh(OF_SNAPSHOTS)
+        ..fresh(OF_OLD_SNAPSHOTS)
     }
 }
 
@@ -95,17 +99,18 @@ fn middle() -> Book {
         accounts: vec![Account::default(), full],
         invoices: vec![invoice, Invoice { id: 256, amount: 1, ..Invoice::default() }],
         offers: vec![Offer { schedule: Some(longest), ..bare }, closed],
-        ..fresh(OF_SNAPSHOTS)
+        ..fresh(3)
     }
 }
 
-/// The last book of the generator's commands whose snapshot is not too long.
+/// The last book of the generator's commands whose snapshot is not too long; its offer has more rounds
+/// than an earlier edition allows.
 fn generated() -> Book {
-    let mut chance = Chance::new(2026);
+    let mut chance = Chance::new(2_118);
     let plan = Plan { accounts: 2, invoices: 1, offers: 1, ..Plan::new(&mut chance) };
     let mut generator = Generator::new(chance, plan);
-    let (mut plain, mut last) = (Plain::default(), fresh(OF_SNAPSHOTS));
-    plain.reset(OF_SNAPSHOTS);
+    let (mut plain, mut last) = (Plain::default(), fresh(4));
+    plain.reset(4);
     while plain.snapshot(LONGEST).is_ok() {
         last = plain.book().clone();
         plain.run(&generator.next(&last));
@@ -120,12 +125,9 @@ mod test {
     #[test]
     fn the_samples_are_as_long_as_they_should_be() {
         let lengths = samples().map(|sample| sample.bytes.len());
-        assert!(
-            lengths[0] == 660 && lengths.iter().all(|length| *length <= LONGEST),
-            "{lengths:?}"
-        );
+        assert!(lengths[..2] == [660, 847] && lengths[2] <= LONGEST, "{lengths:?}");
         let book = generated();
-        let rounds: usize = book.offers.iter().map(|row| row.rounds.len()).sum();
-        assert!(book.accounts.len() > 1 && rounds > 1, "{book:?}");
+        let rounds = book.offers.iter().map(|row| row.rounds.len());
+        assert!(book.accounts.len() > 1 && rounds.max() > Some(12), "{book:?}");
     }
 }

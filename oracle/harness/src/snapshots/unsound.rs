@@ -1,6 +1,7 @@
 //! Faults that make a book unsound. A number stays within 32 bits where a book has no more room for
 //! it, so that every side can hold it.
 
+use plain::edition::most_rounds;
 use side::{Account, Book, Invoice, Offer, Round, Schedule};
 
 /// Plants the fault, where the book has a row for it.
@@ -54,16 +55,18 @@ fn good_offer(id: u64) -> Offer {
     Offer { id, amount: 1, rate: 1, duration: 86_400, ..Offer::default() }
 }
 
-fn thirteen_rounds(row: &mut Offer) {
+/// The last offer has so many good rounds.
+fn rounds(book: &mut Book, rounds: usize) -> Option<()> {
     let round = Round { amount: 1, rate: 1, duration: 86_400, ..Round::default() };
-    row.rounds = vec![round; 13];
+    book.offers.last_mut()?.rounds = vec![round; rounds];
+    Some(())
 }
 
 const TOO_MUCH: i64 = 4_000_000_000_000_001;
 
 /// Each with what is wrong.
 #[rustfmt::skip]
-pub const FAULTS: [(&str, Fault); 46] = [
+pub const FAULTS: [(&str, Fault); 47] = [
     ("edition 0", |book| set(book, |book| book.edition = 0)),
     ("the edition after the latest", |book| set(book, |book| book.edition = journal::LATEST + 1)),
     ("window 3599", |book| set(book, |book| book.window = 3_599)),
@@ -100,7 +103,8 @@ pub const FAULTS: [(&str, Fault); 46] = [
     ("amount repaid below 0", |book| offer(book, |row| row.repaid = -1)),
     ("outcome 1", |book| offer(book, |row| row.outcome = 1)),
     ("outcome 5", |book| offer(book, |row| row.outcome = 5)),
-    ("13 rounds", |book| offer(book, thirteen_rounds)),
+    ("a round more than its edition has", |book| rounds(book, most_rounds(book.edition) + 1)),
+    ("17 rounds", |book| rounds(book, 17)),
     ("party 2", |book| round(book, |row| row.party = 2)),
     ("a round's amount", |book| round(book, |row| row.amount = 1_000_000_000_001)),
     ("a round's rate", |book| round(book, |row| row.rate = 10_001)),

@@ -33,8 +33,9 @@ const OWED: [(&str, &[u64]); 20] = [
 ];
 
 /// What only the book and the time asked for tell.
-const EDGES: [(&str, &str); 9] = [
+const EDGES: [(&str, &str); 10] = [
     ("negotiation", "twelve rounds"),
+    ("negotiation", "sixteen rounds"),
     ("negotiation-status", "open at the deadline"),
     ("negotiation-status", "expired one later"),
     ("negotiation-status", "closed without an outcome"),
@@ -149,6 +150,7 @@ fn edges(book: &Book, kind: &str, asked: &[u64], answered: &[u64]) -> Vec<&'stat
     let late = offer.schedule.is_some() && now >= first;
     let met = [
         kind == "negotiation" && answer == 12,
+        kind == "negotiation" && answer == 16,
         now == offer.deadline && answer == 1,
         now.checked_sub(1) == Some(offer.deadline) && offer.outcome == 0 && answer == 4,
         offer.outcome == 0 && answer == 2,

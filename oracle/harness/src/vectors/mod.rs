@@ -193,6 +193,23 @@ mod test {
         assert_eq!(check(&samples()), Ok(()));
     }
 
+    /// Edition 4 adds the rounds that edition 3 refuses, from the thirteenth on.
+    #[test]
+    fn one_script_has_the_commands_of_two_editions() {
+        let script = |name| SCRIPTS.iter().find(|(named, _)| *named == name).unwrap().1;
+        let (twelve, sixteen) = (script("37-twelve"), script("37-sixteen"));
+        assert_eq!([twelve, sixteen].map(edition), [3, 4]);
+        let (twelve, sixteen) = (steps(twelve), steps(sixteen));
+        let commands = |steps: &[(Command, u64)]| -> Vec<_> {
+            steps.iter().map(|(command, _)| *command).collect()
+        };
+        assert_eq!(commands(&twelve), commands(&sixteen));
+        let part = twelve.iter().zip(&sixteen).find(|(early, late)| early.1 != late.1);
+        let Some(((Command::CounterOffer { round: 12, .. }, 7), (_, 0))) = part else {
+            panic!("{part:?}")
+        };
+    }
+
     #[test]
     fn the_longest_journal_fills_the_program() {
         let samples = samples();

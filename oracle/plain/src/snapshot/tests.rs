@@ -5,7 +5,7 @@ use side::{Account, Book, Invoice, Offer, Round, Schedule, Totals};
 use super::{examine, read, write, write_within, Refusal};
 use crate::edition::fresh;
 
-/// Settings and totals of a fresh book of edition 3.
+/// Settings and totals of a fresh book of edition 3, without the edition.
 #[rustfmt::skip]
 const FRESH: [u8; 110] = [
     0x11, 0, 8, 0, 0, 0, 0, 0, 0x03, 0xF4, 0x80, // a window of 259,200 seconds
@@ -28,7 +28,7 @@ const NO_ROWS: [u8; 33] = [
     0x90, 0, 8, 0, 0, 0, 0, 0, 0, 0, 0,
 ];
 
-/// The book of `sample`: every number is another one, but for lengths and codes.
+/// The book of `sample` without its edition: every number is another one, but for lengths and codes.
 #[rustfmt::skip]
 const SAMPLE: [u8; 517] = [
     0x11, 0, 8, 0, 0, 0, 0, 0, 0, 0x0E, 0x10, // a window of 3,600 seconds
@@ -129,7 +129,19 @@ fn empty() -> Vec<u8> {
     [FRESH.as_slice(), &NO_ROWS].concat()
 }
 
-/// The sample with other numbers in some fields.
+/// These bytes behind the field of an edition.
+fn of_edition(edition: u64, bytes: &[u8]) -> Vec<u8> {
+    [[0x10, 0, 8].as_slice(), &edition.to_be_bytes(), bytes].concat()
+}
+
+/// The sample's book with so many rounds on its offer.
+fn with_rounds(edition: u64, rounds: usize) -> Book {
+    let mut book = Book { edition, ..sample() };
+    book.offers[0].rounds = vec![book.offers[0].rounds[0]; rounds];
+    book
+}
+
+/// The sample without its edition, with other numbers in some fields.
 fn with(numbers: &[(usize, u64)]) -> Vec<u8> {
     let mut bytes = SAMPLE.to_vec();
     for (field, number) in numbers {
@@ -142,39 +154,104 @@ const UNSOUND: (u64, u64) = (15, 0);
 
 #[test]
 fn a_fresh_book_is_written_and_read() {
-    assert_eq!(write(&fresh(3)), Ok(empty()));
-    assert_eq!(read(&empty()), Ok(fresh(3)));
+    let bytes = of_edition(3, &empty());
+    assert_eq!(bytes[..14], [0x10, 0, 8, 0, 0, 0, 0, 0, 0, 0, 3, 0x11, 0, 8]);
+    assert_eq!(write(&fresh(3)), Ok(bytes.clone()));
+    assert_eq!(read(&bytes), Ok(fresh(3)));
 }
 
 #[test]
 fn every_column_has_its_field() {
-    assert_eq!(write(&sample()), Ok(SAMPLE.to_vec()));
-    assert_eq!(read(&SAMPLE), Ok(sample()));
+    let bytes = of_edition(3, &SAMPLE);
+    assert_eq!(write(&sample()), Ok(bytes.clone()));
+    assert_eq!(read(&bytes), Ok(sample()));
 }
 
-/// 64 rows in each table, twelve rounds on each offer: (10 + 3 + 64 × (8 + 4 + 17 + 12 × 5)) × 11.
+#[test]
+fn the_books_of_all_editions_are_read_back() {
+    for edition in 1..=4 {
+        for book in [fresh(edition), Book { edition, ..sample() }, with_rounds(edition, 12)] {
+            let bytes = write(&book).unwrap();
+            assert_eq!(bytes[..11], of_edition(edition, &[]));
+            assert_eq!(read(&bytes), Ok(book));
+        }
+    }
+}
+
+/// Bytes without an edition are from before there was a field for it.
+#[test]
+fn bytes_without_an_edition_are_of_edition_3() {
+    assert_eq!(read(&empty()), Ok(fresh(3)));
+    assert_eq!(read(&SAMPLE), Ok(sample()));
+    for edition in 1..=4 {
+        let bytes = write(&with_rounds(edition, 12)).unwrap();
+        assert_eq!(read(&bytes[11..]), Ok(with_rounds(3, 12)));
+    }
+    assert_eq!(examine(&write(&with_rounds(4, 13)).unwrap()[11..]), Err(Refusal::TooMany));
+}
+
+#[test]
+fn an_edition_that_there_is_not_is_wrong_at_once() {
+    let past_32_bits = (1 << 32) + 1;
+    for edition in [0, 5, 257, past_32_bits, past_32_bits + 2, 1 << 63, u64::MAX] {
+        for rest in [SAMPLE.as_slice(), &[], &[0; 20]] {
+            assert_eq!(read(&of_edition(edition, rest)), Err((13, 0)), "{edition}");
+        }
+    }
+}
+
+#[test]
+fn the_edition_has_a_field_as_any_other() {
+    let bytes = of_edition(3, &SAMPLE);
+    for length in 0..11 {
+        assert_eq!(read(&bytes[..length]), Err((13, 0)), "{length}");
+    }
+    for (place, byte) in [(0, 0x0F), (1, 1), (2, 7), (2, 9)] {
+        let mut bytes = bytes.clone();
+        bytes[place] = byte;
+        assert_eq!(read(&bytes), Err((13, 0)), "{place} {byte}");
+    }
+    let window_first = [&[0x11], &bytes[1..]].concat();
+    assert_eq!(read(&window_first), Err((13, 11)));
+    let journals = [0x10, 0, 2, 0, 3];
+    assert_eq!(read(&[journals.as_slice(), &SAMPLE].concat()), Err((13, 0)));
+    assert_eq!(read(&of_edition(3, &[])), Err((13, 11)));
+    assert_eq!(read(&of_edition(3, &bytes)), Err((13, 11)));
+}
+
+/// The limit is the edition's, and a round past it is seen before the malformed bytes after it.
+#[test]
+fn the_number_of_rounds_is_held_to_the_edition() {
+    for (edition, most) in [(1, 12), (2, 12), (3, 12), (4, 16)] {
+        let book = with_rounds(edition, most);
+        let bytes = write(&book).unwrap();
+        assert_eq!(read(&bytes), Ok(book));
+        assert_eq!(write(&with_rounds(edition, most + 1)), Err(15));
+        for past in [most + 1, 17, 255, 1 << 32] {
+            let count = with(&[(37, past as u64)]);
+            for rest in [count.as_slice(), &count[..418], &[&count[..418], &[0; 11]].concat()] {
+                let bytes = of_edition(edition, rest);
+                assert_eq!(examine(&bytes), Err(Refusal::TooMany), "{edition} {past}");
+            }
+        }
+    }
+}
+
+/// 64 rows in each table, all rounds on each offer: (11 + 3 + 64 × (8 + 4 + 17 + rounds × 5)) × 11.
 #[test]
 fn a_full_book_is_the_longest() {
-    let Book { accounts, invoices, offers, .. } = sample();
-    let (account, invoice, offer) = (accounts[0], invoices[0], &offers[0]);
-    let rounds = vec![offer.rounds[0]; 12];
-    let full = Book {
-        accounts: (0..64).map(|id| Account { id, ..account }).collect(),
-        invoices: (0..64).map(|id| Invoice { id, ..invoice }).collect(),
-        offers: (0..64).map(|id| Offer { id, rounds: rounds.clone(), ..offer.clone() }).collect(),
-        ..sample()
-    };
-    let bytes = write(&full).unwrap();
-    assert_eq!(bytes.len(), 62_799);
-    assert_eq!(read(&bytes), Ok(full));
-}
-
-#[test]
-fn the_book_of_an_earlier_edition_is_read_in_edition_3() {
-    for edition in [1, 2] {
-        let bytes = write(&Book { edition, ..sample() }).unwrap();
-        assert_eq!(bytes, SAMPLE);
-        assert_eq!(read(&bytes), Ok(sample()));
+    for (edition, rounds, longest) in [(3, 12, 62_810), (4, 16, 76_890)] {
+        let book = with_rounds(edition, rounds);
+        let (account, invoice, offer) = (book.accounts[0], book.invoices[0], &book.offers[0]);
+        let full = Book {
+            accounts: (0..64).map(|id| Account { id, ..account }).collect(),
+            invoices: (0..64).map(|id| Invoice { id, ..invoice }).collect(),
+            offers: (0..64).map(|id| Offer { id, ..offer.clone() }).collect(),
+            ..book.clone()
+        };
+        let bytes = write(&full).unwrap();
+        assert_eq!(bytes.len(), longest);
+        assert_eq!(read(&bytes), Ok(full));
     }
 }
 
@@ -182,9 +259,9 @@ fn the_book_of_an_earlier_edition_is_read_in_edition_3() {
 fn an_unsound_book_comes_before_a_short_buffer() {
     let unsound = Book { window: 3_599, ..sample() };
     assert_eq!(write_within(&unsound, 0), Err(15));
-    assert_eq!(write_within(&unsound, 65_536), Err(15));
-    assert_eq!(write_within(&sample(), 516), Err(14));
-    assert_eq!(write_within(&sample(), 517), Ok(SAMPLE.to_vec()));
+    assert_eq!(write_within(&unsound, 81_920), Err(15));
+    assert_eq!(write_within(&sample(), 527), Err(14));
+    assert_eq!(write_within(&sample(), 528), Ok(of_edition(3, &SAMPLE)));
 }
 
 #[test]
@@ -193,6 +270,7 @@ fn another_tag_is_the_first_wrong_field() {
         let mut bytes = SAMPLE;
         bytes[11 * field] ^= 0x40;
         assert_eq!(read(&bytes), Err((13, 11 * field as u64)));
+        assert_eq!(read(&of_edition(3, &bytes)), Err((13, 11 * field as u64 + 11)));
     }
 }
 
@@ -202,13 +280,18 @@ fn another_length_is_the_first_wrong_field() {
         let mut bytes = SAMPLE;
         bytes[22 + place] = byte;
         assert_eq!(read(&bytes), Err((13, 22)));
+        assert_eq!(read(&of_edition(3, &bytes)), Err((13, 33)));
     }
 }
 
 #[test]
 fn a_cut_field_is_wrong_at_its_tag() {
+    let bytes = of_edition(3, &SAMPLE);
     for length in 0..517 {
         assert_eq!(read(&SAMPLE[..length]), Err((13, (length / 11 * 11) as u64)), "{length}");
+    }
+    for length in 0..528 {
+        assert_eq!(read(&bytes[..length]), Err((13, (length / 11 * 11) as u64)), "{length}");
     }
 }
 
@@ -216,11 +299,12 @@ fn a_cut_field_is_wrong_at_its_tag() {
 fn bytes_after_the_last_field_are_wrong_where_they_begin() {
     for after in [[0x0C].as_slice(), &[0; 11], &FRESH] {
         assert_eq!(read(&[SAMPLE.as_slice(), after].concat()), Err((13, 517)));
+        assert_eq!(read(&of_edition(3, &[SAMPLE.as_slice(), after].concat())), Err((13, 528)));
     }
     assert_eq!(read(&[empty().as_slice(), &[0x11]].concat()), Err((13, 143)));
 }
 
-/// Accounts, invoices, offers and the offer's rounds; nothing follows the count.
+/// Accounts, invoices, offers and the offer's rounds in edition 3; nothing follows the count.
 #[test]
 fn a_count_past_its_limit_is_unsound_at_once() {
     for (field, most) in [(10, 64), (19, 64), (24, 64), (37, 12)] {
@@ -323,5 +407,5 @@ fn an_idle_repayment_account_is_kept() {
     let bytes = with(&[(4, 0), (5, 7)]);
     let book = Book { repayment: None, idle: 7, ..sample() };
     assert_eq!(read(&bytes), Ok(book.clone()));
-    assert_eq!(write(&book), Ok(bytes));
+    assert_eq!(write(&book), Ok(of_edition(3, &bytes)));
 }

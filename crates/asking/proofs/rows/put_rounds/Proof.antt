@@ -13,13 +13,13 @@ use Rattle.asking.proofs.rows.put_rounds.Statement.{statement}
 use Rattle.asking.proofs.rows.put_rounds.Tie as tie
 
 abbrev Inv-loop : tie.InvT-loop
-Inv-loop out₀ ink g len p₀ i₀ out p i = (i ≤ 12) × (i ≤ len) × Wrote ink (spread roundLine (take i (g .rounds))) out₀ p₀ out p
+Inv-loop out₀ ink g len p₀ i₀ out p i = (i ≤ 16) × (i ≤ len) × Wrote ink (spread roundLine (take i (g .rounds))) out₀ p₀ out p
 
 abbrev μ-loop : tie.MeasureT-loop
-μ-loop out₀ ink g len p₀ i₀ out p i = 12 - i
+μ-loop out₀ ink g len p₀ i₀ out p i = 16 - i
 
 -- the places for rounds
-long : (s : tie.Start Inv-loop μ-loop) → length (s .args .t4 .rounds) ≡ 12
+long : (s : tie.Start Inv-loop μ-loop) → length (s .args .t4 .rounds) ≡ 16
 long s = simp length-map at (s .good .1 .1 .1 .0 .1 .1 .0 .1 .0 .1)
 
 loop-holds : tie.Need-loop-holds Inv-loop μ-loop

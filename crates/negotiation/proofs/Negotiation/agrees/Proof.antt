@@ -12,7 +12,7 @@ use Rattle.negotiation.proofs.Negotiation.agrees.Tie as tie
 
 -- the originator's latest round is among those still to come
 abbrev Inv-loop : tie.InvT-loop
-Inv-loop t self n i₀ i = (i ≤ 12) × (latestBelow (self .rounds) n ≡ latestBelow (self .rounds) i)
+Inv-loop t self n i₀ i = (i ≤ 16) × (latestBelow (self .rounds) n ≡ latestBelow (self .rounds) i)
 
 abbrev μ-loop : tie.MeasureT-loop
 μ-loop t self n i₀ i = i

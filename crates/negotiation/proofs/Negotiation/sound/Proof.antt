@@ -10,10 +10,10 @@ use Rattle.negotiation.proofs.Negotiation.sound.Statement.{statement}
 use Rattle.negotiation.proofs.Negotiation.sound.Tie as tie
 
 abbrev Inv-loop : tie.InvT-loop
-Inv-loop self n ok₀ i₀ ok i = Checked 12 (rowTest roundSound roundZero noRound n (self .rounds)) i ok
+Inv-loop limit self n ok₀ i₀ ok i = Checked 16 (rowTest roundSound roundZero noRound n (self .rounds)) i ok
 
 abbrev μ-loop : tie.MeasureT-loop
-μ-loop self n ok₀ i₀ ok i = 12 - i
+μ-loop limit self n ok₀ i₀ ok i = 16 - i
 
 loop-again : tie.Need-loop-again Inv-loop μ-loop
 loop-again c =

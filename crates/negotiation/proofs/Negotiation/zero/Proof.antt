@@ -10,10 +10,10 @@ use Rattle.negotiation.proofs.Negotiation.zero.Statement.{statement}
 use Rattle.negotiation.proofs.Negotiation.zero.Tie as tie
 
 abbrev Inv-loop : tie.InvT-loop
-Inv-loop self ok₀ i₀ ok i = Checked 12 (λ j. roundZero (getD (self .rounds) j noRound)) i ok
+Inv-loop self ok₀ i₀ ok i = Checked 16 (λ j. roundZero (getD (self .rounds) j noRound)) i ok
 
 abbrev μ-loop : tie.MeasureT-loop
-μ-loop self ok₀ i₀ ok i = 12 - i
+μ-loop self ok₀ i₀ ok i = 16 - i
 
 loop-again : tie.Need-loop-again Inv-loop μ-loop
 loop-again c = check-turn (c .before .before .before .loop .inv) (c .before .before .loop-test .taken) (c .zero .ensures)

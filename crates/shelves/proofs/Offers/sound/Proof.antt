@@ -18,11 +18,11 @@ use Rattle.shelves.proofs.Offers.sound.Statement.{statement}
 use Rattle.shelves.proofs.Offers.sound.Tie as tie
 
 abbrev Inv-loop : tie.InvT-loop
-Inv-loop self n t ok₀ i₀ ok i =
-    Checked 64 (rowTest dealSound dealZero noDeal n (rowsOf self)) i ok × ((k : ℕ) → k < i → Whole roundSlots (getD (self .negotiations) k noNegotiation))
+Inv-loop e self n t ok₀ i₀ ok i =
+    Checked 64 (rowTest (dealSound e) dealZero noDeal n (rowsOf self)) i ok × ((k : ℕ) → k < i → Whole roundSlots (getD (self .negotiations) k noNegotiation))
 
 abbrev μ-loop : tie.MeasureT-loop
-μ-loop self n t ok₀ i₀ ok i = 64 - i
+μ-loop e self n t ok₀ i₀ ok i = 64 - i
 
 rows-long : (c : tie.Start Inv-loop μ-loop) → length (c .args .t1 .rows) ≡ 64
 rows-long c = simp length-map at (c .good .0 .1 .1 .1 .0 .1 .0 .1)
@@ -44,7 +44,7 @@ loop-again c =
     let row-is = join-at dealOf _ _ _ (even start) i (omega (arith, rows-long start)) noDeal _ _ _ in
     let negotiation-is = any-default (self .negotiations) i _ noNegotiation (omega (arith, negotiations-long start)) in
     let below = c .before .before .before .before .loop-test .taken in (
-      check-turn (c .before .before .before .before .before .loop .inv .0) below (c .fits2 .ensures .0 ∙ sym (ap (λ r. cond (ltb i (self .count)) (dealSound r) (dealZero r)) row-is) ∙ sym (by-use (self .count) i _ _)),
+      check-turn (c .before .before .before .before .before .loop .inv .0) below (c .fits2 .ensures .0 ∙ sym (ap (λ r. cond (ltb i (self .count)) (dealSound (start .args .edition) r) (dealZero r)) row-is) ∙ sym (by-use (self .count) i _ _)),
       below-on (c .before .before .before .before .before .loop .inv .1) (subst (λ n. Whole roundSlots n) negotiation-is (c .fits2 .ensures .1)),
     )
 

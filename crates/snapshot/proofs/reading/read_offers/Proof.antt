@@ -27,11 +27,11 @@ abbrev offersOf : List ℕ → List Offer → List Negotiation → List Schedule
 offersOf ids rs ns ss n = record { ids = ids; rows = rs; negotiations = ns; schedules = ss; count = n }
 
 abbrev Inv-loop : tie.InvT-loop
-Inv-loop s n ids₀ rows₀ negotiations₀ schedules₀ d₀ i₀ ids rows negotiations schedules d i =
-    (i ≤ n) × FillingParts offerIn talkIn planIn deal noDeal 64 s d₀ i ids rows negotiations schedules d
+Inv-loop s e n ids₀ rows₀ negotiations₀ schedules₀ d₀ i₀ ids rows negotiations schedules d i =
+    (i ≤ n) × FillingParts offerIn talkIn planIn (deal e) noDeal 64 s d₀ i ids rows negotiations schedules d
 
 abbrev μ-loop : tie.MeasureT-loop
-μ-loop s n ids₀ rows₀ negotiations₀ schedules₀ d₀ i₀ ids rows negotiations schedules d i = n - i
+μ-loop s e n ids₀ rows₀ negotiations₀ schedules₀ d₀ i₀ ids rows negotiations schedules d i = n - i
 
 loop-holds : tie.Need-loop-holds Inv-loop μ-loop
 loop-holds c =

@@ -4,6 +4,7 @@ use native.Mathlib.Omega.{arith}
 use borrow.Author.Needs.{needs}
 use Rattle.negotiation.specs.Rounds.{roundSlots, noRound}
 use Rattle.negotiation.specs.declared.Negotiation.{Negotiation}
+use Rattle.offer.specs.Kept.{limit-in-slots}
 use Rattle.snapshot.specs.Layout.{round}
 use Rattle.snapshot.specs.Rounds.{none-padded}
 use Rattle.snapshot.specs.Filling.{FillingRounds, rounds-start, rounds-turn, rounds-done}
@@ -11,17 +12,17 @@ use Rattle.snapshot.proofs.reading.read_rounds.Statement.{statement}
 use Rattle.snapshot.proofs.reading.read_rounds.Tie as tie
 
 abbrev Inv-loop : tie.InvT-loop
-Inv-loop s k n rows₀ d₀ i₀ rows d i = (i ≤ n) × FillingRounds round s d₀ i rows d
+Inv-loop s e limit k n rows₀ d₀ i₀ rows d i = (i ≤ n) × FillingRounds round s d₀ i rows d
 
 abbrev μ-loop : tie.MeasureT-loop
-μ-loop s k n rows₀ d₀ i₀ rows d i = n - i
+μ-loop s e limit k n rows₀ d₀ i₀ rows d i = n - i
 
 loop-holds : tie.Need-loop-holds Inv-loop μ-loop
 loop-holds c = (omega arith, rounds-start _ _ _ (ap (λ (x : Negotiation). x .rounds) (c .before .none .ensures) ∙ none-padded noRound roundSlots))
 
 -- a place of the table
-place : (c : tie.In-loop Inv-loop μ-loop) → c .before .loop .i < 12
-place c = omega (arith, c .loop-test .taken, c .before .before .before .before .count .ensures .low)
+place : (c : tie.In-loop Inv-loop μ-loop) → c .before .loop .i < 16
+place c = omega (arith, c .loop-test .taken, c .before .before .before .before .count .ensures .low, c .before .before .before .before .before .round-limit .ensures, limit-in-slots (c .before .before .before .before .before .before .before .args .edition))
 
 loop-again : tie.Need-loop-again Inv-loop μ-loop
 loop-again c =
@@ -29,7 +30,7 @@ loop-again c =
     (omega (arith, d .loop-test .taken), rounds-turn _ _ _ (place d) (d .before .loop .inv .1) (c .before .before .read-round .ensures))
 
 returns : tie.Need-returns Inv-loop μ-loop
-returns c = rounds-done (c .before .before .before .before .before .count .ensures) (omega arith) (c .before .before .loop .inv .1)
+returns c = rounds-done (rw (c .before .before .before .before .before .before .round-limit .ensures) at (c .before .before .before .before .before .count .ensures)) (omega arith) (c .before .before .loop .inv .1)
 
 pub read-rounds-spec : {M : Type 1} → statement M
 read-rounds-spec =
@@ -37,6 +38,8 @@ read-rounds-spec =
     (tie.spec
     Inv-loop
     μ-loop
+    (λ c κs. search needs)
+    (λ c. search needs)
     (λ c κs. search needs)
     (λ c κs. search needs)
     loop-holds
@@ -46,5 +49,5 @@ read-rounds-spec =
     (λ c. omega (arith, place (c .before .before .before)))
     (λ c. omega (arith, c .before .before .before .loop-test .taken))
     loop-again
-    (λ c. omega (arith, c .before .before .before .before .before .count .ensures .low))
+    (λ c. omega (arith, c .before .before .before .before .before .count .ensures .low, c .before .before .before .before .before .before .round-limit .ensures, limit-in-slots (c .before .before .before .before .before .before .before .before .args .edition)))
     returns)

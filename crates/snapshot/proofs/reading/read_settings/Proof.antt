@@ -8,7 +8,7 @@ use Rattle.snapshot.proofs.reading.read_settings.Tie as tie
 returns : tie.Need-returns
 unfolding settings
 returns c =
-    takes-via settingsFrom settingsParts (λ x _. refl) (takes-then (c .before .before .before .before .before .before .before .before .before .next .ensures .takes) (takes-then (c .before .before .before .before .before .before .before .before .next2 .ensures .takes) (takes-then (c .before .before .before .before .before .before .before .next3 .ensures .takes) (takes-then (takes-flag 0x60 (c .before .before .before .before .before .before .next4 .ensures)) (takes-then (takes-flag 0x61 (c .before .before .before .before .before .next5 .ensures)) (c .before .before .before .before .next6 .ensures .takes))))))
+    takes-via (settingsFrom _) settingsParts (λ x _. refl) (takes-then (c .before .before .before .before .before .before .before .before .before .next .ensures .takes) (takes-then (c .before .before .before .before .before .before .before .before .next2 .ensures .takes) (takes-then (c .before .before .before .before .before .before .before .next3 .ensures .takes) (takes-then (takes-flag 0x60 (c .before .before .before .before .before .before .next4 .ensures)) (takes-then (takes-flag 0x61 (c .before .before .before .before .before .next5 .ensures)) (c .before .before .before .before .next6 .ensures .takes))))))
 
 pub read-settings-spec : {M : Type 1} → statement M
 read-settings-spec =

@@ -17,7 +17,7 @@ put-deal-spec =
     (tie.spec
     (λ c κs. search needs)
     (λ c κs. search needs)
-    (λ c κs. deal-rounds _ (c .before .before .before .before .before .before .before .before .before .before .before .before .pre))
+    (λ c κs. deal-rounds _ _ (c .before .before .before .before .before .before .before .before .before .before .before .before .pre))
     (λ c κs. search needs)
     (λ c. puts-kept (returns c))
     returns)

@@ -8,7 +8,7 @@ use Rattle.snapshot.proofs.writing.put_settings.Tie as tie
 returns : tie.Need-returns
 unfolding settings
 returns c =
-    puts-via settingsFrom settingsParts (λ x _. refl) refl (puts-then (c .before .before .before .before .before .before .before .before .before .before .before .before .before .before .before .before .before .before .before .before .before .before .put .ensures) (puts-then (c .before .before .before .before .before .before .before .before .before .before .before .before .before .before .before .before .before .before .put-half .ensures) (puts-then (c .before .before .before .before .before .before .before .before .before .before .before .before .before .before .put-half2 .ensures) (puts-then (c .before .before .before .before .before .before .before .before .before .before .put-flag .ensures) (puts-then (c .before .before .before .before .before .before .put-flag2 .ensures) (c .before .before .put2 .ensures))))))
+    puts-via (settingsFrom _) settingsParts (λ x _. refl) refl (puts-then (c .before .before .before .before .before .before .before .before .before .before .before .before .before .before .before .before .before .before .before .before .before .before .put .ensures) (puts-then (c .before .before .before .before .before .before .before .before .before .before .before .before .before .before .before .before .before .before .put-half .ensures) (puts-then (c .before .before .before .before .before .before .before .before .before .before .before .before .before .before .put-half2 .ensures) (puts-then (c .before .before .before .before .before .before .before .before .before .before .put-flag .ensures) (puts-then (c .before .before .before .before .before .before .put-flag2 .ensures) (c .before .before .put2 .ensures))))))
 
 pub put-settings-spec : {M : Type 1} → statement M
 put-settings-spec =
