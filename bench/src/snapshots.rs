@@ -71,7 +71,7 @@ fn offer(id: u64) -> Offer {
         outcome: 2,
         deadline: 1_700_259_200,
         rounds: (0..most_rounds(LATEST) as u64).map(round).collect(),
-        schedule: Some(Schedule { count: 12, code: 3, installment: 80_000, first: 1_702_592_000 }),
+        schedule: Some(Schedule { count: 12, code: 3, installment: 78_750, first: 1_702_592_000, amount: 900_000, rate: 500, kind: 0 }),
     }
 }
 

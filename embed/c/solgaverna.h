@@ -74,7 +74,7 @@ enum {
 int64_t solgaverna_answers(const uint8_t *journal, size_t journal_len, const uint64_t *questions, size_t questions_len,
                            uint64_t *out, size_t out_len);
 
-/* The snapshot of the book after the journal: the whole book in bytes (docs/SNAPSHOT.md), 76,890 of them at most. */
+/* The snapshot of the book after the journal: the whole book in bytes (docs/SNAPSHOT.md), 78,298 of them at most. */
 int64_t solgaverna_snapshot(const uint8_t *journal, size_t journal_len, uint8_t *out, size_t out_len);
 
 /* A journal that goes on from the book of a snapshot. It must be of the edition that the snapshot names; one from before there was

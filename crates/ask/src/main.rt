@@ -45,7 +45,7 @@ Replays a journal, from a fresh book or on that of a snapshot, and answers quest
   schedule ID                   0 count code installment first-due, or 0 none
   negotiation ID                0 ROUNDS DEADLINE OUTCOME, then party amount rate duration time each
   negotiation-status ID NOW     0 CODE
-  due ID NOW                    0 NUMBER
+  due ID NOW                    0 NUMBER OWED
   count window seats threshold paused
                                 0 N
   totals                        0 offers financed repaid fees

@@ -4,6 +4,7 @@ use book::Book;
 use lists::Listed;
 use lists::OfferNumbers;
 use lists::Wanted;
+use query::InstallmentDue;
 use query::LenderAnswer;
 use query::NegotiationAnswer;
 use query::NumberAnswer;
@@ -109,6 +110,17 @@ fn two(out: &mut [u8; 65536], a: NumberAnswer, b: NumberAnswer) -> usize {
     bridge_words::put(out, p, y)
 }
 
+fn due(out: &mut [u8; 65536], a: InstallmentDue) -> usize {
+    match a {
+        InstallmentDue::Due(n, x) => {
+            let mut p = head(out, 0, 2, 2);
+            p = bridge_words::put(out, p, n);
+            bridge_words::put(out, p, x)
+        }
+        InstallmentDue::Unsound => refused(out, refusal::BOOK_UNSOUND),
+    }
+}
+
 fn four(out: &mut [u8; 65536], a: u64, b: u64, c: u64, d: u64) -> usize {
     let mut p = head(out, 0, 4, 4);
     p = bridge_words::put(out, p, a);
@@ -184,7 +196,7 @@ fn of_offer(out: &mut [u8; 65536], book: Book, query: u64, id: u64, now: u64) ->
     if query == 10 {
         return number(out, query::get_negotiation_status(book, now, id));
     }
-    number(out, query::get_installment_due(book, now, id))
+    due(out, query::get_installment_due(book, now, id))
 }
 
 fn of_book(out: &mut [u8; 65536], book: Book, query: u64, id: u64) -> usize {

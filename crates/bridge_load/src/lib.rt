@@ -146,6 +146,9 @@ fn schedule(s: &[u8; 65536], at: usize) -> Schedule {
         code: bridge_words::half(bridge_words::get(s, at, 13)),
         installment: of_bits(bridge_words::get(s, at, 14)),
         first: bridge_words::get(s, at, 15),
+        amount: of_bits(bridge_words::get(s, at, 16)),
+        rate: bridge_words::half(bridge_words::get(s, at, 17)),
+        kind: bridge_words::half(bridge_words::get(s, at, 18)),
     }
 }
 
@@ -161,7 +164,7 @@ fn round(s: &[u8; 65536], at: usize) -> Round {
 
 // The negotiation of the offer at a place, and the place past that offer.
 fn negotiation(s: &[u8; 65536], at: usize) -> NegotiationRead {
-    let n = bridge_words::half(bridge_words::get(s, at, 16));
+    let n = bridge_words::half(bridge_words::get(s, at, 19));
     let m = bridge_words::least(n as usize, 16);
     let none = Round {
         amount: 0,
@@ -171,7 +174,7 @@ fn negotiation(s: &[u8; 65536], at: usize) -> NegotiationRead {
         party: 0,
     };
     let mut rows = [none; 16];
-    let mut p = bridge_words::on(at, 17);
+    let mut p = bridge_words::on(at, 20);
     let mut i: usize = 0;
     while i < m {
         rows[i] = round(s, p);

@@ -100,7 +100,10 @@ fn schedule(out: &mut [u8; 65536], at: usize, s: Schedule) -> usize {
     let mut p = bridge_words::put(out, at, s.count as u64);
     p = bridge_words::put(out, p, s.code as u64);
     p = bridge_words::put(out, p, money::bits(s.installment));
-    bridge_words::put(out, p, s.first)
+    p = bridge_words::put(out, p, s.first);
+    p = bridge_words::put(out, p, money::bits(s.amount));
+    p = bridge_words::put(out, p, s.rate as u64);
+    bridge_words::put(out, p, s.kind as u64)
 }
 
 // An offer's negotiation and schedule.

@@ -1,7 +1,7 @@
 -- Codecs over bytes, composed: what is written, what is read, and that the two undo each other. Assumes nothing.
 --
--- A codec says both ways of one kind of value, and carries its laws. `column`, `_then_`, `via`, `rows` and `led` make
--- larger codecs of smaller ones, laws included, so that a format is one expression and needs no proof of its own.
+-- A codec says both ways of one kind of value, and carries its laws. `column`, `_then_`, `via`, `given`, `rows` and `led`
+-- make larger codecs of smaller ones, laws included, so that a format is one expression and needs no proof of its own.
 use mathlib.Core.Path.{_≡_, refl, sym, ap, _∙_}
 use mathlib.Core.Bool.{Bool, true, false, _&&_}
 use mathlib.Core.List.{List, [], _∷_, _++_, append-assoc}
@@ -302,6 +302,44 @@ via f g a h = record {
   back = via-back f g a h;
   same = via-same f g a h;
   stops = via-stops f g a h;
+}
+
+-- ── What only some editions have: elsewhere nothing is written, and d is read
+module _ {A : Type 0} (d : A) (a : Codec A) where
+  abbrev pub givenOut : Bool → A → List ℕ
+  givenOut t x = pick t (a .out x) []
+
+  abbrev pub givenIn : Bool → List ℕ → ℕ → Got A
+  givenIn t s at = pick t (a .into s at) (got d at true)
+
+  abbrev pub GivenFits : Bool → A → Type 0
+  GivenFits t x = pick t (a .Fits x) (x ≡ d)
+
+  pub given-back : (t : Bool) (s : List ℕ) (at : ℕ) (x : A) → GivenFits t x → Stands s at (givenOut t x) → givenIn t s at ≡ got x (at + length (givenOut t x)) true
+  unfolding pick
+  given-back true s at x f e = a .back s at x f e
+  given-back false s at x f e = rw (f, add-zero)
+
+  pub given-same : (t : Bool) (s : List ℕ) (at : ℕ) (x : A) (n : ℕ) → Bytes s → givenIn t s at ≡ got x n true → Read s at (givenOut t x) n × GivenFits t x
+  unfolding pick Stands
+  given-same true s at x n k e = a .same s at x n k e
+  given-same false s at x n k e =
+      let q : at ≡ n = cc in
+      (record { stands = ap (λ (m : ℕ). drop m s) (sym (add-zero at)); past = omega arith }, (cc))
+
+  pub given-stops : (t : Bool) (s : List ℕ) (at r p : ℕ) → givenIn t s at ≡ no r p → 0 < r
+  unfolding pick
+  given-stops true s at r p e = a .stops s at r p e
+  given-stops false s at r p e = never-stopped r p e
+
+unfoldable pub given : {A : Type 0} → Bool → A → Codec A → Codec A
+given t d a = record {
+  out = givenOut d a t;
+  into = givenIn d a t;
+  Fits = GivenFits d a t;
+  back = given-back d a t;
+  same = given-same d a t;
+  stops = given-stops d a t;
 }
 
 -- ── A table: the number of its rows, at most `most`, then the rows ─

@@ -15,7 +15,7 @@ use Rattle.wire.specs.Field.{begins, numberAt}
 use Rattle.money.specs.Range.{ofBits, bitsOf}
 use Rattle.money.specs.Facts.{bits-of-bits}
 use lib.IntN.{ℤ}
-use Rattle.codec.specs.Codec.{Got, got, no, marked, mark-true, mark-bind, bind, Codec, columnIn, column, countIn, someIn, some-last, rowsIn, rows, pairIn, viaIn, _then_, via, led, ledIn, restIn}
+use Rattle.codec.specs.Codec.{Got, got, no, marked, mark-true, mark-bind, bind, Codec, columnIn, column, countIn, someIn, some-last, rowsIn, rows, pairIn, viaIn, _then_, via, given, led, ledIn, restIn}
 use Rattle.codec.specs.Columns.{whole, signed, flag, isOne, oneIf, flag-back}
 use Rattle.codec.specs.Cursor.{cursor, landed, nextOf, countOf}
 use Rattle.codec.specs.declared.Cursor.{Cursor}
@@ -141,6 +141,16 @@ module _ {A B : Type 0} where
   pub takes-via : {s : List ℕ} {c d : Cursor} (f : A → B) (g : B → A) {a : Codec A} (h : (x : A) → a .Fits x → g (f x) ≡ x) {x : A} → Takes s c a d x → Takes s c (via f g a h) d (f x)
   unfolding via viaIn
   takes-via f g h p = record { walks = walks-map f (p .walks) }
+
+-- ── What only some editions have ──────────────────────────────────
+module _ {A : Type 0} {s : List ℕ} {c : Cursor} (t : Bool) (z : A) (a : Codec A) where
+  pub takes-given : {d : Cursor} {x : A} → t ≡ true → Takes s c a d x → Takes s c (given t z a) d x
+  unfolding given pick
+  takes-given e g = rw e (record { walks = record { is = g .walks .is } })
+
+  pub takes-lacking : t ≡ false → Takes s c (given t z a) c z
+  unfolding given pick
+  takes-lacking e = rw e (record { walks = walks-none s c z })
 
 -- ── Columns of other types ────────────────────────────────────────
 pub takes-signed : {s : List ℕ} {c d : Cursor} {z : ℤ} (tag : ℕ) → Next s c tag (2 ^ 64 - 1) d → z ≡ ofBits (d .x) → Takes s c (signed tag) d (ofBits (bitsOf z))

@@ -8,11 +8,12 @@ use lib.IntN.{ℤ}
 use lib.ListN.{length, length-append}
 use Rattle.money.specs.Range.{ofBits, bitsOf}
 use Rattle.money.specs.Facts.{bits-of-bits}
+use Rattle.refusal.specs.Choice.{pick}
 use Rattle.sheet.specs.declared.Pen.{Pen}
 use Rattle.sheet.specs.Sheet.{Wrote}
 use Rattle.sheet.specs.SheetLaws.{next, retext, none, kept}
 use Rattle.wire.specs.Field.{bytesOf, fieldOf}
-use Rattle.codec.specs.Codec.{Codec, column, _then_, via, allOut, AllFit, rows, led}
+use Rattle.codec.specs.Codec.{Codec, column, _then_, via, given, allOut, AllFit, rows, led}
 use Rattle.codec.specs.Columns.{whole, signed, flag, isOne, oneIf, flag-back}
 
 -- x was written by the codec a
@@ -59,6 +60,16 @@ module _ {A B : Type 0} {ink : Bool} where
   pub puts-via : (f : A → B) (g : B → A) {a : Codec A} (h : (x : A) → a .Fits x → g (f x) ≡ x) {y : B} {l m : List ℕ} {p q : Pen} → f (g y) ≡ y → Puts ink a (g y) l p m q → Puts ink (via f g a h) y l p m q
   unfolding via
   puts-via f g h e w = record { wrote = w .wrote; fits = (w .fits, e) }
+
+-- ── What only some editions have ──────────────────────────────────
+module _ {A : Type 0} {ink : Bool} (t : Bool) (d : A) (a : Codec A) {l : List ℕ} {p : Pen} where
+  pub puts-given : {x : A} {m : List ℕ} {q : Pen} → t ≡ true → Puts ink a x l p m q → Puts ink (given t d a) x l p m q
+  unfolding given pick
+  puts-given e g = rw e (record { wrote = g .wrote; fits = g .fits })
+
+  pub puts-lacking : {x : A} → t ≡ false → x ≡ d → Puts ink (given t d a) x l p l p
+  unfolding given pick
+  puts-lacking e h = rw e (record { wrote = none ink l p; fits = h })
 
 -- ── The key first, and the rest by it ─────────────────────────────
 pub puts-led : {A : Type 0} {ink : Bool} (tag : ℕ) (known : ℕ → Bool) (key : A → ℕ) (c : ℕ → Codec A) (h : (e : ℕ) (x : A) → c e .Fits x → key x ≡ e) {x : A} {l m n : List ℕ} {p q r : Pen} → known (key x) ≡ true → Puts ink (whole tag) (key x) l p m q → Puts ink (c (key x)) x m q n r

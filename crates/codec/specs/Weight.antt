@@ -1,15 +1,16 @@
 -- How many bytes a value takes at most, by its codec. Assumes nothing.
 use mathlib.Core.Path.{_≡_}
-use mathlib.Core.Bool.{Bool}
+use mathlib.Core.Bool.{Bool, true, false}
 use mathlib.Core.List.{List, [], _∷_, _++_}
 use Prim.Native.Nat.{ℕ, zero, suc, _+_, _*_, _-_, _^_, _≤_}
 use native.Mathlib.Omega.{arith}
 use native.Mathlib.Nat.{mul-le-mul-right}
 use lib.IntN.{ℤ}
 use lib.ListN.{length, length-append}
+use Rattle.refusal.specs.Choice.{pick}
 use Rattle.wire.specs.Field.{bytesOf, fieldOf}
 use Rattle.wire.specs.FieldLaws.{length-field}
-use Rattle.codec.specs.Codec.{Codec, column, _then_, via, allOut, AllFit, rows, led}
+use Rattle.codec.specs.Codec.{Codec, column, _then_, via, given, allOut, AllFit, rows, led}
 use Rattle.codec.specs.Columns.{whole, signed, flag}
 
 pub record Weighs {A : Type 0} (a : Codec A) (n : ℕ) : Type 0 where
@@ -26,6 +27,11 @@ weighs-then {a = a} {b = b} u v = record { most = λ x f. omega (arith, length-a
 pub weighs-via : {A B : Type 0} (f : A → B) (g : B → A) {a : Codec A} (h : (x : A) → a .Fits x → g (f x) ≡ x) {n : ℕ} → Weighs a n → Weighs (via f g a h) n
 unfolding via
 weighs-via f g h u = record { most = λ y k. u .most (g y) (k .0) }
+
+pub weighs-given : {A : Type 0} (t : Bool) (d : A) {a : Codec A} {n : ℕ} → Weighs a n → Weighs (given t d a) n
+unfolding given pick
+weighs-given true d u = record { most = λ x f. u .most x f }
+weighs-given false d u = record { most = λ x f. omega arith }
 
 pub weighs-signed : (tag : ℕ) → Weighs (signed tag) 11
 unfolding signed

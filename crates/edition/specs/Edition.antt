@@ -8,7 +8,7 @@ abbrev pub firstEdition : ℕ
 firstEdition = 1
 
 abbrev pub latestEdition : ℕ
-latestEdition = 4
+latestEdition = 5
 
 unfoldable pub listed : ℕ → Bool
 listed e = leb firstEdition e && leb e latestEdition
@@ -24,6 +24,10 @@ freshWindow e = cond (leb 3 e) 259200 604800
 -- how many rounds an offer gets at most: more from edition 4 on (f)
 unfoldable pub roundLimit : ℕ → ℕ
 roundLimit e = cond (leb 4 e) 16 12
+
+-- from edition 5 on (i): a schedule keeps the offer's terms, and its last installment carries what is left of their total
+unfoldable pub keepsTerms : ℕ → Bool
+keepsTerms e = leb 5 e
 
 -- the edition of a snapshot that names none: it is from before its field was there (f)
 abbrev pub unnamedEdition : ℕ

@@ -1,10 +1,10 @@
 // What each edition of the rules has.
 ghost use mathlib.Core.Path.{_≡_};
-ghost use Rattle.edition.specs.Edition.{listed, holdsAmount, freshWindow, roundLimit};
+ghost use Rattle.edition.specs.Edition.{listed, holdsAmount, freshWindow, roundLimit, keepsTerms};
 
 pub const FIRST: u32 = 1;
 
-pub const LATEST: u32 = 4;
+pub const LATEST: u32 = 5;
 
 // A snapshot that names no edition is of this one.
 pub const UNNAMED: u32 = 3;
@@ -41,4 +41,11 @@ pub fn round_limit(edition: u32) -> u32
         return 16;
     }
     12
+}
+
+// Whether a schedule keeps its terms, and its last installment carries what is left of their total.
+pub fn keeps_terms(edition: u32) -> bool
+    ensures { λ r. ⌜ r ≡ keepsTerms edition ⌝ }
+{
+    5 <= edition
 }

@@ -207,11 +207,12 @@ impl Near {
     }
 
     fn scheduled(self, now: u64, caller: u64, count: u32, code: u32, start: u64) -> Turn
-        ensures { λ r. ⌜ AtDeal self r (λ o m. onOffer m o (scheduleOf (offerIn m o) now caller count code start (paperOf m o))) ⌝ }
+        ensures { λ r. ⌜ AtDeal self r (λ o m. onOffer m o (scheduleOf (m .settings .edition) (offerIn m o) now caller count code start (paperOf m o))) ⌝ }
     {
         let deal = self.deal;
         let paper = self.paper;
-        let posted = deal.schedule(now, caller, count, code, start, paper);
+        let settings = self.settings;
+        let posted = deal.schedule(settings.edition, now, caller, count, code, start, paper);
         self.deal_posted(posted)
     }
 

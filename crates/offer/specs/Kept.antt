@@ -6,20 +6,19 @@ use mathlib.Core.Bool.{Bool, true, false, cond}
 use lib.Dec.{leb, eqb}
 use lib.IntN.{ℤ}
 use borrow.Author.Tests.{eqb-true, not-false, leb-false, lt-leb}
-use Rattle.money.specs.Range.{inTotal, inInstallment, isZero}
+use Rattle.money.specs.Range.{inTotal, isZero}
 use Rattle.refusal.specs.Choice.{pick}
 use Rattle.refusal.specs.ChoiceLaws.{pick-on, pick-off}
 use Rattle.refusal.specs.Refusal.{first}
 use Rattle.refusal.specs.Rule.{Rule, after}
 use Rattle.refusal.specs.RuleLaws.{Keeps, passed}
-use Rattle.edition.specs.Edition.{roundLimit}
+use Rattle.edition.specs.Edition.{roundLimit, keepsTerms}
 use Rattle.terms.specs.Status.{statusListed}
 use Rattle.terms.specs.Terms.{termsOk, countOk}
-use Rattle.terms.specs.Schedule.{periodListed}
+use Rattle.terms.specs.Schedule.{periodListed, madeOf, scheduleOk}
 use Rattle.terms.specs.Installment.{installmentOf}
 use Rattle.terms.specs.Laws.{terms-in, installment-valid, installment-in, made-ok}
 use Rattle.terms.specs.declared.Terms.{Terms}
-use Rattle.terms.specs.declared.Schedule.{Schedule}
 use Rattle.negotiation.specs.Rounds.{roundSlots, negotiable, roundOf, addedOf, acceptedOf, closedAs}
 use Rattle.negotiation.specs.Laws.{stored, round-sound, added-sound, added-whole, closed-sound, closed-whole, accepted-sound, accepted-whole}
 use Rattle.negotiation.specs.declared.Negotiation.{Negotiation}
@@ -118,23 +117,21 @@ close-keeps {e} s now caller paper h z =
     let o = outcomeAt (standing s now) in
     negotiation-kept h (closedAs o n) (closed-sound roundSlots (roundLimit e) o n (outcome-stored (standing s now)) (kept-ranges h .rounds-in)) (closed-whole roundSlots o n (h .whole))
 
--- an installment that is not 0, of valid terms
-stored-installment : (t : Terms) (count : ℕ) → termsOk t ≡ true → countOk count ≡ true → isZero (installmentOf t count .1) ≡ false
-    → inInstallment (installmentOf t count .1) ≡ true
-stored-installment t count h k z =
+-- the schedule of valid terms whose installment is not 0 can be stored, with its terms or without
+made-kept : (kept : Bool) (t : Terms) (count code first : ℕ) → termsOk t ≡ true → countOk count ≡ true → periodListed code ≡ true → isZero (installmentOf t count .1) ≡ false
+    → scheduleOk kept (madeOf kept t count code first (installmentOf t count .1)) ≡ true
+made-kept kept t count code first h k l z =
     let v = ap (λ (q : ℕ × ℤ). q .1) (installment-valid t count h k) in
-    ap inInstallment v ∙ installment-in t count (terms-in t h) (ap isZero (sym v) ∙ z)
+    rw v (made-ok kept t count code first (terms-in t h) k l (installment-in t count (terms-in t h) (ap isZero (sym v) ∙ z)))
 
-pub schedule-keeps : {e : ℕ} (s : SeenDeal) (now caller count code first : ℕ) (paper : SeenInvoice) → Keeps (DealKept e) (s .row) (scheduleOf s now caller count code first paper)
-schedule-keeps s now caller count code first paper h e =
+pub schedule-keeps : (e : ℕ) (s : SeenDeal) (now caller count code first : ℕ) (paper : SeenInvoice) → Keeps (DealKept e) (s .row) (scheduleOf e s now caller count code first paper)
+schedule-keeps e s now caller count code first paper h c =
     let t = s .row .offer .terms in
-    let a = passed _ _ _ e in
+    let a = passed _ _ _ c in
     let b = passed _ _ _ (passed _ _ _ (a .1) .1) in
     let z = passed _ _ _ (passed _ _ _ (passed _ _ _ (passed _ _ _ (passed _ _ _ (b .1) .1) .1) .1) .1) in
-    let k = not-false (countOk count) (a .0) in
-    let x = stored-installment t count (kept-ranges h .terms-in) k (z .0) in
-    let made : Schedule = record { count = count; code = code; installment = installmentOf t count .1; first = first } in
-    schedule-kept h made (made-ok made k (not-false (periodListed code) (b .0)) x)
+    schedule-kept h (madeOf (keepsTerms e) t count code first (installmentOf t count .1))
+    (made-kept (keepsTerms e) t count code first (kept-ranges h .terms-in) (not-false (countOk count) (a .0)) (not-false (periodListed code) (b .0)) (z .0))
 
 pub status-update-keeps : {e : ℕ} (s : SeenDeal) (allowed : Bool) (code : ℕ) → Keeps (DealKept e) (s .row) (statusUpdateOf s allowed code)
 status-update-keeps s allowed code h e =

@@ -1,15 +1,16 @@
 -- What the crates above need of offers' rows: which row is zero, what a sound row holds, and that a new one, and one with a part put anew, is sound. Assumes nothing.
 use Prim.Native.Nat.{ℕ}
-use mathlib.Core.Path.{_≡_, refl}
+use mathlib.Core.Path.{_≡_, refl, ap, subst}
 use mathlib.Core.Bool.{Bool, true, false, _||_}
 use lib.Dec.{leb}
-use lib.IntN.{pos}
+use lib.IntN.{ℤ, pos}
 use borrow.Author.Tests.{eqb-true}
 use Rattle.money.specs.Range.{inTotal}
-use Rattle.edition.specs.Edition.{roundLimit}
+use Rattle.edition.specs.Edition.{roundLimit, keepsTerms}
 use Rattle.money.specs.Facts.{both, zero-is}
 use Rattle.terms.specs.Terms.{termsOk}
-use Rattle.terms.specs.Schedule.{scheduleOk, scheduleZero}
+use Rattle.terms.specs.Schedule.{keepsNone, scheduleOk, scheduleNone, scheduleZero}
+use Rattle.terms.specs.Laws.{made-in, none-kept}
 use Rattle.terms.specs.declared.Terms.{Terms}
 use Rattle.terms.specs.declared.Schedule.{Schedule}
 use Rattle.negotiation.specs.Rounds.{roundSlots, noNegotiation, negotiationSound}
@@ -21,16 +22,19 @@ use Rattle.offer.specs.declared.Deal.{Deal}
 use Rattle.offer.specs.Offer.{noOffer, noSchedule, noDeal, newDeal, withOffer, withNegotiation, withSchedule, dealSound, offerZero, dealZero}
 
 -- ── Zero rows ─────────────────────────────────────────────────────
-no-schedule : (s : Schedule) → s .count ≡ 0 → s .code ≡ 0 → s .installment ≡ pos 0 → s .first ≡ 0 → s ≡ noSchedule
-no-schedule s n k x f i = record { count = n i; code = k i; installment = x i; first = f i }
+no-schedule : (s : Schedule) → s .count ≡ 0 → s .code ≡ 0 → s .installment ≡ pos 0 → s .first ≡ 0 → s .amount ≡ pos 0 → s .rate ≡ 0 → s .kind ≡ 0 → s ≡ noSchedule
+no-schedule s n k x f a r q i = record { count = n i; code = k i; installment = x i; first = f i; amount = a i; rate = r i; kind = q i }
 
 pub schedule-zero : (s : Schedule) → scheduleZero s ≡ true → s ≡ noSchedule
-unfolding scheduleZero
+unfolding scheduleZero scheduleNone keepsNone
 schedule-zero s e =
-    let c = both _ _ e in
+    let g = both _ _ e in
+    let f = both _ _ (g .0) in
+    let d = both _ _ (f .1) in
+    let c = both _ _ (f .0) in
     let b = both _ _ (c .0) in
     let a = both _ _ (b .0) in
-    no-schedule s (eqb-true _ _ (a .0)) (eqb-true _ _ (a .1)) (zero-is _ (b .1)) (eqb-true _ _ (c .1))
+    no-schedule s (eqb-true _ _ (a .0)) (eqb-true _ _ (a .1)) (zero-is _ (b .1)) (eqb-true _ _ (c .1)) (zero-is _ (d .0)) (eqb-true _ _ (d .1)) (eqb-true _ _ (g .1))
 
 no-offer : (o : Offer) → o .terms .amount ≡ pos 0 → o .terms .rate ≡ 0 → o .terms .duration ≡ 0 → o .invoice ≡ 0 → o .lender ≡ 0 → o .expires ≡ 0
     → o .funded ≡ 0 → o .repaid ≡ pos 0 → o .status ≡ 0 → o ≡ noOffer
@@ -70,8 +74,23 @@ deal-zero d w e =
     parts d (offer-zero (d .offer) (a .0)) (negotiation-zero (d .negotiation) w (a .1)) (schedule-zero (d .schedule) (b .1))
 
 pub no-deal-zero : dealZero noDeal ≡ true
-unfolding dealZero offerZero scheduleZero
+unfolding dealZero offerZero scheduleZero scheduleNone keepsNone
 no-deal-zero = rw none-zero
+
+-- a schedule of an edition that keeps no terms has none, and there is one kind
+module _ (kept : Bool) (s : Schedule) (h : scheduleZero s || scheduleOk kept s ≡ true) where
+  by-case : {P : Type 0} → (s ≡ noSchedule → P) → (scheduleOk kept s ≡ true → P) → P
+  by-case {P} f g = go (scheduleZero s) refl h
+    where
+      go : (b : Bool) → scheduleZero s ≡ b → b || scheduleOk kept s ≡ true → P
+      go true e k = f (schedule-zero s e)
+      go false e k = g k
+
+  pub unkept : kept ≡ false → _≡_ {A = ℤ × ℕ} (s .amount, s .rate) (pos 0, 0)
+  unkept e = by-case (λ z. ap (λ (x : Schedule). (x .amount, x .rate)) z) (λ k. none-kept s (subst (λ (b : Bool). scheduleOk b s ≡ true) e k))
+
+  pub one-kind : s .kind ≡ 0
+  one-kind = by-case (λ z. ap (λ (x : Schedule). x .kind) z) (λ k. made-in kept s k .kind)
 
 -- ── Sound rows ────────────────────────────────────────────────────
 -- a row passes the test, and its negotiation has room for all its rounds
@@ -85,7 +104,7 @@ pub record Ranges (e : ℕ) (d : Deal) : Type 0 where
   pub repaid-in : inTotal (d .offer .repaid) ≡ true
   pub status-in : leb (d .offer .status) 5 ≡ true
   pub rounds-in : negotiationSound roundSlots (roundLimit e) (d .negotiation) ≡ true
-  pub schedule-in : scheduleZero (d .schedule) || scheduleOk (d .schedule) ≡ true
+  pub schedule-in : scheduleZero (d .schedule) || scheduleOk (keepsTerms e) (d .schedule) ≡ true
 
 pub kept-ranges : {e : ℕ} {d : Deal} → DealKept e d → Ranges e d
 unfolding dealSound
@@ -102,7 +121,7 @@ ranges-kept {e} {d} r w = record { test = rw (r .terms-in, r .repaid-in, r .stat
 
 -- a new offer of valid terms
 pub new-kept : {e : ℕ} (lender invoice : ℕ) (t : Terms) (expires : ℕ) → termsOk t ≡ true → DealKept e (newDeal lender invoice t expires)
-unfolding scheduleZero
+unfolding scheduleZero scheduleNone keepsNone
 new-kept lender invoice t expires h = ranges-kept (record { terms-in = h; repaid-in = refl; status-in = refl; rounds-in = none-sound _; schedule-in = refl }) none-whole
 
 module _ {e : ℕ} {d : Deal} (h : DealKept e d) where
@@ -116,11 +135,11 @@ module _ {e : ℕ} {d : Deal} (h : DealKept e d) where
       let r = kept-ranges h in
       ranges-kept (record { terms-in = r .terms-in; repaid-in = r .repaid-in; status-in = r .status-in; rounds-in = s; schedule-in = r .schedule-in }) w
 
-  pub schedule-kept : (s : Schedule) → scheduleOk s ≡ true → DealKept e (withSchedule s d)
+  pub schedule-kept : (s : Schedule) → scheduleOk (keepsTerms e) s ≡ true → DealKept e (withSchedule s d)
   schedule-kept s k =
       let r = kept-ranges h in
       ranges-kept (record { terms-in = r .terms-in; repaid-in = r .repaid-in; status-in = r .status-in; rounds-in = r .rounds-in; schedule-in = either (scheduleZero s) }) (h .whole)
     where
-      either : (b : Bool) → b || scheduleOk s ≡ true
+      either : (b : Bool) → b || scheduleOk (keepsTerms e) s ≡ true
       either true = refl
       either false = k

@@ -4,7 +4,7 @@ use mathlib.Core.Bool.{Bool, not, _&&_, _||_}
 use lib.Dec.{leb, eqb}
 use lib.IntN.{ℤ, pos}
 use Rattle.money.specs.Range.{inTotal, isZero}
-use Rattle.edition.specs.Edition.{roundLimit}
+use Rattle.edition.specs.Edition.{roundLimit, keepsTerms}
 use Rattle.terms.specs.Status.{statusPending, statusAccepted, statusListed}
 use Rattle.terms.specs.Terms.{termsOk}
 use Rattle.terms.specs.Schedule.{scheduleOk, scheduleZero}
@@ -20,7 +20,7 @@ abbrev pub noOffer : Offer
 noOffer = record { terms = record { amount = pos 0; rate = 0; duration = 0 }; invoice = 0; lender = 0; expires = 0; funded = 0; repaid = pos 0; status = 0 }
 
 abbrev pub noSchedule : Schedule
-noSchedule = record { count = 0; code = 0; installment = pos 0; first = 0 }
+noSchedule = record { count = 0; code = 0; installment = pos 0; first = 0; amount = pos 0; rate = 0; kind = 0 }
 
 abbrev pub noDeal : Deal
 noDeal = record { offer = noOffer; negotiation = noNegotiation; schedule = noSchedule }
@@ -74,11 +74,11 @@ unfoldable pub counteredDeal : ℕ → ℕ → Terms → Deal → Deal
 counteredDeal now window t d = record { offer = d .offer; negotiation = addedOf roundSlots (d .negotiation) (roundOf now t 1) window; schedule = d .schedule }
 
 -- ── What a sound book holds of it ─────────────────────────────────
--- its rounds are at most as many as the book's edition has
+-- its rounds are at most as many as the book's edition has, and its schedule keeps terms where the edition does
 unfoldable pub dealSound : ℕ → Deal → Bool
 dealSound e d =
     (((termsOk (d .offer .terms) && inTotal (d .offer .repaid)) && statusListed (d .offer .status)) && negotiationSound roundSlots (roundLimit e) (d .negotiation))
-    && (scheduleZero (d .schedule) || scheduleOk (d .schedule))
+    && (scheduleZero (d .schedule) || scheduleOk (keepsTerms e) (d .schedule))
 
 unfoldable pub offerZero : Offer → Bool
 offerZero o =

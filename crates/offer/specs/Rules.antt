@@ -8,10 +8,10 @@ use Rattle.money.specs.Range.{inTotal, isZero}
 use Rattle.refusal.specs.Choice.{pick}
 use Rattle.refusal.specs.Refusal.{Check, _gives_, blacklisted, invalidInput, notFound, alreadyExists, unauthorized, invalidTransition, offerExpired, outOfRange, noRoom}
 use Rattle.refusal.specs.Rule.{Rule}
-use Rattle.edition.specs.Edition.{holdsAmount, roundLimit}
+use Rattle.edition.specs.Edition.{holdsAmount, roundLimit, keepsTerms}
 use Rattle.terms.specs.Status.{statusRejected, statusRepaid, statusDefaulted, statusListed}
 use Rattle.terms.specs.Terms.{termsOk, countOk}
-use Rattle.terms.specs.Schedule.{periodListed}
+use Rattle.terms.specs.Schedule.{periodListed, madeOf}
 use Rattle.terms.specs.Installment.{installmentOf}
 use Rattle.terms.specs.declared.Terms.{Terms}
 use Rattle.negotiation.specs.Rounds.{statusOf, negotiable, closedAs}
@@ -147,10 +147,11 @@ scheduleChecks s now caller count code first paper =
     ∷ (not (eqb (s .row .offer .lender) caller || eqb (paper .row .originator) caller) gives unauthorized)
     ∷ []
 
-abbrev pub scheduleOf : SeenDeal → ℕ → ℕ → ℕ → ℕ → ℕ → SeenInvoice → Rule Deal
-scheduleOf s now caller count code first paper = record {
+-- the schedule keeps the offer's terms where the edition does (02 i)
+abbrev pub scheduleOf : ℕ → SeenDeal → ℕ → ℕ → ℕ → ℕ → ℕ → SeenInvoice → Rule Deal
+scheduleOf e s now caller count code first paper = record {
   checks = scheduleChecks s now caller count code first paper ++ ((isZero (installmentOf (s .row .offer .terms) count .1) gives invalidInput) ∷ []);
-  done = withSchedule (record { count = count; code = code; installment = installmentOf (s .row .offer .terms) count .1; first = first }) (s .row);
+  done = withSchedule (madeOf (keepsTerms e) (s .row .offer .terms) count code first (installmentOf (s .row .offer .terms) count .1)) (s .row);
 }
 
 -- Repayment's first update: caller 6; unlisted code 3; row 4. It sets the status

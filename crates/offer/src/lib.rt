@@ -107,6 +107,9 @@ impl Deal {
                 code: 0,
                 installment: 0,
                 first: 0,
+                amount: 0,
+                rate: 0,
+                kind: 0,
             },
         }
     }
@@ -132,6 +135,9 @@ impl Deal {
                 code: 0,
                 installment: 0,
                 first: 0,
+                amount: 0,
+                rate: 0,
+                kind: 0,
             },
         }
     }
@@ -142,6 +148,7 @@ impl Deal {
         ensures whole { λ r. ⌜ Whole roundSlots (self .negotiation) ⌝ }
     {
         let limit = edition::round_limit(edition);
+        let kept = edition::keeps_terms(edition);
         let offer = self.offer;
         let terms = offer.terms;
         let a = terms::terms_valid(terms);
@@ -151,7 +158,7 @@ impl Deal {
         let sound = negotiation.sound(limit);
         let schedule = self.schedule;
         let d = terms::schedule_zero(schedule);
-        let e = terms::schedule_ok(schedule);
+        let e = terms::schedule_ok(kept, schedule);
         a & b & (status <= terms::DEFAULTED) & sound & (d | e)
     }
 
@@ -510,6 +517,7 @@ impl SeenDeal {
     // The installments are set; a second schedule replaces the first.
     pub fn schedule(
         self,
+        edition: u32,
         now: u64,
         caller: u64,
         count: u32,
@@ -517,7 +525,7 @@ impl SeenDeal {
         first: u64,
         paper: SeenInvoice,
     ) -> DealPosted
-        ensures { λ r. ⌜ r ≡ answered posted (self .row) (scheduleOf self now caller count code first paper) ⌝ }
+        ensures { λ r. ⌜ r ≡ answered posted (self .row) (scheduleOf edition self now caller count code first paper) ⌝ }
     {
         let mut row = self.row;
         let offer = row.offer;
@@ -530,12 +538,8 @@ impl SeenDeal {
         if money::is_zero(installment) {
             return refused(row, refusal::INVALID_INPUT);
         }
-        let made = Schedule {
-            count,
-            code,
-            installment,
-            first,
-        };
+        let kept = edition::keeps_terms(edition);
+        let made = Schedule::made(kept, terms, count, code, first, installment);
         row.schedule = made;
         DealPosted { answer: 0, row }
     }

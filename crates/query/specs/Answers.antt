@@ -10,6 +10,8 @@ use Rattle.lists.specs.Listing.{Reply}
 use Rattle.lists.specs.Answers.{one-said}
 use Rattle.query.specs.declared.NumberAnswer.{NumberAnswer}
 use Rattle.query.specs.declared.NumberAnswer.the-variants as Number
+use Rattle.query.specs.declared.InstallmentDue.{InstallmentDue}
+use Rattle.query.specs.declared.InstallmentDue.the-variants as Installment
 use Rattle.query.specs.declared.OfferAnswer.{OfferAnswer}
 use Rattle.query.specs.declared.OfferAnswer.the-variants as Offer
 use Rattle.query.specs.declared.ScheduleAnswer.{ScheduleAnswer}
@@ -21,7 +23,7 @@ use Rattle.query.specs.declared.TotalsAnswer.the-variants as Totals
 use Rattle.query.specs.declared.Answered.{Answered}
 use Rattle.query.specs.declared.Answered.the-variants as Told
 use Rattle.query.specs.Questions.{answeredSays}
-use Rattle.query.specs.Says.{numberSays, offerSays, scheduleSays, lenderSays, totalsSays}
+use Rattle.query.specs.Says.{numberSays, installmentSays, offerSays, scheduleSays, lenderSays, totalsSays}
 
 -- each answer read back from what it says
 unfoldable readNumber : Reply → NumberAnswer
@@ -40,6 +42,9 @@ numbers l = record {
   funded = getD l 8 0;
   repaid = getD l 9 0;
 }
+
+readInstallment : Reply → InstallmentDue
+readInstallment p = pick (eqb (p .0) 0) (Installment.Due (getD (p .1) 0 0) (getD (p .1) 1 0)) Installment.Unsound
 
 readOffer : Reply → OfferAnswer
 readOffer p = pick (eqb (p .0) 0) (Offer.Offer (numbers (p .1))) (pick (eqb (p .0) 4) Offer.Absent Offer.Unsound)
@@ -61,6 +66,11 @@ back-number : (a : NumberAnswer) → readNumber (numberSays a) ≡ a
 unfolding readNumber pick
 back-number (Number.Number n) = refl
 back-number Number.Unsound = refl
+
+back-installment : (a : InstallmentDue) → readInstallment (installmentSays a) ≡ a
+unfolding readInstallment pick
+back-installment (Installment.Due n x) = refl
+back-installment Installment.Unsound = refl
 
 back-offer : (a : OfferAnswer) → readOffer (offerSays a) ≡ a
 unfolding readOffer numbers pick
@@ -86,6 +96,9 @@ back-totals Totals.Unsound = refl
 
 pub one-number : (a b : NumberAnswer) → numberSays a ≡ numberSays b → a ≡ b
 one-number = one-said numberSays readNumber back-number
+
+pub one-installment : (a b : InstallmentDue) → installmentSays a ≡ installmentSays b → a ≡ b
+one-installment = one-said installmentSays readInstallment back-installment
 
 pub one-offer : (a b : OfferAnswer) → offerSays a ≡ offerSays b → a ≡ b
 one-offer = one-said offerSays readOffer back-offer

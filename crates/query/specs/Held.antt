@@ -1,5 +1,5 @@
 -- What a sound book holds that the queries go by. Assumes nothing.
-use Prim.Native.Nat.{ℕ, zero, suc}
+use Prim.Native.Nat.{ℕ, zero, suc, _-_}
 use native.Mathlib.Omega.{arith}
 use mathlib.Core.Path.{_≡_, refl, sym, ap, _∙_}
 use mathlib.Core.Bool.{Bool, true, false, _&&_, _||_}
@@ -7,11 +7,14 @@ use mathlib.Core.List.{List, [], _∷_, map}
 use lib.ListN.{length, getD}
 use lib.Dec.{leb}
 use Rattle.refusal.specs.ChoiceLaws.{pick-on, pick-off}
-use Rattle.money.specs.Range.{inAmount, inTotal}
+use Rattle.money.specs.Range.{inAmount, inTotal, magnitudeOf}
 use Rattle.money.specs.Facts.{both}
 use Rattle.terms.specs.Terms.{termsOk}
-use Rattle.terms.specs.Schedule.{scheduleOk, scheduleZero}
-use Rattle.terms.specs.Due.{numberOf, dueOf, dueArguments}
+use Rattle.edition.specs.Edition.{keepsTerms}
+use Rattle.installments.specs.SumLaws.{Promises}
+use Rattle.terms.specs.Laws.{schedule-promises, elapsed-le}
+use Rattle.terms.specs.Schedule.{secondsOf, scheduleOk, scheduleZero, installmentsOf}
+use Rattle.terms.specs.Due.{elapsedOf, owedAt, dueOf, dueArguments}
 use Rattle.terms.specs.declared.Terms.{Terms}
 use Rattle.table.specs.Shelf.{tableOf}
 use Rattle.table.specs.Columns.{getD-join}
@@ -84,16 +87,22 @@ module _ {b : Book} (k : Shelved b) where
       let d = getD-join dealOf (t .rows) (t .negotiations) (t .schedules) (k .offers .level) i noOffer noNegotiation noSchedule in
       ap (λ (x : Deal). inAmount (x .offer .terms .amount)) (sym d) ∙ amount-of n (getD (rowsOf t) i noDeal) s
 
--- on a sound row that has a schedule the due rule's arguments are in range, so the installment due is module 1's number
+-- on a sound row that has a schedule the due rule's arguments are in range, so the installment due is module 1's
 or-else : (s t : Bool) → s || t ≡ true → s ≡ false → t ≡ true
 or-else true t h e = cc
 or-else false t h e = h
 
 pub due-number : {e : ℕ} (d : Deal) (now : ℕ) → DealKept e d → scheduleZero (d .schedule) ≡ false
-    → dueIn d now ≡ numberOf (d .schedule) (d .offer .status) (d .offer .repaid) now
+    → dueIn e d now ≡ owedAt (keepsTerms e) (d .schedule) (d .offer .status) (d .offer .repaid) now
 unfolding dueIn dueOf dueArguments
-due-number d now h z =
+due-number {e} d now h z =
     let r = kept-ranges h in
-    let s = or-else (scheduleZero (d .schedule)) (scheduleOk (d .schedule)) (r .schedule-in) z in
-    let a : (scheduleOk (d .schedule) && leb (d .offer .status) 5) && inTotal (d .offer .repaid) ≡ true = rw (s, r .status-in, r .repaid-in) in
-    pick-off _ _ z ∙ ap (λ (x : ℕ × ℕ). x .1) (pick-on _ _ a)
+    let s = or-else (scheduleZero (d .schedule)) (scheduleOk (keepsTerms e) (d .schedule)) (r .schedule-in) z in
+    let a : (scheduleOk (keepsTerms e) (d .schedule) && leb (d .offer .status) 5) && inTotal (d .offer .repaid) ≡ true = rw (s, r .status-in, r .repaid-in) in
+    pick-off _ _ z ∙ ap (λ (x : ℕ × (ℕ × ℕ)). x .1) (pick-on _ _ a)
+
+-- and what is promised of a due holds of it: of the schedule's installments, those elapsed, and the amount repaid
+pub due-promised : {e : ℕ} (d : Deal) (now : ℕ) → DealKept e d → scheduleZero (d .schedule) ≡ false
+    → Promises (installmentsOf (keepsTerms e) (d .schedule)) (elapsedOf (now - d .schedule .first) (secondsOf (d .schedule .code)) (d .schedule .count)) (magnitudeOf (d .offer .repaid))
+due-promised {e} d now h z =
+    schedule-promises (keepsTerms e) (d .schedule) (or-else (scheduleZero (d .schedule)) (scheduleOk (keepsTerms e) (d .schedule)) (kept-ranges h .schedule-in) z) (elapsedOf (now - d .schedule .first) (secondsOf (d .schedule .code)) (d .schedule .count)) (magnitudeOf (d .offer .repaid)) (elapsed-le (now - d .schedule .first) (secondsOf (d .schedule .code)) (d .schedule .count))

@@ -3,6 +3,7 @@ use Prim.Native.Nat.{ℕ}
 use mathlib.Core.Bool.{Bool, true, false}
 use Rattle.refusal.specs.Choice.{pick}
 use Rattle.money.specs.Range.{bitsOf}
+use Rattle.edition.specs.Edition.{keepsTerms}
 use Rattle.terms.specs.Schedule.{scheduleZero}
 use Rattle.terms.specs.Due.{dueOf}
 use Rattle.terms.specs.declared.Schedule.{Schedule}
@@ -27,9 +28,9 @@ lenderNumbers a = record { offered = bitsOf (a .purse .offered); accepted = bits
 abbrev pub totalsNumbers : Totals → TotalsNumbers
 totalsNumbers t = record { offers = t .offers; financed = bitsOf (t .financed); repaid = bitsOf (t .repaid); fees = bitsOf (t .fees) }
 
--- `get_installment_due`: 0 with no schedule, else the number that module 1 gives (on a sound row never its 3: due-number, specs/Held.antt)
-unfoldable pub dueIn : Deal → ℕ → ℕ
-dueIn d now = pick (scheduleZero (d .schedule)) 0 (dueOf (d .schedule) (d .offer .status) (d .offer .repaid) now .1)
+-- `get_installment_due`: 0 and 0 with no schedule, else what module 1 gives, by the book's edition (on a sound row never its 3: due-number, specs/Held.antt)
+unfoldable pub dueIn : ℕ → Deal → ℕ → ℕ × ℕ
+dueIn e d now = pick (scheduleZero (d .schedule)) (0, 0) (dueOf (keepsTerms e) (d .schedule) (d .offer .status) (d .offer .repaid) now .1)
 
 abbrev pub flag : Bool → ℕ
 flag true = 1

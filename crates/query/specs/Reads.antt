@@ -76,12 +76,15 @@ negotiationRead id m = sure (offerIn m id .row .negotiation)
 abbrev pub deadlineRead : ℕ → Model → Rule (List ℕ)
 deadlineRead id m = sure (offerIn m id .row .negotiation .deadline ∷ [])
 
--- the negotiation's status, and the installment due, at a time
+-- the negotiation's status, and the installment due with what is owed on it, at a time
 abbrev pub statusRead : ℕ → ℕ → Model → Rule (List ℕ)
 statusRead now id m = sure (standing (offerIn m id) now ∷ [])
 
+abbrev pub dueOrder : ℕ × ℕ → List ℕ
+dueOrder d = d .0 ∷ d .1 ∷ []
+
 abbrev pub dueRead : ℕ → ℕ → Model → Rule (List ℕ)
-dueRead now id m = sure (dueIn (offerIn m id .row) now ∷ [])
+dueRead now id m = sure (dueOrder (dueIn (m .settings .edition) (offerIn m id .row) now))
 
 -- ── Offer count, totals, window, seats, threshold and pause are read too ──
 abbrev pub countRead : Model → Rule (List ℕ)

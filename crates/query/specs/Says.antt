@@ -8,6 +8,8 @@ use Rattle.negotiation.specs.declared.Negotiation.{Negotiation}
 use Rattle.lists.specs.Listing.{Reply, inOrder}
 use Rattle.query.specs.declared.NumberAnswer.{NumberAnswer}
 use Rattle.query.specs.declared.NumberAnswer.the-variants as Number
+use Rattle.query.specs.declared.InstallmentDue.{InstallmentDue}
+use Rattle.query.specs.declared.InstallmentDue.the-variants as Installment
 use Rattle.query.specs.declared.OfferAnswer.{OfferAnswer}
 use Rattle.query.specs.declared.OfferAnswer.the-variants as Offer
 use Rattle.query.specs.declared.ScheduleAnswer.{ScheduleAnswer}
@@ -17,11 +19,15 @@ use Rattle.query.specs.declared.LenderAnswer.the-variants as Lender
 use Rattle.query.specs.declared.TotalsAnswer.{TotalsAnswer}
 use Rattle.query.specs.declared.TotalsAnswer.the-variants as Totals
 use Rattle.query.specs.declared.NegotiationAnswer.{NegotiationAnswer}
-use Rattle.query.specs.Reads.{reply, lenderOrder, scheduleOrder, totalsOrder}
+use Rattle.query.specs.Reads.{reply, dueOrder, lenderOrder, scheduleOrder, totalsOrder}
 
 abbrev pub numberSays : NumberAnswer → Reply
 numberSays (Number.Number n) = (0, n ∷ [])
 numberSays Number.Unsound = (number bookUnsound, [])
+
+abbrev pub installmentSays : InstallmentDue → Reply
+installmentSays (Installment.Due n x) = (0, dueOrder (n, x))
+installmentSays Installment.Unsound = (number bookUnsound, [])
 
 -- a number that is read of a sound book alone
 abbrev pub numberTold : Bool → ℕ → Reply

@@ -2,6 +2,7 @@
 use account::Account;
 use account::SeenAccount;
 use book::Book;
+use installments::Due;
 use lists::Listed;
 use lists::OfferNumbers;
 use lists::OfferRows;
@@ -28,9 +29,10 @@ ghost use Rattle.lists.specs.Listing.{listedSays, inOrder};
 ghost use Rattle.lists.specs.Active.{activeOf};
 ghost use Rattle.offer.specs.Rules.{standing};
 ghost use Rattle.lists.specs.declared.Wanted.the-variants.{Invoice, Lender, Status, PendingOf, All, Page};
+ghost use Rattle.installments.specs.Arguments.{dueAs};
 ghost use Rattle.query.specs.Numbers.{offersOnly, scheduleNumbers, lenderNumbers, totalsNumbers, dueIn, flag};
-ghost use Rattle.query.specs.Reads.{reply, offersIn, dealRead, listRead, asked, onSound, offerRead, scheduleRead, negotiationRead, deadlineRead, statusRead, dueRead, lenderRead, activeRead, countRead, totalsRead, windowRead, seatsRead, thresholdRead, pauseRead, lenderOrder, totalsOrder, scheduleValues};
-ghost use Rattle.query.specs.Says.{numberTold, numberSays, offerSays, scheduleSays, lenderSays, totalsSays, negotiationTold};
+ghost use Rattle.query.specs.Reads.{reply, offersIn, dealRead, listRead, asked, onSound, offerRead, scheduleRead, negotiationRead, deadlineRead, statusRead, dueOrder, dueRead, lenderRead, activeRead, countRead, totalsRead, windowRead, seatsRead, thresholdRead, pauseRead, lenderOrder, totalsOrder, scheduleValues};
+ghost use Rattle.query.specs.Says.{numberTold, numberSays, offerSays, scheduleSays, lenderSays, totalsSays, negotiationTold, installmentSays};
 ghost use Rattle.query.specs.Questions.{twelve, purseOrder, replyTo, Replies, threes, replied, answersRead, answeredSays};
 
 // The book's totals.
@@ -57,12 +59,18 @@ pub enum OfferAnswer {
     Unsound,
 }
 
-// The numbers of a schedule: how many installments, the code of their period, the amount of each, when the first is due.
+// The numbers of a schedule: how many installments, the code of their period, the amount of the first, when it is due.
 pub struct ScheduleNumbers {
     pub count: u64,
     pub code: u64,
     pub installment: u64,
     pub first: u64,
+}
+
+// The number of the installment that is due and the sum still owed on it, 0 and 0 where none is.
+pub enum InstallmentDue {
+    Due(u64, u64),
+    Unsound,
 }
 
 // An absent schedule is no refusal.
@@ -304,34 +312,36 @@ pub fn get_negotiation_status(book: Book, now: u64, id: u64) -> NumberAnswer
     NumberAnswer::Number(n as u64)
 }
 
-// The number of the installment that is due; 0 without a schedule.
-fn due(d: Deal, now: u64) -> u64
-    ensures { λ r. ⌜ r ≡ dueIn d now ⌝ }
+// The installment that is due and what is owed on it; 0 and 0 without a schedule.
+fn due(edition: u32, d: Deal, now: u64) -> Due
+    ensures { λ r. ⌜ r ≡ dueAs (dueIn edition d now) ⌝ }
 {
+    let kept = edition::keeps_terms(edition);
     let schedule = d.schedule;
     if terms::schedule_zero(schedule) {
-        return 0;
+        return Due { number: 0, owed: 0 };
     }
     let offer = d.offer;
     let status = offer.status;
-    match terms::due(schedule, status, offer.repaid, now) {
-        DueAnswer::Number(n) => n,
-        DueAnswer::Invalid => 0,
+    match terms::due(kept, schedule, status, offer.repaid, now) {
+        DueAnswer::Number(number, owed) => Due { number, owed },
+        DueAnswer::Invalid => Due { number: 0, owed: 0 },
     }
 }
 
-// The number of the installment that is due, 0 where none is.
-pub fn get_installment_due(book: Book, now: u64, id: u64) -> NumberAnswer
-    ensures { λ r. ⌜ numberSays r ≡ asked book (dueRead now id) ⌝ }
+// The installment that is due and the sum still owed on it, 0 and 0 where none is.
+pub fn get_installment_due(book: Book, now: u64, id: u64) -> InstallmentDue
+    ensures { λ r. ⌜ installmentSays r ≡ asked book (dueRead now id) ⌝ }
 {
     if !book.sound() {
-        return NumberAnswer::Unsound;
+        return InstallmentDue::Unsound;
     }
+    let settings = book.settings;
     let offers = book.offers;
     let seen = offers.see(Named::Id(id));
     let row = seen.row;
-    let n = due(row, now);
-    NumberAnswer::Number(n)
+    let d = due(settings.edition, row, now);
+    InstallmentDue::Due(d.number, d.owed)
 }
 
 // ── Lenders ──
@@ -463,6 +473,12 @@ fn words_one(value: u64) -> [u64; 12]
     [0, 1, value, 0, 0, 0, 0, 0, 0, 0, 0, 0]
 }
 
+fn words_two(a: u64, b: u64) -> [u64; 12]
+    ensures { λ r. ⌜ r ≡ twelve (0, a ∷ b ∷ []) ⌝ }
+{
+    [0, 2, a, b, 0, 0, 0, 0, 0, 0, 0, 0]
+}
+
 fn words_four(a: u64, b: u64, c: u64, d: u64) -> [u64; 12]
     ensures { λ r. ⌜ r ≡ twelve (0, a ∷ b ∷ c ∷ d ∷ []) ⌝ }
 {
@@ -551,11 +567,12 @@ fn status_words(deal: SeenDeal, now: u64) -> [u64; 12]
     words_one(n as u64)
 }
 
-fn due_words(deal: SeenDeal, now: u64) -> [u64; 12]
-    ensures { λ r. ⌜ r ≡ twelve (0, dueIn (deal .row) now ∷ []) ⌝ }
+fn due_words(edition: u32, deal: SeenDeal, now: u64) -> [u64; 12]
+    ensures { λ r. ⌜ r ≡ twelve (0, dueOrder (dueIn edition (deal .row) now)) ⌝ }
 {
     let row = deal.row;
-    words_one(due(row, now))
+    let d = due(edition, row, now);
+    words_two(d.number, d.owed)
 }
 
 fn totals_words(totals: Totals) -> [u64; 12]
@@ -587,7 +604,7 @@ fn answer(
         4 => schedule_words(deal),
         5 => deadline_words(deal),
         6 => status_words(deal, time),
-        7 => due_words(deal, time),
+        7 => due_words(settings.edition, deal, time),
         8 => words_one(count as u64),
         9 => words_one(settings.window),
         10 => words_one(signers as u64),

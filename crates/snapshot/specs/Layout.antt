@@ -4,9 +4,9 @@ use mathlib.Core.Bool.{Bool}
 use mathlib.Core.List.{List}
 use Prim.Native.Nat.{ℕ, _≤_}
 use native.Mathlib.Omega.{arith}
-use lib.IntN.{ℤ}
+use lib.IntN.{ℤ, pos}
 use lib.ListN.{length, take}
-use Rattle.edition.specs.Edition.{listed, roundLimit}
+use Rattle.edition.specs.Edition.{listed, roundLimit, keepsTerms}
 use Rattle.table.specs.Tables.{Table}
 use Rattle.table.specs.Padded.{padded}
 use Rattle.terms.specs.declared.Terms.{Terms}
@@ -23,7 +23,7 @@ use Rattle.offer.specs.declared.Offer.{Offer}
 use Rattle.offer.specs.declared.Deal.{Deal}
 use Rattle.offer.specs.Kept.{limit-in-slots}
 use Rattle.rules.specs.Model.{Model}
-use Rattle.codec.specs.Codec.{Codec, _then_, via, rows, led}
+use Rattle.codec.specs.Codec.{Codec, _then_, via, given, rows, led}
 use Rattle.codec.specs.Columns.{whole, half, signed, flag}
 use Rattle.snapshot.specs.Rounds.{rounds-back}
 
@@ -172,19 +172,29 @@ negotiation e =
     then rows 0x97 (roundLimit e) round)
     (λ x f. rounds-back (x .0) (x .1 .0) (x .1 .1) (omega (arith, f .1 .1 .0 .0, limit-in-slots e)))
 
-abbrev pub scheduleFrom : ℕ × (ℕ × (ℤ × ℕ)) → Schedule
-scheduleFrom (count, (code, (installment, first))) = record { count = count; code = code; installment = installment; first = first }
+-- the terms that a schedule keeps, in the editions that keep them (i)
+unfoldable pub kept : ℕ → Codec (ℤ × ℕ)
+kept e = given (keepsTerms e) (pos 0, 0) (signed 0x9a then half 0x9b)
 
-abbrev pub scheduleParts : Schedule → ℕ × (ℕ × (ℤ × ℕ))
-scheduleParts s = (s .count, (s .code, (s .installment, s .first)))
+abbrev pub scheduleFrom : ℕ × (ℕ × (ℤ × (ℕ × (ℤ × ℕ)))) → Schedule
+scheduleFrom (count, (code, (installment, (first, (amount, rate))))) =
+    record { count = count; code = code; installment = installment; first = first; amount = amount; rate = rate; kind = 0 }
 
-unfoldable pub schedule : Codec Schedule
-schedule =
+abbrev pub scheduleParts : Schedule → ℕ × (ℕ × (ℤ × (ℕ × (ℤ × ℕ))))
+scheduleParts s = (s .count, (s .code, (s .installment, (s .first, (s .amount, s .rate)))))
+
+-- a schedule of the one kind
+pub of-kind : (s : Schedule) → s .kind ≡ 0 → scheduleFrom (scheduleParts s) ≡ s
+of-kind s e = ap (λ (k : ℕ). record { count = s .count; code = s .code; installment = s .installment; first = s .first; amount = s .amount; rate = s .rate; kind = k }) (sym e)
+
+unfoldable pub schedule : ℕ → Codec Schedule
+schedule e =
     via scheduleFrom scheduleParts
     (half 0x0a
     then half 0x0b
     then signed 0x99
-    then whole 0x0c)
+    then whole 0x0c
+    then kept e)
     (λ x _. refl)
 
 abbrev pub dealFrom : ℕ × (Offer × (Negotiation × Schedule)) → ℕ × Deal
@@ -199,7 +209,7 @@ deal e =
     (whole 0x03
     then offer
     then negotiation e
-    then schedule)
+    then schedule e)
     (λ x _. refl)
 
 -- ── The book ──────────────────────────────────────────────────────

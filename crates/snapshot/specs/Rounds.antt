@@ -8,7 +8,7 @@ use lib.Dec.{leb}
 use lib.ListN.{length, getD, take, replicate}
 use lib.Seq.{length-take-le}
 use borrow.Author.Tests.{leb-true}
-use Rattle.edition.specs.Edition.{roundLimit}
+use Rattle.edition.specs.Edition.{roundLimit, keepsTerms}
 use Rattle.money.specs.Range.{inTotal}
 use Rattle.money.specs.Facts.{both}
 use Rattle.terms.specs.Terms.{termsOk}
@@ -80,7 +80,12 @@ unfolding dealSound
 deal-rounds e d h =
     let s = (termsOk (d .offer .terms) && inTotal (d .offer .repaid)) && statusListed (d .offer .status) in
     let n = negotiationSound roundSlots (roundLimit e) (d .negotiation) in
-    both s n (both (s && n) (scheduleZero (d .schedule) || scheduleOk (d .schedule)) h .0) .1
+    both s n (both (s && n) (scheduleZero (d .schedule) || scheduleOk (keepsTerms e) (d .schedule)) h .0) .1
+
+pub deal-schedule : (e : ℕ) (d : Deal) → dealSound e d ≡ true → scheduleZero (d .schedule) || scheduleOk (keepsTerms e) (d .schedule) ≡ true
+unfolding dealSound
+deal-schedule e d h =
+    both (((termsOk (d .offer .terms) && inTotal (d .offer .repaid)) && statusListed (d .offer .status)) && negotiationSound roundSlots (roundLimit e) (d .negotiation)) (scheduleZero (d .schedule) || scheduleOk (keepsTerms e) (d .schedule)) h .1
 
 -- a negotiation made of the rounds that were read
 pub laid-rounds : (deadline outcome : ℕ) (all : List Round) {rs : List Round} {n : ℕ} → _≡_ {A = List Round × ℕ} (rs, n) (padded noRound (λ r. r) roundSlots all, length all)

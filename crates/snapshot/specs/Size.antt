@@ -6,9 +6,9 @@ use Rattle.edition.specs.Edition.{roundLimit}
 use Rattle.offer.specs.Kept.{limit-in-slots}
 use Rattle.rules.specs.Model.{Model}
 use Rattle.codec.specs.Codec.{_then_, rows}
-use Rattle.codec.specs.Weight.{Weighs, weighs-less, weighs-led, weighs-column, weighs-then, weighs-via, weighs-signed, weighs-flag, weighs-rows}
+use Rattle.codec.specs.Weight.{Weighs, weighs-less, weighs-given, weighs-led, weighs-column, weighs-then, weighs-via, weighs-signed, weighs-flag, weighs-rows}
 use Rattle.snapshot.specs.Snapshot.{snapshotMost}
-use Rattle.snapshot.specs.Layout.{settings, totals, purse, account, invoice, terms, offer, round, negotiation, schedule, deal, fields, layout}
+use Rattle.snapshot.specs.Layout.{settings, totals, purse, account, invoice, terms, offer, round, negotiation, kept, schedule, deal, fields, layout}
 
 weighs-settings : (e : ℕ) → Weighs (settings e) 66
 unfolding settings
@@ -50,15 +50,19 @@ weighs-negotiation : (e : ℕ) → Weighs (negotiation e) 913
 unfolding negotiation
 weighs-negotiation e = weighs-via _ _ _ (weighs-then (weighs-column _ _) (weighs-then (weighs-column _ _) (weighs-rounds e)))
 
-weighs-schedule : Weighs schedule 44
+weighs-kept : (e : ℕ) → Weighs (kept e) 22
+unfolding kept
+weighs-kept e = weighs-given _ _ (weighs-then (weighs-signed _) (weighs-column _ _))
+
+weighs-schedule : (e : ℕ) → Weighs (schedule e) 66
 unfolding schedule
-weighs-schedule = weighs-via _ _ _ (weighs-then (weighs-column _ _) (weighs-then (weighs-column _ _) (weighs-then (weighs-signed _) (weighs-column _ _))))
+weighs-schedule e = weighs-via _ _ _ (weighs-then (weighs-column _ _) (weighs-then (weighs-column _ _) (weighs-then (weighs-signed _) (weighs-then (weighs-column _ _) (weighs-kept e)))))
 
-weighs-deal : (e : ℕ) → Weighs (deal e) 1067
+weighs-deal : (e : ℕ) → Weighs (deal e) 1089
 unfolding deal
-weighs-deal e = weighs-via _ _ _ (weighs-then (weighs-column _ _) (weighs-then weighs-offer (weighs-then (weighs-negotiation e) weighs-schedule)))
+weighs-deal e = weighs-via _ _ _ (weighs-then (weighs-column _ _) (weighs-then weighs-offer (weighs-then (weighs-negotiation e) (weighs-schedule e))))
 
-weighs-fields : (e : ℕ) → Weighs (fields e) 76879
+weighs-fields : (e : ℕ) → Weighs (fields e) 78287
 unfolding fields
 weighs-fields e = weighs-via _ _ _ (weighs-then (weighs-settings e) (weighs-then weighs-totals (weighs-then (weighs-rows weighs-account _ _) (weighs-then (weighs-rows weighs-invoice _ _) (weighs-rows (weighs-deal e) _ _)))))
 

@@ -25,7 +25,7 @@ ghost use Rattle.shelves.specs.Accounts.{storedAccounts};
 ghost use Rattle.shelves.specs.Invoices.{storedInvoices};
 ghost use Rattle.shelves.specs.Offers.{storedDeals};
 ghost use Rattle.edition.specs.Edition.{roundLimit};
-ghost use Rattle.snapshot.specs.Layout.{settings, totals, purse, account, invoice, terms, offer, round, negotiation, schedule, deal};
+ghost use Rattle.snapshot.specs.Layout.{settings, totals, purse, account, invoice, terms, offer, round, negotiation, kept, schedule, deal};
 ghost use Rattle.snapshot.specs.Filling.{Reads, laidRounds};
 ghost use Rattle.snapshot.specs.Answers.{Opens};
 
@@ -308,25 +308,56 @@ fn read_negotiation(s: &[u8], c: Cursor, edition: u32) -> ReadNegotiation
     ReadNegotiation { row, c: d }
 }
 
+// The terms that a schedule keeps; zeros where the edition keeps none.
+struct ReadKept {
+    amount: i64,
+    rate: u32,
+    c: Cursor,
+}
+
+fn read_kept(s: &[u8], c: Cursor, edition: u32) -> ReadKept
+    ensures { λ r. ⌜ Takes (now (s .entry)) c (kept edition) (r .c) (r .amount, r .rate) ⌝ }
+{
+    if !edition::keeps_terms(edition) {
+        return ReadKept {
+            amount: 0,
+            rate: 0,
+            c,
+        };
+    }
+    let amount = codec::next(s, c, tags::KEPT_AMOUNT, codec::WHOLE);
+    let rate = codec::next(s, amount, tags::KEPT_RATE, codec::HALF);
+    ReadKept {
+        amount: money::of_bits(amount.x),
+        rate: rate.x as u32,
+        c: rate,
+    }
+}
+
 struct ReadSchedule {
     row: Schedule,
     c: Cursor,
 }
 
-fn read_schedule(s: &[u8], c: Cursor) -> ReadSchedule
-    ensures { λ r. ⌜ Takes (now (s .entry)) c schedule (r .c) (r .row) ⌝ }
+fn read_schedule(s: &[u8], c: Cursor, edition: u32) -> ReadSchedule
+    ensures { λ r. ⌜ Takes (now (s .entry)) c (schedule edition) (r .c) (r .row) ⌝ }
 {
     let count = codec::next(s, c, tags::COUNT, codec::HALF);
     let code = codec::next(s, count, tags::CODE, codec::HALF);
     let installment = codec::next(s, code, tags::INSTALLMENT, codec::WHOLE);
     let first = codec::next(s, installment, tags::FIRST_DUE, codec::WHOLE);
+    let k = read_kept(s, first, edition);
     let row = Schedule {
         count: count.x as u32,
         code: code.x as u32,
         installment: money::of_bits(installment.x),
         first: first.x,
+        amount: k.amount,
+        rate: k.rate,
+        kind: terms::FLAT,
     };
-    ReadSchedule { row, c: first }
+    let d = k.c;
+    ReadSchedule { row, c: d }
 }
 
 struct ReadDeal {
@@ -341,7 +372,7 @@ fn read_deal(s: &[u8], c: Cursor, edition: u32) -> ReadDeal
     let id = codec::next(s, c, tags::ID, codec::WHOLE);
     let o = read_offer(s, id);
     let n = read_negotiation(s, o.c, edition);
-    let p = read_schedule(s, n.c);
+    let p = read_schedule(s, n.c, edition);
     let offer = o.row;
     let negotiation = n.row;
     let schedule = p.row;

@@ -79,6 +79,10 @@ pub(crate) const OUTCOME: u8 = 0x96;
 
 pub(crate) const ROUNDS: u8 = 0x97;
 
+pub(crate) const KEPT_AMOUNT: u8 = 0x9a;
+
+pub(crate) const KEPT_RATE: u8 = 0x9b;
+
 pub(crate) const PARTY: u8 = 0x98;
 
 pub(crate) const INSTALLMENT: u8 = 0x99;

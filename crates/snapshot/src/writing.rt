@@ -17,20 +17,21 @@ use terms::Schedule;
 use terms::Terms;
 use totals::Totals;
 ghost use mathlib.Core.Path.{_≡_};
-ghost use mathlib.Core.Bool.{true, false};
+ghost use mathlib.Core.Bool.{true, false, _||_};
 ghost use Prim.Native.Nat.{_≤_};
 ghost use lib.ListN.{take};
 ghost use Rattle.sheet.specs.Sheet.{penAt};
 ghost use Rattle.codec.specs.Codec.{rows};
 ghost use Rattle.codec.specs.Puts.{Puts};
-ghost use Rattle.edition.specs.Edition.{roundLimit};
+ghost use Rattle.edition.specs.Edition.{roundLimit, keepsTerms};
+ghost use Rattle.terms.specs.Schedule.{scheduleZero, scheduleOk};
 ghost use Rattle.negotiation.specs.Rounds.{roundSlots, negotiationSound};
 ghost use Rattle.offer.specs.Offer.{dealSound};
 ghost use Rattle.shelves.specs.Accounts.{accountsOf};
 ghost use Rattle.shelves.specs.Invoices.{invoicesOf};
 ghost use Rattle.shelves.specs.Offers.{dealsOf, dealsTest};
 ghost use Rattle.book.specs.Stored.{modelOf, bookTest};
-ghost use Rattle.snapshot.specs.Layout.{settings, totals, purse, account, invoice, terms, offer, round, negotiation, schedule, deal, layout};
+ghost use Rattle.snapshot.specs.Layout.{settings, totals, purse, account, invoice, terms, offer, round, negotiation, kept, schedule, deal, layout};
 
 fn put_settings(out: &mut [u8], pen: Pen, ink: bool, row: Settings) -> Pen
     ensures { λ r. ⌜ Puts ink (settings (row .edition)) row (now (out .entry)) pen (now (out .exit)) r ⌝ }
@@ -135,13 +136,26 @@ fn put_negotiation(out: &mut [u8], pen: Pen, ink: bool, edition: u32, row: Negot
     put_rounds(out, q, ink, edition, row.len as usize, list)
 }
 
-fn put_schedule(out: &mut [u8], pen: Pen, ink: bool, row: Schedule) -> Pen
-    ensures { λ r. ⌜ Puts ink schedule row (now (out .entry)) pen (now (out .exit)) r ⌝ }
+fn put_kept(out: &mut [u8], pen: Pen, ink: bool, edition: u32, row: Schedule) -> Pen
+    requires { ⌜ scheduleZero row || scheduleOk (keepsTerms edition) row ≡ true ⌝ }
+    ensures { λ r. ⌜ Puts ink (kept edition) (row .amount, row .rate) (now (out .entry)) pen (now (out .exit)) r ⌝ }
+{
+    if !edition::keeps_terms(edition) {
+        return pen;
+    }
+    let p = codec::put_signed(out, pen, ink, tags::KEPT_AMOUNT, row.amount);
+    codec::put_half(out, p, ink, tags::KEPT_RATE, row.rate)
+}
+
+fn put_schedule(out: &mut [u8], pen: Pen, ink: bool, edition: u32, row: Schedule) -> Pen
+    requires { ⌜ scheduleZero row || scheduleOk (keepsTerms edition) row ≡ true ⌝ }
+    ensures { λ r. ⌜ Puts ink (schedule edition) row (now (out .entry)) pen (now (out .exit)) r ⌝ }
 {
     let p = codec::put_half(out, pen, ink, tags::COUNT, row.count);
     let q = codec::put_half(out, p, ink, tags::CODE, row.code);
     let u = codec::put_signed(out, q, ink, tags::INSTALLMENT, row.installment);
-    codec::put(out, u, ink, tags::FIRST_DUE, row.first)
+    let v = codec::put(out, u, ink, tags::FIRST_DUE, row.first);
+    put_kept(out, v, ink, edition, row)
 }
 
 fn put_deal(out: &mut [u8], pen: Pen, ink: bool, edition: u32, id: u64, row: Deal) -> Pen
@@ -154,7 +168,7 @@ fn put_deal(out: &mut [u8], pen: Pen, ink: bool, edition: u32, id: u64, row: Dea
     let n = row.negotiation;
     let u = put_negotiation(out, q, ink, edition, n);
     let s = row.schedule;
-    put_schedule(out, u, ink, s)
+    put_schedule(out, u, ink, edition, s)
 }
 
 fn put_accounts(out: &mut [u8], pen: Pen, ink: bool, table: Accounts) -> Pen

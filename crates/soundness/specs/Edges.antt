@@ -1,4 +1,4 @@
--- Document 01, "Edges on both sides", and the deadline of module 3, stopped at 2^64−1: one table that is computed.
+-- Document 01, "Edges on both sides", the deadline of module 3, stopped at 2^64−1, and document 02, i: one table that is computed.
 use Prim.Native.Nat.{ℕ}
 use mathlib.Core.Path.{_≡_, refl}
 use mathlib.Core.Bool.{Bool, true, false, _&&_}
@@ -12,9 +12,13 @@ use Rattle.terms.specs.declared.Terms.{Terms}
 use Rattle.terms.specs.declared.Schedule.{Schedule}
 use Rattle.terms.specs.Terms.{termsOk}
 use Rattle.terms.specs.Installment.{installmentAmount, installmentOf}
-use Rattle.terms.specs.Schedule.{secondsOf, scheduleOk}
+use Rattle.installments.specs.Sums as Sums
+use Rattle.installments.specs.Even.{even}
+use Rattle.installments.specs.Flat.{partOf, totalOf, flat}
+use Rattle.terms.specs.Schedule.{secondsOf, keepsOk, keepsNone, scheduleIn, scheduleOk, madeOf, installmentsOf}
+use Rattle.edition.specs.Edition.{keepsTerms}
 use Rattle.terms.specs.Status.{statusFinanced}
-use Rattle.terms.specs.Due.{elapsedOf, nextOf, numberOf, dueArguments, dueOf}
+use Rattle.terms.specs.Due.{elapsedOf, owedAt, dueArguments, dueOf}
 use Rattle.negotiation.specs.declared.Negotiation.{Negotiation}
 use Rattle.negotiation.specs.Rounds.{roundSlots, noRound, deadlineOf, statusOf}
 use Rattle.refusal.specs.Refusal.{first}
@@ -33,19 +37,26 @@ pub data Edge : Type 0 where
   installs : ℕ → ℕ → ℕ → ℕ → Edge
   -- the same of an offer, with what command 38 answers
   schedules : ℕ → ℕ → ℕ → ℕ → Edge
-  -- now and amount repaid, with the number due of the schedule below
-  dues : ℕ → ℕ → ℕ → Edge
+  -- now and amount repaid, with the number due of the schedule below and what is owed on it: without kept terms, and with them
+  dues : ℕ → ℕ → ℕ → ℕ → Edge
+  owes : ℕ → ℕ → ℕ → ℕ → Edge
   -- the deadline of a negotiation on a Pending offer and now, with its status
   stands : ℕ → ℕ → ℕ → Edge
   -- now and the window, with the deadline that the first round sets
   ends : ℕ → ℕ → ℕ → Edge
 
--- 349, weekly, count 3, first due 1,000,000
-abbrev weekly : Schedule
-weekly = record { count = 3; code = 1; installment = pos 349; first = 1000000 }
-
 abbrev day : ℕ → ℕ → Terms
 day amount rate = record { amount = pos amount; rate = rate; duration = 86400 }
+
+-- 349, weekly, count 3, first due 1,000,000; of 1000 at 500 where it keeps its terms
+abbrev weekly : Bool → Schedule
+weekly kept = madeOf kept (day 1000 500) 3 1 1000000 (pos 349)
+
+abbrev sameDue : ℕ × (ℕ × ℕ) → ℕ → ℕ → Bool
+sameDue d n x = (eqb (d .0) 0 && eqb (d .1 .0) n) && eqb (d .1 .1) x
+
+abbrev isDue : Bool → ℕ → ℕ → ℕ → ℕ → Bool
+isDue kept now repaid n x = sameDue (dueOf kept (weekly kept) statusFinanced (pos repaid) now) n x
 
 abbrev oneRound : ℕ → Negotiation
 oneRound deadline = record { rounds = replicate roundSlots noRound; deadline = deadline; len = 1; outcome = 0 }
@@ -69,7 +80,8 @@ sameList (a ∷ l) (b ∷ m) = eqb a b && sameList l m
 unfoldable pub holds : Edge → Bool
 holds (installs amount rate count x) = eqb (installmentOf (day amount rate) count .0) 0 && sameAmount (installmentOf (day amount rate) count .1) (pos x)
 holds (schedules amount rate count n) = sameList (answersOf (freshModel 1) (asking (day amount rate) count)) (0 ∷ 0 ∷ 0 ∷ 0 ∷ n ∷ [])
-holds (dues now repaid n) = eqb (dueOf weekly statusFinanced (pos repaid) now .0) 0 && eqb (dueOf weekly statusFinanced (pos repaid) now .1) n
+holds (dues now repaid n x) = isDue false now repaid n x
+holds (owes now repaid n x) = isDue true now repaid n x
 holds (stands deadline now status) = eqb (statusOf (oneRound deadline) true now) status
 holds (ends now window deadline) = eqb (deadlineOf 0 now window 0) deadline
 
@@ -84,13 +96,22 @@ edges =
     ∷ installs 1199 500 1200 0
     ∷ schedules 1199 500 1200 3
     ∷ schedules 1200 500 1200 0
-    ∷ dues 999999 0 0
-    ∷ dues 1000000 0 1
-    ∷ dues 1604799 349 0
-    ∷ dues 1604800 349 2
-    ∷ dues 1604800 697 2
-    ∷ dues 1604800 698 0
-    ∷ dues 18446744073709551615 698 3
+    ∷ dues 999999 0 0 0
+    ∷ dues 1000000 0 1 349
+    ∷ dues 1604799 349 0 0
+    ∷ dues 1604800 349 2 349
+    ∷ dues 1604800 697 2 1
+    ∷ dues 1604800 698 0 0
+    ∷ dues 18446744073709551615 698 3 349
+    ∷ dues 18446744073709551615 1047 0 0
+    ∷ owes 999999 0 0 0
+    ∷ owes 18446744073709551615 348 1 1
+    ∷ owes 18446744073709551615 349 2 349
+    ∷ owes 18446744073709551615 697 2 1
+    ∷ owes 18446744073709551615 698 3 352
+    ∷ owes 18446744073709551615 1047 3 3
+    ∷ owes 18446744073709551615 1049 3 1
+    ∷ owes 18446744073709551615 1050 0 0
     ∷ stands 604900 604900 1
     ∷ stands 604900 604901 4
     ∷ stands 18446744073709551615 18446744073709551615 1
@@ -102,5 +123,5 @@ edges =
     ∷ []
 
 pub edges-hold : all edges ≡ true
-unfolding all edges holds sameList answersOf pick first after find adjust insert shapeOf accountNames offerNames settingsNames namesFor accountRule offerRule settingsRule ruled termsOk installmentAmount installmentOf secondsOf scheduleOk elapsedOf nextOf numberOf dueArguments dueOf deadlineOf statusOf
+unfolding all edges holds sameList answersOf pick first after find adjust insert shapeOf accountNames offerNames settingsNames namesFor accountRule offerRule settingsRule ruled termsOk installmentAmount installmentOf secondsOf keepsTerms keepsOk keepsNone scheduleIn scheduleOk installmentsOf even flat partOf totalOf Sums.sumTo Sums.paidOf Sums.numberDue Sums.owedOn Sums.dueOf elapsedOf owedAt dueArguments dueOf deadlineOf statusOf
 edges-hold = refl

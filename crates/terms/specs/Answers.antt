@@ -40,9 +40,12 @@ period-one period.Unlisted (period.Seconds y) p = apart (sym p)
 period-one period.Unlisted period.Unlisted p = refl
 
 pub due-one : (a b : DueAnswer) → dueSays a ≡ dueSays b → a ≡ b
-due-one (due.Number x) (due.Number y) p = ap due.Number (ap (λ (q : ℕ × ℕ). q .1) p)
-due-one (due.Number x) due.Invalid p = apart p
-due-one due.Invalid (due.Number y) p = apart (sym p)
+due-one (due.Number x u) (due.Number y v) p = both-same (ap (λ (q : ℕ × (ℕ × ℕ)). q .1 .0) p) (ap (λ (q : ℕ × (ℕ × ℕ)). q .1 .1) p)
+  where
+    both-same : {a b c d : ℕ} → a ≡ b → c ≡ d → due.Number a c ≡ due.Number b d
+    both-same e f = rw (e, f)
+due-one (due.Number x u) due.Invalid p = apart p
+due-one due.Invalid (due.Number y v) p = apart (sym p)
 due-one due.Invalid due.Invalid p = refl
 
 -- terms with the same three parts

@@ -1,14 +1,19 @@
--- Document 01, "Numbers": the periods by their codes, and the numbers of a schedule.
+-- Document 01, "Numbers": the periods by their codes, the numbers of a schedule; document 02, i: what it keeps, and its installments.
 use Prim.Native.Nat.{ℕ}
-use mathlib.Core.Bool.{Bool, _&&_}
+use mathlib.Core.Bool.{Bool, _&&_, cond}
+use mathlib.Core.List.{List}
 use lib.Dec.{leb, eqb}
+use lib.IntN.{ℤ, pos}
 use Rattle.refusal.specs.Choice.{pick}
 use Rattle.refusal.specs.Refusal.{number, invalidInput}
-use Rattle.money.specs.Range.{inInstallment, isZero}
+use Rattle.money.specs.Range.{inInstallment, isZero, sameAmount, magnitudeOf}
+use Rattle.installments.specs.Even.{even}
+use Rattle.installments.specs.Flat.{flat, partOf, totalOf}
+use Rattle.terms.specs.declared.Terms.{Terms}
 use Rattle.terms.specs.declared.Schedule.{Schedule}
 use Rattle.terms.specs.declared.PeriodAnswer.{PeriodAnswer}
 use Rattle.terms.specs.declared.PeriodAnswer.the-variants.{Seconds, Unlisted}
-use Rattle.terms.specs.Terms.{countOk}
+use Rattle.terms.specs.Terms.{priceOk, countOk}
 
 abbrev pub periodListed : ℕ → Bool
 periodListed code = leb 1 code && leb code 3
@@ -25,9 +30,44 @@ abbrev pub periodSays : PeriodAnswer → ℕ × ℕ
 periodSays (Seconds n) = (0, n)
 periodSays Unlisted = (number invalidInput, 0)
 
--- a schedule that was made, and none
-unfoldable pub scheduleOk : Schedule → Bool
-scheduleOk s = (countOk (s .count) && periodListed (s .code)) && inInstallment (s .installment)
+-- ── A schedule that was made, and none ────────────────────────────
+-- from edition 5 on it keeps the amount and the rate of the terms that it was made of, and the stored installment is theirs (02 i)
+unfoldable pub keepsOk : Schedule → Bool
+keepsOk s = priceOk (s .amount) (s .rate) && sameAmount (s .installment) (pos (partOf (magnitudeOf (s .amount)) (s .rate) (s .count)))
+
+-- before it keeps none
+unfoldable pub keepsNone : Schedule → Bool
+keepsNone s = isZero (s .amount) && eqb (s .rate) 0
+
+-- its numbers in range; its kind is flat
+unfoldable pub scheduleIn : Schedule → Bool
+scheduleIn s = ((countOk (s .count) && periodListed (s .code)) && inInstallment (s .installment)) && eqb (s .kind) 0
+
+unfoldable pub scheduleOk : Bool → Schedule → Bool
+scheduleOk kept s = scheduleIn s && cond kept (keepsOk s) (keepsNone s)
+
+unfoldable pub scheduleNone : Schedule → Bool
+scheduleNone s = ((eqb (s .count) 0 && eqb (s .code) 0) && isZero (s .installment)) && eqb (s .first) 0
 
 unfoldable pub scheduleZero : Schedule → Bool
-scheduleZero s = ((eqb (s .count) 0 && eqb (s .code) 0) && isZero (s .installment)) && eqb (s .first) 0
+scheduleZero s = (scheduleNone s && keepsNone s) && eqb (s .kind) 0
+
+-- the one of an offer's terms
+abbrev pub madeOf : Bool → Terms → ℕ → ℕ → ℕ → ℤ → Schedule
+madeOf kept t count code first installment = record {
+  count = count;
+  code = code;
+  installment = installment;
+  first = first;
+  amount = cond kept (t .amount) (pos 0);
+  rate = cond kept (t .rate) 0;
+  kind = 0;
+}
+
+-- ── Its installments ──────────────────────────────────────────────
+-- the last carries what is left of the total; before edition 5 each is the stored one
+unfoldable pub installmentsOf : Bool → Schedule → List ℕ
+installmentsOf kept s =
+    cond kept
+    (flat (s .count) (magnitudeOf (s .installment)) (totalOf (magnitudeOf (s .amount)) (s .rate)))
+    (even (s .count) (magnitudeOf (s .installment)))

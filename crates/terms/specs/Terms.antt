@@ -2,13 +2,17 @@
 use Prim.Native.Nat.{ℕ}
 use mathlib.Core.Bool.{Bool, _&&_}
 use lib.Dec.{leb, eqb}
+use lib.IntN.{ℤ}
 use Rattle.money.specs.Range.{inAmount, sameAmount}
 use Rattle.terms.specs.declared.Terms.{Terms}
 
+-- an amount and a rate in range
+abbrev pub priceOk : ℤ → ℕ → Bool
+priceOk amount rate = (inAmount amount && leb 1 rate) && leb rate 10000
+
 -- amount, rate and duration in range
 unfoldable pub termsOk : Terms → Bool
-termsOk t =
-    (((inAmount (t .amount) && leb 1 (t .rate)) && leb (t .rate) 10000) && leb 86400 (t .duration)) && leb (t .duration) 31536000
+termsOk t = (priceOk (t .amount) (t .rate) && leb 86400 (t .duration)) && leb (t .duration) 31536000
 
 unfoldable pub sameTerms : Terms → Terms → Bool
 sameTerms a b = (sameAmount (a .amount) (b .amount) && eqb (a .rate) (b .rate)) && eqb (a .duration) (b .duration)

@@ -1,10 +1,15 @@
 // The terms of an offer and the arithmetic of its schedule. Nothing here knows of the book.
+use installments::Due;
 ghost use mathlib.Core.Path.{_≡_};
-ghost use Prim.Native.Nat.{_<_};
+ghost use mathlib.Core.Bool.{true};
+ghost use Prim.Native.Nat.{_<_, _≤_};
 ghost use Rattle.terms.specs.Terms.{termsOk, sameTerms, countOk};
 ghost use Rattle.terms.specs.Installment.{installmentOf, installmentSays};
-ghost use Rattle.terms.specs.Schedule.{periodListed, secondsOf, periodOf, periodSays, scheduleOk, scheduleZero};
-ghost use Rattle.terms.specs.Due.{elapsedOf, nextOf, dueOf, dueSays, dueArguments};
+ghost use Rattle.terms.specs.Schedule.{periodListed, secondsOf, periodOf, periodSays, keepsOk, keepsNone, madeOf, scheduleIn, scheduleOk, scheduleNone, scheduleZero, installmentsOf};
+ghost use Rattle.installments.specs.Sums as Sums;
+ghost use Rattle.installments.specs.Flat.{partOf};
+ghost use Rattle.installments.specs.Arguments.{dueAs};
+ghost use Rattle.terms.specs.Due.{elapsedOf, dueOf, dueSays, dueArguments};
 
 // An amount in minor units, a rate in basis points and a duration in seconds.
 pub struct Terms {
@@ -13,12 +18,48 @@ pub struct Terms {
     pub duration: u64,
 }
 
-// How many installments, the code of their period, the amount of each, and when the first is due.
+// How many installments, the code of their period, the first one's amount, and when it is due; the amount and the rate of the terms
+// that it was made of, where the edition keeps them, and its kind.
 pub struct Schedule {
     pub count: u32,
     pub code: u32,
     pub installment: i64,
     pub first: u64,
+    pub amount: i64,
+    pub rate: u32,
+    pub kind: u32,
+}
+
+// The one kind of schedule: installments that are alike but for the last, which carries what is left where the terms are kept.
+pub const FLAT: u32 = 0;
+
+impl Schedule {
+    // The schedule of an offer's terms, which it keeps or not.
+    pub fn made(
+        kept: bool,
+        t: Terms,
+        count: u32,
+        code: u32,
+        first: u64,
+        installment: i64,
+    ) -> Schedule
+        ensures { λ r. ⌜ r ≡ madeOf kept t count code first installment ⌝ }
+    {
+        let mut s = Schedule {
+            count,
+            code,
+            installment,
+            first,
+            amount: 0,
+            rate: 0,
+            kind: FLAT,
+        };
+        if kept {
+            s.amount = t.amount;
+            s.rate = t.rate;
+        }
+        s
+    }
 }
 
 // Amount, rate and duration in range.
@@ -57,25 +98,81 @@ pub fn code_listed(code: u32) -> bool
     (1 <= code) & (code <= 3)
 }
 
-// A schedule that was made.
-pub fn schedule_ok(s: Schedule) -> bool
-    ensures { λ r. ⌜ r ≡ scheduleOk s ⌝ }
+fn schedule_in(s: Schedule) -> bool
+    ensures { λ r. ⌜ r ≡ scheduleIn s ⌝ }
 {
     let installment = money::in_installment_range(s.installment);
     let count = s.count;
     let code = s.code;
-    count_valid(count) & code_listed(code) & installment
+    let kind = s.kind;
+    count_valid(count) & code_listed(code) & installment & (kind == FLAT)
 }
 
-// No schedule.
-pub fn schedule_zero(s: Schedule) -> bool
-    ensures { λ r. ⌜ r ≡ scheduleZero s ⌝ }
+// The kept terms are in range, and the installment is theirs.
+fn keeps_ok(s: Schedule) -> bool
+    requires { ⌜ 0 < s .count ⌝ }
+    ensures { λ r. ⌜ r ≡ keepsOk s ⌝ }
+{
+    let amount = money::in_amount_range(s.amount);
+    let rate = s.rate;
+    let ranged = amount & (1 <= rate) & (rate <= 10000);
+    if !ranged {
+        return false;
+    }
+    let part = part_of(money::magnitude(s.amount), s.rate, s.count);
+    money::same_amount(s.installment, part as i64)
+}
+
+fn keeps_none(s: Schedule) -> bool
+    ensures { λ r. ⌜ r ≡ keepsNone s ⌝ }
+{
+    let amount = money::is_zero(s.amount);
+    let rate = s.rate;
+    amount & (rate == 0)
+}
+
+// A schedule that was made, with the terms that it keeps or with none.
+pub fn schedule_ok(kept: bool, s: Schedule) -> bool
+    ensures { λ r. ⌜ r ≡ scheduleOk kept s ⌝ }
+{
+    if !schedule_in(s) {
+        return false;
+    }
+    if kept {
+        return keeps_ok(s);
+    }
+    keeps_none(s)
+}
+
+fn schedule_none(s: Schedule) -> bool
+    ensures { λ r. ⌜ r ≡ scheduleNone s ⌝ }
 {
     let installment = money::is_zero(s.installment);
     let count = s.count;
     let code = s.code;
     let first = s.first;
     (count == 0) & (code == 0) & installment & (first == 0)
+}
+
+// No schedule.
+pub fn schedule_zero(s: Schedule) -> bool
+    ensures { λ r. ⌜ r ≡ scheduleZero s ⌝ }
+{
+    let none = schedule_none(s);
+    let unkept = keeps_none(s);
+    let kind = s.kind;
+    none & unkept & (kind == 0)
+}
+
+// A part of the amount with its part of the yield.
+fn part_of(amount: u64, rate: u32, count: u32) -> u64
+    requires { ⌜ amount ≤ 1000000000000 ⌝ }
+    requires { ⌜ rate ≤ 10000 ⌝ }
+    requires { ⌜ 0 < count ⌝ }
+    ensures { λ r. ⌜ r ≡ partOf amount rate count ⌝ }
+{
+    let part = amount / count as u64;
+    part + part * rate as u64 / 10000
 }
 
 pub enum InstallmentAnswer {
@@ -93,9 +190,7 @@ pub fn installment(t: Terms, count: u32) -> InstallmentAnswer
     if !count_valid(count) {
         return InstallmentAnswer::Invalid;
     }
-    let rate = t.rate;
-    let part = money::magnitude(t.amount) / count as u64;
-    let whole = part + part * rate as u64 / 10000;
+    let whole = part_of(money::magnitude(t.amount), t.rate, count);
     InstallmentAnswer::Of(whole as i64)
 }
 
@@ -142,22 +237,27 @@ fn elapsed(since: u64, period: u64, count: u64) -> u64
     count
 }
 
-// The number of the first installment that is due and unpaid.
-fn next(elapsed: u64, repaid: u64, installment: u64) -> u64
-    requires { ⌜ 0 < installment ⌝ }
-    ensures { λ r. ⌜ r ≡ nextOf elapsed repaid installment ⌝ }
+fn due_arguments(kept: bool, s: Schedule, status: u32, repaid: i64) -> bool
+    ensures { λ r. ⌜ r ≡ dueArguments kept s status repaid ⌝ }
 {
-    let paid = repaid / installment;
-    if elapsed <= paid {
-        return 0;
-    }
-    paid + 1
+    schedule_ok(kept, s) & (status <= DEFAULTED) & money::in_total_range(repaid)
 }
 
-fn due_arguments(s: Schedule, status: u32, repaid: i64) -> bool
-    ensures { λ r. ⌜ r ≡ dueArguments s status repaid ⌝ }
+// What is due of a schedule's installments.
+fn due_of(kept: bool, s: Schedule, elapsed: u64, repaid: u64) -> Due
+    requires { ⌜ scheduleOk kept s ≡ true ⌝ }
+    requires { ⌜ elapsed ≤ s .count ⌝ }
+    requires { ⌜ repaid ≤ 4000000000000000 ⌝ }
+    ensures { λ r. ⌜ r ≡ dueAs (Sums.dueOf (installmentsOf kept s) elapsed repaid) ⌝ }
 {
-    schedule_ok(s) & (status <= DEFAULTED) & money::in_total_range(repaid)
+    let installment = money::magnitude(s.installment);
+    let count = s.count;
+    if !kept {
+        return installments::even_due(count as u64, installment, elapsed, repaid);
+    }
+    let rate = s.rate;
+    let total = installments::total(money::magnitude(s.amount), rate as u64);
+    installments::flat_due(count as u64, installment, total, elapsed, repaid)
 }
 
 // Where an offer stands.
@@ -173,30 +273,32 @@ pub const REPAID: u32 = 4;
 
 pub const DEFAULTED: u32 = 5;
 
+// The number of the installment and the sum still owed on it.
 pub enum DueAnswer {
-    Number(u64),
+    Number(u64, u64),
     Invalid,
 }
 
-// The number of the installment that is due at a time, 0 where none is.
-pub fn due(s: Schedule, status: u32, repaid: i64, now: u64) -> DueAnswer
-    ensures { λ r. ⌜ dueSays r ≡ dueOf s status repaid now ⌝ }
+// The installment that is due at a time and what is owed on it, 0 and 0 where none is; with the terms that the schedule keeps or none.
+pub fn due(kept: bool, s: Schedule, status: u32, repaid: i64, now: u64) -> DueAnswer
+    ensures { λ r. ⌜ dueSays r ≡ dueOf kept s status repaid now ⌝ }
 {
-    if !due_arguments(s, status, repaid) {
+    if !due_arguments(kept, s, status, repaid) {
         return DueAnswer::Invalid;
     }
     let first = s.first;
     let count = s.count;
     let code = s.code;
     if status == REPAID {
-        return DueAnswer::Number(0);
+        return DueAnswer::Number(0, 0);
     }
     if status == DEFAULTED {
-        return DueAnswer::Number(0);
+        return DueAnswer::Number(0, 0);
     }
     if now < first {
-        return DueAnswer::Number(0);
+        return DueAnswer::Number(0, 0);
     }
     let n = elapsed(now - first, seconds(code), count as u64);
-    DueAnswer::Number(next(n, money::magnitude(repaid), money::magnitude(s.installment)))
+    let d = due_of(kept, s, n, money::magnitude(repaid));
+    DueAnswer::Number(d.number, d.owed)
 }

@@ -11,12 +11,12 @@ pub enum Question {
     Account(u64),
     /// In the order of the fields of `Lender`.
     Lender(u64),
-    /// How many installments an offer has, the code of their period, the amount of each, when the first is due; or no values.
+    /// How many installments an offer has, the code of their period, the amount of the first, when it is due; or no values.
     Schedule(u64),
     /// When an offer's negotiation ends.
     Deadline(u64),
     NegotiationStatus { offer: u64, now: u64 },
-    /// The number of the installment that is due.
+    /// The number of the installment that is due and the sum still owed on it; 0 and 0 where none is.
     Due { offer: u64, now: u64 },
     Count,
     Window,

@@ -13,7 +13,7 @@ pub struct Snapshot(Vec<u8>);
 /// A field's bytes, and the most fields: edition, settings, totals and three counts, and 64 accounts, invoices and offers with 16
 /// rounds each.
 const FIELD: usize = 11;
-const MOST_FIELDS: usize = 14 + 64 * (8 + 4 + 17 + 16 * 5);
+const MOST_FIELDS: usize = 14 + 64 * (8 + 4 + 19 + 16 * 5);
 
 impl From<Vec<u8>> for Snapshot {
     fn from(bytes: Vec<u8>) -> Snapshot {

@@ -144,3 +144,51 @@ fn a_malformed_journal_answers_nothing() {
     assert_eq!(journal.ask("counts\n"), Err(Refusal::Line(1)));
     assert_eq!(journal.answers(&[Question::Count]), Err(Refusal::Number(13)));
 }
+
+/// A book of an edition with an offer, its schedule of weekly installments from 1,000,000 on, and an amount repaid.
+fn repaid(edition: u64, amount: u64, rate: u64, count: u64, repaid: u64) -> Journal {
+    let mut journal = Journal::of_edition(edition).expect("an edition that there is");
+    let text = format!(
+        "open-account 100 1\nopen-account 100 2\nregister 100 2 10 {amount}\ncreate 100 1 20 10 {amount} {rate} 86400 0\n\
+         schedule 100 1 20 {count} 1 1000000\nrepayment-account 100 1 1\nrepaid 100 1 20 {repaid}\n"
+    );
+    journal.write(&text).expect("lines of commands");
+    journal
+}
+
+fn due(journal: &Journal, now: u64) -> String {
+    journal.ask(&format!("due 20 {now}\n")).expect("a sound book")
+}
+
+#[test]
+fn document_01s_dues_in_each_edition() {
+    for edition in 1..=5 {
+        for (now, paid, answer) in [
+            (999_999, 0, "0 0 0\n"),
+            (1_000_000, 0, "0 1 349\n"),
+            (1_604_799, 349, "0 0 0\n"),
+            (1_604_800, 349, "0 2 349\n"),
+            (1_604_800, 697, "0 2 1\n"),
+            (1_604_800, 698, "0 0 0\n"),
+        ] {
+            assert_eq!(due(&repaid(edition, 1000, 500, 3, paid), now), answer, "edition {edition}, {now}, {paid}");
+        }
+        // the last carries the rest in edition 5
+        let last = [["0 3 349\n", "0 0 0\n", "0 0 0\n"], ["0 3 352\n", "0 3 1\n", "0 0 0\n"]][usize::from(edition == 5)];
+        for (paid, answer) in [698, 1049, 1050].into_iter().zip(last) {
+            assert_eq!(due(&repaid(edition, 1000, 500, 3, paid), u64::MAX), answer, "edition {edition}, {paid}");
+        }
+    }
+}
+
+#[test]
+fn the_largest_schedule_does_not_wrap() {
+    // 10^12 at 10,000 basis points in 1,200 installments of 1,666,666,666
+    let earlier = 1199 * 1_666_666_666;
+    for (edition, last) in [(4, 1_666_666_666_u64), (5, 2_000_000_000_000 - earlier)] {
+        let journal = repaid(edition, 1_000_000_000_000, 10_000, 1200, earlier);
+        assert_eq!(due(&journal, u64::MAX), format!("0 1200 {last}\n"));
+        let journal = repaid(edition, 1_000_000_000_000, 10_000, 1200, 4_000_000_000_000_000);
+        assert_eq!(due(&journal, u64::MAX), "0 0 0\n");
+    }
+}

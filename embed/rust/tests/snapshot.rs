@@ -201,12 +201,12 @@ fn in_edition(edition: u64, text: &str) -> Journal {
 
 #[test]
 fn a_snapshot_keeps_its_edition() {
-    for edition in 1..=4 {
+    for edition in 1..=5 {
         let kept = in_edition(edition, BEFORE).snapshot().expect("a whole journal");
         assert_eq!(kept.bytes()[..FIELD], [0x10, 0, 8, 0, 0, 0, 0, 0, 0, 0, edition as u8]);
         let listing = LISTING.replace("edition 3", &format!("edition {edition}"));
         assert_eq!(kept.listing(&in_edition(edition, AFTER)), Ok(listing));
-        assert_eq!(kept.then(&in_edition(edition % 4 + 1, AFTER)), Err(Refusal::Number(13)));
+        assert_eq!(kept.then(&in_edition(edition % 5 + 1, AFTER)), Err(Refusal::Number(13)));
     }
 }
 
@@ -221,7 +221,7 @@ fn a_snapshot_that_names_no_edition_is_of_edition_3() {
 
 #[test]
 fn an_edition_that_there_is_not_is_refused_at_0() {
-    for (at, byte) in [(10, 0), (10, 5), (6, 1), (3, 0x80)] {
+    for (at, byte) in [(10, 0), (10, 6), (6, 1), (3, 0x80)] {
         let mut bytes = before().bytes().to_vec();
         bytes[at] = byte;
         refused(&bytes, Refusal::Field(0));
@@ -237,9 +237,10 @@ fn rounds(count: u64) -> String {
 
 #[test]
 fn sixteen_rounds_in_edition_4_and_twelve_before() {
-    for (edition, most) in [(1, 12), (2, 12), (3, 12), (4, 16)] {
+    // from edition 5 on a schedule has two fields more
+    for (edition, most, more) in [(1, 12, 0), (2, 12, 0), (3, 12, 0), (4, 16, 0), (5, 16, 2)] {
         let kept = in_edition(edition, &rounds(most)).snapshot().expect("a whole journal");
-        assert_eq!(kept.bytes().len(), FIELD * (14 + 2 * 8 + 4 + 17 + 5 * most as usize));
+        assert_eq!(kept.bytes().len(), FIELD * (14 + 2 * 8 + 4 + 17 + more + 5 * most as usize));
         let last = rounds(most + 1).lines().last().map(|line| format!("{line}\n")).expect("a round");
         let more = kept.listing(&in_edition(edition, &last)).expect("a sound snapshot");
         assert!(more.starts_with(&format!("edition {edition}\n1 7\n")), "{more}");
@@ -254,7 +255,7 @@ fn a_journal_is_written_in_its_edition() {
     assert_eq!(journal.write("edition 3\npause 100 1\n"), Err(Refusal::Line(1)));
     assert_eq!(Journal::new().write("edition 3\npause 100 1\n"), Err(Refusal::Line(1)));
     assert_eq!(Journal::of_edition(1), Ok(Journal::new()));
-    for none in [0, 5, u64::MAX] {
+    for none in [0, 6, u64::MAX] {
         assert_eq!(Journal::of_edition(none), Err(Refusal::Number(13)));
     }
 }

@@ -1,7 +1,8 @@
 //! Sound books that no journal makes: figures at the ends of their ranges, rows that do not fit
 //! each other. Every account that they name is opened, as the comparison's domain asks.
 
-use plain::edition::most_rounds;
+use plain::edition::{keeps_terms, most_rounds};
+use plain::schedule::{installment, sums};
 use side::{Account, Book, Invoice, Offer, Round, Schedule, Totals};
 
 use crate::chance::Chance;
@@ -18,7 +19,6 @@ pub fn given(edition: u64, chance: &mut Chance) -> Book {
     let (invoices, offers) = (ids(chance, invoices), ids(chance, offers));
     let next = 1 << chance.below(32) | 1 << chance.below(32) | 1;
     let seats = u64::count_ones(next).into();
-    let rounds = most_rounds(edition) as u64;
     Book {
         edition,
         paused: chance.percent(5),
@@ -35,7 +35,7 @@ pub fn given(edition: u64, chance: &mut Chance) -> Book {
         },
         accounts: accounts.iter().map(|id| account(chance, *id)).collect(),
         invoices: invoices.iter().map(|id| invoice(chance, *id, &accounts)).collect(),
-        offers: offers.iter().map(|id| offer(chance, *id, &accounts, &invoices, rounds)).collect(),
+        offers: offers.iter().map(|id| offer(chance, *id, &accounts, &invoices, edition)).collect(),
     }
 }
 
@@ -117,14 +117,15 @@ fn time(chance: &mut Chance) -> u64 {
     }
 }
 
-fn offer(chance: &mut Chance, id: u64, accounts: &[u64], invoices: &[u64], most: u64) -> Offer {
+fn offer(chance: &mut Chance, id: u64, accounts: &[u64], invoices: &[u64], edition: u64) -> Offer {
+    let most = most_rounds(edition) as u64;
     let absent = invoices.is_empty() || chance.percent(20);
     let rounds = match chance.below(4) {
         0 => 0,
         1 => chance.within(10, most),
         _ => chance.within(1, 4),
     };
-    Offer {
+    let offer = Offer {
         id,
         invoice: if absent { chance.number() } else { chance.pick(invoices) },
         lender: chance.pick(accounts),
@@ -139,7 +140,31 @@ fn offer(chance: &mut Chance, id: u64, accounts: &[u64], invoices: &[u64], most:
         deadline: if chance.percent(50) { u64::MAX } else { time(chance) },
         rounds: (0..rounds).map(|_| round(chance)).collect(),
         schedule: chance.percent(50).then(|| schedule(chance)),
+    };
+    if keeps_terms(edition) {
+        with_terms(chance, offer)
+    } else {
+        offer
     }
+}
+
+/// The schedule keeps some terms and has their installment; the amount repaid is mostly about one of its
+/// sums.
+fn with_terms(chance: &mut Chance, mut offer: Offer) -> Offer {
+    let Some(row) = &mut offer.schedule else { return offer };
+    let least = row.count;
+    let amount = match chance.below(3) {
+        0 => chance.within(least, 4 * least) as i64,
+        _ => offered(chance).max(least as i64),
+    };
+    (row.amount, row.rate) = (amount, chance.pick(&[1, 500, 9_999, 10_000]));
+    row.installment = installment(row.amount, row.count, row.rate);
+    if chance.percent(70) {
+        let number = chance.pick(&[1, row.count.div_ceil(2), row.count]);
+        let sum = sums(row).nth(number as usize - 1).unwrap_or(0);
+        offer.repaid = sum - 1 + chance.below(3) as i64;
+    }
+    offer
 }
 
 fn round(chance: &mut Chance) -> Round {
@@ -163,6 +188,7 @@ fn schedule(chance: &mut Chance) -> Schedule {
         code: chance.within(1, 3),
         installment: installment as i64,
         first: time(chance),
+        ..Schedule::default()
     }
 }
 

@@ -180,7 +180,7 @@ impl<'a> Pair<'a> {
         let past = second.split_off(reply.written);
         if about_wide_quotient(&self.book, query) && first[0] != 0 {
             self.met.wide_quotients += 1;
-            first[0] = 0;
+            first.fill(0);
         }
         if reply != other || first != second {
             let (one, two) = (shown(reply, first), shown(other, second));

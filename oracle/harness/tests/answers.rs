@@ -30,7 +30,7 @@ const WORKED_OUT: [(&str, &str); 29] = [
     ("negotiation 21", "0 0 0 0\n"),
     ("negotiation-status 20 604901", "0 3\n"),
     ("negotiation-status 21 0", "0 0\n"),
-    ("due 20 18446744073709551615", "0 0\n"),
+    ("due 20 18446744073709551615", "0 0 0\n"),
     ("count", "0 1\n"),
     ("window", "0 604800\n"),
     ("seats", "0 1\n"),

@@ -5,7 +5,7 @@ use harness::script::steps;
 use journal::LATEST;
 use plain::Plain;
 use port::Port;
-use side::{Account, Book, Invoice, Offer, Round, Side};
+use side::{Account, Book, Invoice, Offer, Query, Round, Schedule, Side};
 
 /// Accounts 1 and 2, an invoice of account 2 and the least offer on it.
 const OFFER: &str = "open caller=1 : 0
@@ -124,12 +124,15 @@ fn a_fresh_window_is_shorter_from_edition_3_on() {
 #[test]
 fn an_offer_has_more_rounds_from_edition_4_on() {
     for party in ["amend caller=1", "counter caller=2"] {
-        for (rounds, answers) in
-            [(11, [0, 0, 0, 0]), (12, [7, 7, 7, 0]), (15, [3, 3, 3, 0]), (16, [3, 3, 3, 7])]
-        {
+        for (rounds, answers) in [
+            (11, [0, 0, 0, 0, 0]),
+            (12, [7, 7, 7, 0, 0]),
+            (15, [3, 3, 3, 0, 0]),
+            (16, [3, 3, 3, 7, 7]),
+        ] {
             let lines = format!("for 0 {rounds} {party} id=20 amount=1 rate=2 round=% : 0");
             let text = [OFFER, &lines].concat();
-            let given = [1, 2, 3, 4].map(|edition| last(edition, None, &text));
+            let given = [1, 2, 3, 4, 5].map(|edition| last(edition, None, &text));
             assert_eq!(given, answers, "{party} {rounds}");
         }
     }
@@ -148,6 +151,125 @@ fn a_book_with_a_round_too_many_is_unsound() {
     assert_eq!([1, 2, 3, 4].map(|edition| opens(edition, 12)), [0, 0, 0, 0]);
     assert_eq!([1, 2, 3, 4].map(|edition| opens(edition, 13)), [15, 15, 15, 0]);
     assert_eq!([1, 2, 3, 4].map(|edition| opens(edition, 17)), [15, 15, 15, 15]);
+}
+
+/// An offer of 1000 at 500 with three weekly installments from 1,000,000 on, and this much repaid.
+fn repaid(amount: u64) -> String {
+    format!(
+        "use base
+        schedule caller=1 id=20 count=3 code=1 first=1000000 : 0
+        repayment-account id=3 : 0
+        repaid caller=3 id=20 amount={amount} : 0"
+    )
+}
+
+/// What all sides say is due on offer 20 after these commands, and what is owed on it.
+fn due(edition: u64, text: &str, now: u64) -> [u64; 2] {
+    let mut answers = Vec::new();
+    for mut side in sides() {
+        side.reset(edition);
+        for (command, _) in steps(text) {
+            let mut record = Vec::new();
+            journal::write(edition, &command, &mut record);
+            assert_eq!(side.apply(&record), 0, "{command}");
+        }
+        let mut due = [9; 2];
+        side.ask(Query::Due(20, now), &mut due);
+        answers.push(due);
+    }
+    assert!(answers.iter().all(|answer| *answer == answers[0]), "{answers:?}: {text}");
+    answers[0]
+}
+
+/// Three installments of 349 make 1047; from edition 5 on the last is 352 and they make 1050.
+#[test]
+fn the_last_installment_carries_the_rest_from_edition_5_on() {
+    for (amount, before, since) in [
+        (0, [1, 349], [1, 349]),
+        (348, [1, 1], [1, 1]),
+        (349, [2, 349], [2, 349]),
+        (697, [2, 1], [2, 1]),
+        (698, [3, 349], [3, 352]),
+        (1_046, [3, 1], [3, 4]),
+        (1_047, [0, 0], [3, 3]),
+        (1_049, [0, 0], [3, 1]),
+        (1_050, [0, 0], [0, 0]),
+        (4_000_000_000_000_000, [0, 0], [0, 0]),
+    ] {
+        for edition in 1..=LATEST {
+            let expected = if edition < 5 { before } else { since };
+            for now in [2_209_600, u64::MAX] {
+                assert_eq!(due(edition, &repaid(amount), now), expected, "{edition} {amount}");
+            }
+            let early = due(edition, &repaid(amount), 2_209_599);
+            let fallen = expected[0] < 3 && amount < 698;
+            assert_eq!(early, if fallen { expected } else { [0, 0] }, "{edition} {amount}");
+            assert_eq!(due(edition, &repaid(amount), 999_999), [0, 0], "{edition} {amount}");
+        }
+    }
+}
+
+/// Repaid and Defaulted owe nothing, whatever is left.
+#[test]
+fn nothing_is_owed_where_nothing_is_due() {
+    for edition in 1..=LATEST {
+        for (status, expected) in
+            [(0, [2, 1]), (1, [2, 1]), (2, [2, 1]), (3, [2, 1]), (4, [0, 0]), (5, [0, 0])]
+        {
+            let text = format!("{}\nstatus caller=3 id=20 code={status} : 0", repaid(697));
+            assert_eq!(due(edition, &text, u64::MAX), expected, "{edition} {status}");
+        }
+        assert_eq!(due(edition, "use base", u64::MAX), [0, 0]);
+        assert_eq!(due(edition, "open caller=1 : 0", u64::MAX), [0, 0]);
+    }
+}
+
+/// The offer is amended after its schedule was made: that one's total stays 1050, and the next one's
+/// is of the new terms.
+#[test]
+fn a_schedule_keeps_the_terms_of_its_making() {
+    let amended = format!("{}\namend caller=1 id=20 amount=7 rate=9999 round=0 : 0", repaid(698));
+    assert_eq!(due(5, &amended, u64::MAX), [3, 352]);
+    assert_eq!(due(4, &amended, u64::MAX), [3, 349]);
+    let again = "schedule caller=1 id=20 count=3 code=1 first=1000000 : 0
+        repaid caller=3 id=20 amount=6 : 0";
+    let again = format!("{amended}\n{again}");
+    assert_eq!(due(5, &again, u64::MAX), [3, 7]);
+    assert_eq!(due(4, &again, u64::MAX), [3, 3]);
+}
+
+/// A schedule that keeps terms keeps those of its installment, and none before edition 5.
+#[test]
+fn a_book_with_other_terms_in_a_schedule_is_unsound() {
+    let book = |amount, rate, installment| {
+        let mut book = without_invoice();
+        let (count, code, kind) = (3, 1, 0);
+        let schedule = Schedule { count, code, installment, first: 1, amount, rate, kind };
+        book.offers[0].schedule = Some(schedule);
+        book
+    };
+    let opens = |edition, book: &Book| last(edition, Some(book), "open caller=3 : 0");
+    for edition in 1..=LATEST {
+        let (before, since) = if edition < 5 { (0, 15) } else { (15, 0) };
+        assert_eq!(opens(edition, &book(0, 0, 349)), before, "{edition}");
+        for (amount, rate, installment) in [(1_000, 500, 349), (999, 510, 349), (1_001, 481, 349)] {
+            assert_eq!(opens(edition, &book(amount, rate, installment)), since, "{edition}");
+        }
+        for (amount, rate, installment) in [
+            (1_000, 500, 348),
+            (1_000, 500, 350),
+            (998, 500, 349),
+            (1_002, 500, 349),
+            (1_000, 480, 349),
+            (1_000, 511, 349),
+            (1_000, 0, 333),
+            (1_000, 10_001, 666),
+            (0, 500, 349),
+            (-1_000, 500, 349),
+        ] {
+            assert_eq!(opens(edition, &book(amount, rate, installment)), 15, "{edition}");
+        }
+    }
 }
 
 #[test]

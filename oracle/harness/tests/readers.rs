@@ -4,7 +4,8 @@ use harness::compare::{compare, Found};
 use harness::snapshots::{compare_damaged, compare_samples, samples};
 use harness::snapshots::{unsound_alike, without_edition, written_alike};
 use journal::LATEST;
-use plain::edition::fresh;
+use plain::edition::{fresh, keeps_terms};
+use plain::schedule::installment;
 use plain::snapshot::{examine, read, write, write_within, Refusal};
 use plain::Plain;
 use side::{Book, Query, Refused, Reply, Side};
@@ -171,17 +172,62 @@ fn all_books_are_of_edition_3(plain: &mut Plain, bytes: &[u8]) -> Result<(), Ref
     Ok(())
 }
 
-/// The schedule's four numbers are not tested where its count is 0.
+/// The last field with this tag, by its place, and its number.
+fn last_field(bytes: &[u8], tag: u8) -> Option<(usize, u64)> {
+    let place = bytes.chunks_exact(11).rposition(|field| field[..3] == [tag, 0, 8])? * 11;
+    let number = bytes[place + 3..place + 11].try_into().ok()?;
+    Some((place, u64::from_be_bytes(number)))
+}
+
+/// The last schedule's numbers are not tested where its count is 0.
 fn absent_schedules_are_not_tested(plain: &mut Plain, bytes: &[u8]) -> Result<(), Refused> {
     let mut zeros = bytes.to_vec();
-    let from = bytes.len().saturating_sub(44);
-    let count = bytes.get(from..from + 11);
-    if count.is_some_and(|count| count == [0x0A, 0, 8, 0, 0, 0, 0, 0, 0, 0, 0]) {
-        for field in 1..4 {
-            zeros[from + 11 * field + 3..from + 11 * field + 11].fill(0);
+    if let Some((place, 0)) = last_field(bytes, 0x0A) {
+        for field in zeros[place..].chunks_exact_mut(11) {
+            field[3..].fill(0);
         }
     }
     plain.restore(&zeros)
+}
+
+/// The bytes with the installment that follows from the last schedule's kept terms.
+fn with_its_installment(bytes: &[u8]) -> Option<Vec<u8>> {
+    let [count, stored, amount, rate] = [0x0A, 0x99, 0x9A, 0x9B].map(|tag| last_field(bytes, tag));
+    let (place, (amount, rate)) = (stored?.0, (amount?.1, rate?.1));
+    let count = count.filter(|(_, count)| *count > 0 && rate < 1 << 32)?.1;
+    let mut bytes = bytes.to_vec();
+    let fits = installment(amount as i64, count, rate) as u64;
+    bytes[place + 3..place + 11].copy_from_slice(&fits.to_be_bytes());
+    Some(bytes)
+}
+
+/// The stored installment need not be that of the kept terms.
+fn installments_are_free(plain: &mut Plain, bytes: &[u8]) -> Result<(), Refused> {
+    plain.restore(bytes).or_else(|refused| {
+        let fitted = with_its_installment(bytes).filter(|_| refused == (15, 0)).ok_or(refused)?;
+        plain.restore(&fitted).map_err(|_| refused)
+    })
+}
+
+fn kept_rates_are_cut_to_32_bits(plain: &mut Plain, bytes: &[u8]) -> Result<(), Refused> {
+    let mut bytes = bytes.to_vec();
+    if let Some((place, _)) = last_field(&bytes, 0x9B) {
+        bytes[place + 3..place + 7].fill(0);
+    }
+    plain.restore(&bytes)
+}
+
+/// A schedule's terms are read, and the offer's are kept in their place.
+fn the_offers_terms_are_kept(plain: &mut Plain, bytes: &[u8]) -> Result<(), Refused> {
+    plain.restore(bytes)?;
+    let (mut book, mut flat) = (plain.book().clone(), Vec::new());
+    for offer in book.offers.iter_mut().filter(|_| keeps_terms(book.edition)) {
+        let terms = (offer.amount, offer.rate);
+        offer.schedule.iter_mut().for_each(|row| (row.amount, row.rate) = terms);
+    }
+    book.flat(&mut flat);
+    plain.load(&flat);
+    Ok(())
 }
 
 fn idle_accounts_are_dropped(plain: &mut Plain, bytes: &[u8]) -> Result<(), Refused> {
@@ -194,7 +240,7 @@ fn idle_accounts_are_dropped(plain: &mut Plain, bytes: &[u8]) -> Result<(), Refu
 
 #[test]
 fn every_mistake_in_a_reader_is_found() {
-    let mistakes: [Reader; 14] = [
+    let mistakes: [Reader; 17] = [
         offset_of_the_number,
         bytes_after_the_end_are_taken,
         counts_are_seen_late,
@@ -209,6 +255,9 @@ fn every_mistake_in_a_reader_is_found() {
         every_edition_reads_twelve_rounds,
         old_bytes_are_of_the_latest_edition,
         all_books_are_of_edition_3,
+        installments_are_free,
+        kept_rates_are_cut_to_32_bits,
+        the_offers_terms_are_kept,
     ];
     for (number, mistake) in mistakes.into_iter().enumerate() {
         let found =
@@ -221,7 +270,7 @@ fn every_mistake_in_a_reader_is_found() {
 #[test]
 fn every_sample_is_compared() {
     let plain = || Ok(Box::<Plain>::default() as Box<dyn Side>);
-    assert_eq!(compare_samples(&plain, 64).map(|damaged| damaged.len()), Ok(3));
+    assert_eq!(compare_samples(&plain, 64).map(|damaged| damaged.len()), Ok(4));
     let breaks_off = || {
         let reader: Reader = |_, bytes| panic!("no answer to {} bytes", bytes.len());
         Ok(Box::new(Mistaken::reading(reader)) as Box<dyn Side>)

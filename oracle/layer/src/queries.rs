@@ -43,7 +43,7 @@ fn numbers(env: Env, query: Query) -> Answer {
         }
         Query::Negotiation(id) => negotiation(env, id),
         Query::Status(id, _) => vec![Contract::get_negotiation_status(env, symbol(id)) as u64],
-        Query::Due(id, _) => vec![Contract::get_installment_due(env, symbol(id)).into()],
+        Query::Due(id, _) => due(env, id),
         Query::Lender(id) => lender(env, id),
         Query::ActiveTotal(id) => {
             vec![Contract::get_lender_active_total(env, Address::account(id)) as u64]
@@ -80,6 +80,17 @@ fn negotiation(env: Env, id: u64) -> Vec<u64> {
     let rounds = Contract::get_negotiation(env, symbol(id));
     rounds.iter().for_each(|round| numbers.extend(round_numbers(&round)));
     numbers
+}
+
+/// The original says the number alone. What is owed on it is so many installments less the amount
+/// repaid, in two's complement.
+fn due(env: Env, id: u64) -> Vec<u64> {
+    let number = Contract::get_installment_due(env.clone(), symbol(id));
+    let schedule = Contract::get_schedule(env.clone(), symbol(id)).filter(|_| number != 0);
+    let Some(schedule) = schedule else { return vec![0; 2] };
+    let repaid = Contract::get_offer(env, symbol(id)).amount_repaid;
+    let owed = i128::from(number) * schedule.installment_amount - repaid;
+    vec![number.into(), owed as u64]
 }
 
 fn lender(env: Env, id: u64) -> Vec<u64> {

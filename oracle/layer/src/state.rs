@@ -44,6 +44,9 @@ pub(crate) fn schedule_numbers(schedule: &RepaymentSchedule) -> [u64; 4] {
     [schedule.count.into(), schedule.frequency as u64, installment, schedule.first_due]
 }
 
+/// The original's schedules keep no terms and have one kind.
+const NO_TERMS: [u64; 3] = [0; 3];
+
 pub(crate) fn round_numbers(round: &NegotiationRecord) -> [u64; 5] {
     let (party, amount) = (round.party as u64, round.amount as u64);
     [party, amount, round.interest_rate.into(), round.duration, round.timestamp]
@@ -111,6 +114,7 @@ impl Original {
         out.push(outcome.map_or(0, |stored| stored as u64));
         out.push(Contract::get_negotiation_deadline(env(), offer.id));
         out.extend(schedule.map_or([0; 4], |schedule| schedule_numbers(&schedule)));
+        out.extend(NO_TERMS);
         out.push(rounds.len().into());
         rounds.iter().for_each(|round| out.extend(round_numbers(&round)));
     }

@@ -33,6 +33,12 @@ pub fn most_rounds(edition: u64) -> usize {
     }
 }
 
+/// Whether a schedule keeps the offer's terms of when it was made, by which its last installment
+/// carries what the others leave.
+pub fn keeps_terms(edition: u64) -> bool {
+    edition >= 5
+}
+
 /// A fresh book.
 pub fn fresh(edition: u64) -> Book {
     Book { edition, window: fresh_window(edition), ..Book::fresh() }

@@ -14,6 +14,7 @@ mod port;
 mod queries;
 mod reading;
 mod repayment;
+pub mod schedule;
 mod settlement;
 pub mod snapshot;
 mod sound;
@@ -59,10 +60,14 @@ pub enum Slip {
     TwelveRounds,
     /// Sixteen rounds may be added in every edition.
     SixteenRounds,
+    /// Every installment is the stored one, the last too, in every edition.
+    CentsLeft,
+    /// The last installment goes by the offer's present terms, not by those that are kept.
+    PresentTerms,
 }
 
 /// Each with the first edition in which it shows.
-pub const SLIPS: [(Slip, u64); 9] = [
+pub const SLIPS: [(Slip, u64); 11] = [
     (Slip::AnyCounter, 1),
     (Slip::RoundStays, 1),
     (Slip::WithdrawLowers, 1),
@@ -72,6 +77,8 @@ pub const SLIPS: [(Slip, u64); 9] = [
     (Slip::AmountReached, 2),
     (Slip::TwelveRounds, 4),
     (Slip::SixteenRounds, 1),
+    (Slip::CentsLeft, 5),
+    (Slip::PresentTerms, 5),
 ];
 
 pub struct Plain {

@@ -3,14 +3,15 @@
 use journal::Command;
 use side::{Offer, Schedule};
 
-use crate::edition::{holds_amount, most_rounds};
+use crate::edition::{holds_amount, keeps_terms, most_rounds};
 use crate::money::{grown, moved, MOST_ROWS};
 use crate::negotiation::{
     add_round, countered, negotiable, offer_terms, status, CLOSED, EXPIRED, LENDER, NONE,
     ORIGINATOR, PENDING,
 };
+use crate::schedule::{installment, period};
 use crate::settlement::INVOICE_PENDING;
-use crate::terms::{installment, period, terms_valid, within_invoice, Terms};
+use crate::terms::{terms_valid, within_invoice, Terms};
 use crate::{test, Desk, Slip, Test};
 
 const REJECTED: u64 = 2;
@@ -50,7 +51,8 @@ impl Desk {
             Command::CloseNegotiation { now, caller, id } => self.close(now, caller, id),
             Command::ScheduleRepayment { now, caller, id, count, code, first } => {
                 let (count, code) = (count.into(), code.into());
-                self.schedule(now, caller, id, Schedule { count, code, installment: 0, first })
+                let asked = Schedule { count, code, first, ..Schedule::default() };
+                self.schedule(now, caller, id, asked)
             }
             _ => unreachable!("a command on offers"),
         }
@@ -219,7 +221,10 @@ impl Desk {
         test(caller == offer.lender || caller == originator, 6)?;
         let installment = installment(offer.amount, asked.count, offer.rate);
         test(installment != 0, 3)?;
-        self.book.offers[index].schedule = Some(Schedule { installment, ..asked });
+        let kept = keeps_terms(self.book.edition).then_some((offer.amount, offer.rate));
+        let (amount, rate) = kept.unwrap_or_default();
+        let schedule = Schedule { installment, amount, rate, ..asked };
+        self.book.offers[index].schedule = Some(schedule);
         Ok(())
     }
 }

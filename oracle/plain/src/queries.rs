@@ -1,9 +1,10 @@
 //! Module 6: queries.
 
-use side::{Book, Offer, Query};
+use side::{Book, Offer, Query, Schedule};
 
+use crate::edition::keeps_terms;
 use crate::negotiation::{status, PENDING};
-use crate::terms::{due, period};
+use crate::schedule::{due_by_quotient, due_by_sums, Due};
 use crate::{test, Slip, Test};
 
 pub fn answer(book: &Book, query: Query, slip: Option<Slip>) -> Test<Vec<u64>> {
@@ -25,7 +26,10 @@ pub fn answer(book: &Book, query: Query, slip: Option<Slip>) -> Test<Vec<u64>> {
         Query::Schedule(id) => Ok(found(id).map_or(Vec::new(), schedule)),
         Query::Negotiation(id) => Ok(found(id).map_or(vec![0], negotiation)),
         Query::Status(id, now) => one(found(id).map_or(0, |offer| status(offer, now))),
-        Query::Due(id, now) => one(found(id).map_or(0, |offer| due_of(offer, now))),
+        Query::Due(id, now) => {
+            let keeps = keeps_terms(book.edition);
+            Ok(found(id).map_or([0; 2], |offer| due_of(offer, now, keeps, slip)).into())
+        }
         Query::Lender(id) => {
             let row = book.accounts.iter().find(|account| account.id == id);
             Ok(row.map_or(vec![0; 4], |row| {
@@ -68,14 +72,19 @@ fn negotiation(offer: &Offer) -> Vec<u64> {
     numbers
 }
 
-fn due_of(offer: &Offer, now: u64) -> u64 {
+fn due_of(offer: &Offer, now: u64, keeps: bool, slip: Option<Slip>) -> Due {
     let (repaid, defaulted) = (4, 5);
-    match offer.schedule {
-        Some(row) if ![repaid, defaulted].contains(&offer.status) => {
-            let period = period(row.code).expect("a sound book's codes are listed");
-            due(now, row.first, period, row.count, row.installment, offer.repaid)
+    let Some(row) = offer.schedule else { return [0; 2] };
+    if [repaid, defaulted].contains(&offer.status) {
+        return [0; 2];
+    }
+    match slip {
+        Some(Slip::PresentTerms) if keeps => {
+            let row = Schedule { amount: offer.amount, rate: offer.rate, ..row };
+            due_by_sums(&row, now, offer.repaid)
         }
-        _ => 0,
+        _ if keeps && slip != Some(Slip::CentsLeft) => due_by_sums(&row, now, offer.repaid),
+        _ => due_by_quotient(&row, now, offer.repaid),
     }
 }
 

@@ -255,7 +255,7 @@ mod tests {
         let (first, rest) = (session()[..7].to_vec(), session()[7..].to_vec());
         let book = "account 1 5000 5000 1000 0\naccount 2 0 0 0 0\ntotals 0 0 0\n";
         assert!(listing_from(&mut plain, &journal(3, &first)).ends_with(book));
-        for bytes in [journal(2, &rest), journal(4, &rest), journal(5, &rest), vec![0x10]] {
+        for bytes in [journal(2, &rest), journal(4, &rest), journal(6, &rest), vec![0x10]] {
             assert_eq!(listing_from(&mut plain, &bytes), format!("0 13 0\n{book}"));
         }
         assert_eq!(listing_from(&mut plain, &[0; 32_769]), "0 14\n");

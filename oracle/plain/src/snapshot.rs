@@ -7,7 +7,7 @@ mod tests;
 
 use side::{Account, Book, Invoice, Offer, Round, Schedule};
 
-use crate::edition::{is_listed, most_rounds, OF_OLD_SNAPSHOTS};
+use crate::edition::{is_listed, keeps_terms, most_rounds, OF_OLD_SNAPSHOTS};
 use crate::money::MOST_ROWS;
 use crate::{sound, MALFORMED, UNSOUND};
 use pass::{Pass, Reader, Writer};
@@ -93,13 +93,13 @@ fn fields(pass: &mut impl Pass, book: &mut Book) -> Step {
     pass.amount(0x64, &mut book.totals.financed)?;
     pass.amount(0x65, &mut book.totals.repaid)?;
     pass.amount(0x66, &mut book.totals.fees)?;
-    let rounds = most_rounds(book.edition);
+    let edition = book.edition;
     pass.rows(0x70, &mut book.accounts, MOST_ROWS)?;
     book.accounts.iter_mut().try_for_each(|row| account(pass, row))?;
     pass.rows(0x80, &mut book.invoices, MOST_ROWS)?;
     book.invoices.iter_mut().try_for_each(|row| invoice(pass, row))?;
     pass.rows(0x90, &mut book.offers, MOST_ROWS)?;
-    book.offers.iter_mut().try_for_each(|row| offer(pass, row, rounds))
+    book.offers.iter_mut().try_for_each(|row| offer(pass, row, edition))
 }
 
 /// The id is free while no account is set.
@@ -133,7 +133,7 @@ fn invoice(pass: &mut impl Pass, row: &mut Invoice) -> Step {
     pass.half(0x82, &mut row.status)
 }
 
-fn offer(pass: &mut impl Pass, row: &mut Offer, rounds: usize) -> Step {
+fn offer(pass: &mut impl Pass, row: &mut Offer, edition: u64) -> Step {
     pass.wide(0x03, &mut row.id)?;
     pass.wide(0x04, &mut row.invoice)?;
     pass.wide(0x91, &mut row.lender)?;
@@ -146,9 +146,9 @@ fn offer(pass: &mut impl Pass, row: &mut Offer, rounds: usize) -> Step {
     pass.amount(0x94, &mut row.repaid)?;
     pass.wide(0x95, &mut row.deadline)?;
     pass.half(0x96, &mut row.outcome)?;
-    pass.rows(0x97, &mut row.rounds, rounds)?;
+    pass.rows(0x97, &mut row.rounds, most_rounds(edition))?;
     row.rounds.iter_mut().try_for_each(|row| round(pass, row))?;
-    schedule(pass, &mut row.schedule)
+    schedule(pass, &mut row.schedule, edition)
 }
 
 fn round(pass: &mut impl Pass, row: &mut Round) -> Step {
@@ -159,13 +159,17 @@ fn round(pass: &mut impl Pass, row: &mut Round) -> Step {
     pass.wide(0x01, &mut row.time)
 }
 
-/// Without a schedule all four numbers are 0.
-fn schedule(pass: &mut impl Pass, held: &mut Option<Schedule>) -> Step {
+/// Without a schedule all its numbers are 0.
+fn schedule(pass: &mut impl Pass, held: &mut Option<Schedule>, edition: u64) -> Step {
     let mut row = held.unwrap_or_default();
     pass.half(0x0A, &mut row.count)?;
     pass.half(0x0B, &mut row.code)?;
     pass.amount(0x99, &mut row.installment)?;
     pass.wide(0x0C, &mut row.first)?;
+    if keeps_terms(edition) {
+        pass.amount(0x9A, &mut row.amount)?;
+        pass.half(0x9B, &mut row.rate)?;
+    }
     pass.require(row.count != 0 || row == Schedule::default());
     *held = (row.count != 0).then_some(row);
     Ok(())

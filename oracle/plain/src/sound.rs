@@ -2,15 +2,15 @@
 
 use side::{Account, Book, Invoice, Offer, Schedule};
 
-use crate::edition::{is_listed, most_rounds};
+use crate::edition::{is_listed, keeps_terms, most_rounds};
 use crate::money::{HELD, MOST_COUNTED, MOST_ROWS, OFFERED};
-use crate::terms::{period, terms_valid};
+use crate::schedule::{installment, period};
+use crate::terms::terms_valid;
 
 pub fn sound(book: &Book) -> bool {
     let totals = &book.totals;
     let money = [totals.financed, totals.repaid, totals.fees];
     let seats = u64::from(book.seats.count_ones());
-    let rounds = most_rounds(book.edition);
     is_listed(book.edition)
         && money.iter().all(|total| HELD.contains(total))
         && totals.offers <= MOST_COUNTED
@@ -22,7 +22,7 @@ pub fn sound(book: &Book) -> bool {
         && table(book.offers.iter().map(|row| row.id))
         && book.accounts.iter().all(sound_account)
         && book.invoices.iter().all(sound_invoice)
-        && book.offers.iter().all(|row| row.rounds.len() <= rounds && sound_offer(row))
+        && book.offers.iter().all(|row| sound_offer(row, book.edition))
 }
 
 fn table(ids: impl ExactSizeIterator<Item = u64> + Clone) -> bool {
@@ -41,7 +41,7 @@ fn sound_invoice(row: &Invoice) -> bool {
     OFFERED.contains(&row.amount) && row.status <= 2
 }
 
-fn sound_offer(row: &Offer) -> bool {
+fn sound_offer(row: &Offer, edition: u64) -> bool {
     let rounds = row.rounds.iter().all(|round| {
         round.party <= 1 && terms_valid(&crate::negotiation::round_terms(round)).is_ok()
     });
@@ -50,13 +50,23 @@ fn sound_offer(row: &Offer) -> bool {
         && HELD.contains(&row.repaid)
         && [0, 2, 3, 4].contains(&row.outcome)
         && rounds
-        && row.schedule.as_ref().is_none_or(sound_schedule)
+        && row.rounds.len() <= most_rounds(edition)
+        && row.schedule.as_ref().is_none_or(|row| sound_schedule(row, edition))
 }
 
-fn sound_schedule(row: &Schedule) -> bool {
+/// Where terms are kept, the stored installment follows from them. What an edition lacks is 0.
+fn sound_schedule(row: &Schedule, edition: u64) -> bool {
     (1..=1200).contains(&row.count)
         && period(row.code).is_some()
         && (1..=2_000_000_000_000).contains(&row.installment)
+        && row.kind == 0
+        && if keeps_terms(edition) {
+            OFFERED.contains(&row.amount)
+                && (1..=10_000).contains(&row.rate)
+                && row.installment == installment(row.amount, row.count, row.rate)
+        } else {
+            (row.amount, row.rate) == (0, 0)
+        }
 }
 
 #[cfg(test)]
@@ -99,9 +109,46 @@ mod tests {
             let offer = Offer { amount, rate, duration, rounds, ..Offer::default() };
             Book { edition, offers: vec![offer], ..Book::fresh() }
         };
-        for (edition, most) in [(1, 12), (2, 12), (3, 12), (4, 16)] {
+        for (edition, most) in [(1, 12), (2, 12), (3, 12), (4, 16), (5, 16)] {
             assert!(sound(&with_rounds(edition, most)), "{edition}");
             assert!(!sound(&with_rounds(edition, most + 1)), "{edition}");
+        }
+    }
+
+    /// 1000 at 500 in three installments of 349, the last of which is not stored.
+    #[test]
+    fn a_schedule_keeps_terms_from_edition_5_on() {
+        let bare = Schedule { count: 3, code: 1, installment: 349, ..Schedule::default() };
+        let kept = Schedule { amount: 1_000, rate: 500, ..bare };
+        let with = |edition, schedule| {
+            let schedule = Some(schedule);
+            let offer =
+                Offer { amount: 7, rate: 7, duration: 86_400, schedule, ..Offer::default() };
+            sound(&Book { edition, offers: vec![offer], ..Book::fresh() })
+        };
+        for edition in 1..=journal::LATEST {
+            assert_eq!(with(edition, bare), edition < 5, "{edition}");
+            assert_eq!(with(edition, kept), edition >= 5, "{edition}");
+            assert!(!with(edition, Schedule { amount: 1_000, ..bare }), "{edition}");
+            assert!(!with(edition, Schedule { rate: 500, ..bare }), "{edition}");
+            assert!(!with(edition, Schedule { kind: 1, ..bare }), "{edition}");
+            assert!(!with(edition, Schedule { kind: 1, ..kept }), "{edition}");
+        }
+        assert!(with(5, Schedule { amount: 1_001, ..kept }));
+        let faults = [
+            Schedule { installment: 348, ..kept },
+            Schedule { installment: 350, ..kept },
+            Schedule { count: 2, ..kept },
+            Schedule { amount: 999 + 3, ..kept },
+            Schedule { rate: 511, ..kept },
+            Schedule { amount: -1_000, ..kept },
+            Schedule { amount: 2, installment: 0, ..kept },
+            Schedule { amount: 1_000_000_000_001, rate: 1, installment: 333_366_666_666, ..kept },
+            Schedule { rate: 10_001, installment: 333 + 333, ..kept },
+            Schedule { rate: 0, installment: 333, ..kept },
+        ];
+        for (number, fault) in faults.into_iter().enumerate() {
+            assert!(!with(5, fault), "fault {number}");
         }
     }
 }

@@ -19,14 +19,14 @@
 //! | 1 | F, the number of offers |
 //! | F times | an offer, as below |
 //!
-//! An offer is 17 numbers and five for each round:
+//! An offer is 20 numbers and five for each round:
 //!
 //! | numbers | what |
 //! |---|---|
 //! | 10 | id, invoice, lender, amount, rate, duration, expires, status, funded, amount repaid |
 //! | 1 | stored outcome, 0 where none is stored |
 //! | 1 | deadline |
-//! | 4 | schedule: count, code, installment, first due; four zeros where there is none |
+//! | 7 | schedule: count, code, installment, first due, kept amount, kept rate, kind; zeros where there is none |
 //! | 1 | R, the number of rounds |
 //! | R × 5 | party (0 lender, 1 originator), amount, rate, duration, time |
 //!
@@ -122,7 +122,9 @@ impl Offer {
         let schedule = self.schedule.unwrap_or_default();
         out.extend(self.ten());
         out.extend([self.outcome, self.deadline, schedule.count, schedule.code]);
-        out.extend([schedule.installment as u64, schedule.first, self.rounds.len() as u64]);
+        out.extend([schedule.installment as u64, schedule.first]);
+        out.extend([schedule.amount as u64, schedule.rate, schedule.kind]);
+        out.push(self.rounds.len() as u64);
         for round in &self.rounds {
             out.extend([round.party, round.amount as u64, round.rate]);
             out.extend([round.duration, round.time]);
@@ -134,15 +136,13 @@ fn offer_of(from: &mut Numbers) -> Option<Offer> {
     let [id, invoice, lender, amount, rate, duration, expires, status, funded, repaid] =
         from.take()?;
     let [outcome, deadline] = from.take()?;
-    let [count, code, installment, first] = from.take()?;
-    let schedule = Schedule { count, code, installment: installment as i64, first };
+    let schedule = schedule_of(from.take()?);
     let mut rounds = Vec::new();
     for _ in 0..from.one()? {
         let [party, amount, rate, duration, time] = from.take()?;
         rounds.push(Round { party, amount: amount as i64, rate, duration, time });
     }
     let (amount, repaid) = (amount as i64, repaid as i64);
-    let schedule = (count != 0).then_some(schedule);
     Some(Offer {
         id,
         invoice,
@@ -161,13 +161,23 @@ fn offer_of(from: &mut Numbers) -> Option<Offer> {
     })
 }
 
+/// Without installments there is none.
+fn schedule_of(numbers: [u64; 7]) -> Option<Schedule> {
+    let [count, code, installment, first, amount, rate, kind] = numbers;
+    let (installment, amount) = (installment as i64, amount as i64);
+    (count != 0).then_some(Schedule { count, code, installment, first, amount, rate, kind })
+}
+
 #[cfg(test)]
 mod test {
     use super::*;
 
     fn sample() -> Book {
         let round = Round { party: 1, amount: 7, rate: 8, duration: 9, time: 10 };
-        let schedule = Some(Schedule { count: 3, code: 2, installment: 349, first: 11 });
+        let (installment, amount, rate) = (349, 1_000, 500);
+        let schedule =
+            Schedule { count: 3, code: 2, installment, first: 11, amount, rate, kind: 0 };
+        let schedule = Some(schedule);
         let offer = Offer { id: 20, amount: 6, outcome: 3, schedule, ..Offer::default() };
         let rounds = vec![round, Round { party: 0, ..round }];
         let offers = vec![offer.clone(), Offer { id: 21, rounds, schedule: None, ..offer }];
@@ -183,8 +193,10 @@ mod test {
             book.flat(&mut flat);
             assert_eq!(Book::of_flat(&flat), Some(book));
         }
-        assert_eq!(flat.len(), 11 + 1 + 8 + 1 + 4 + 1 + 2 * 17 + 2 * 5);
+        assert_eq!(flat.len(), 11 + 1 + 8 + 1 + 4 + 1 + 2 * 20 + 2 * 5);
         assert_eq!(flat[..3], [2, 0, 604_800]);
+        let offer = 11 + 1 + 8 + 1 + 4 + 1;
+        assert_eq!(flat[offer + 12..offer + 20], [3, 2, 349, 11, 1_000, 500, 0, 0]);
         assert_eq!(Book::of_flat(&flat[1..]), None);
     }
 }

@@ -15,7 +15,7 @@
 /// | 8 | its schedule | count, code, installment, first due; nothing if there is none |
 /// | 9 | its negotiation | deadline, then each round's party, amount, rate, duration, time |
 /// | 10 | its negotiation's status: id, time | one |
-/// | 11 | its installment due: id, time | one |
+/// | 11 | its installment due: id, time | its number and what is still owed on it, zeros if none is due |
 /// | 12 | a lender's figures | offered, accepted, offers pending, offers repaid |
 /// | 13 | a lender's active total | one |
 /// | 14 | the number of offers | one |

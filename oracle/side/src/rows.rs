@@ -82,6 +82,11 @@ pub struct Schedule {
     pub code: u64,
     pub installment: i64,
     pub first: u64,
+    /// The offer's terms when the schedule was made, where the edition keeps them; else 0.
+    pub amount: i64,
+    pub rate: u64,
+    /// 0 flat. No edition has another one.
+    pub kind: u64,
 }
 
 impl Book {

@@ -9,9 +9,9 @@ use Rattle.offer.specs.declared.SeenDeal.{SeenDeal}
 use Rattle.offer.specs.Rules.{standing}
 use Rattle.totals.specs.declared.Totals.{Totals}
 use Rattle.settings.specs.declared.Settings.{Settings}
-use Rattle.rules.specs.Model.{Model}
+use Rattle.rules.specs.Model.{Model, offerIn}
 use Rattle.query.specs.Numbers.{lenderNumbers, totalsNumbers, dueIn, flag}
-use Rattle.query.specs.Reads.{dealRead, lenderOrder, totalsOrder, scheduleValues}
+use Rattle.query.specs.Reads.{dealRead, dueOrder, lenderOrder, totalsOrder, scheduleValues}
 use Rattle.query.specs.Questions.{readIn, readOf, replyTo, twelve, purseOrder}
 use Rattle.query.specs.QuestionLaws.{by-code, by-sure, by-none}
 use Rattle.query.proofs.answer.Statement.{statement}
@@ -48,7 +48,7 @@ returns-6 c m s = value 6 (c .before .before) m (standing (c .before .before .ar
 
 returns-7 : tie.Need-returns-7
 unfolding readOf readIn pick
-returns-7 c m s = value 7 (c .before .before) m (dueIn (c .before .before .args .deal .row) (c .before .before .args .time) ∷ []) (c .before .match .keys7) (c .due-words .ensures) (ap (λ (d : SeenDeal). sure (dueIn (d .row) (c .before .before .args .time) ∷ [])) (s .deal-seen))
+returns-7 c m s = value 7 (c .before .before) m (dueOrder (dueIn (c .before .before .args .settings .edition) (c .before .before .args .deal .row) (c .before .before .args .time))) (c .before .match .keys7) (c .due-words .ensures) (ap (λ (d : SeenDeal). sure (dueOrder (dueIn (c .before .before .args .settings .edition) (d .row) (c .before .before .args .time)))) (s .deal-seen) ∙ ap (λ (t : Settings). sure (dueOrder (dueIn (t .edition) (offerIn m (c .before .before .args .id) .row) (c .before .before .args .time)))) (s .settings-seen))
 
 returns-8 : tie.Need-returns-8
 unfolding readOf readIn pick

@@ -1,4 +1,3 @@
-use Rattle.money.specs.Facts.{back}
 use Rattle.terms.specs.Schedule.{scheduleZero}
 use borrow.Author.Needs.{needs}
 use Rattle.terms.proofs.schedule_zero.Statement.{statement}
@@ -6,7 +5,7 @@ use Rattle.terms.proofs.schedule_zero.Tie as tie
 
 returns : tie.Need-returns
 unfolding scheduleZero
-returns c = simp (simp (back (c .before .before .args .s .installment) (c .before .struct-told .given .1 .1 .0 .1)) at (c .is-zero .ensures))
+returns c = simp (c .before .schedule-none .ensures, c .keeps-none .ensures)
 
 pub schedule-zero-spec : {M : Type 1} → statement M
-schedule-zero-spec = tie.close (tie.spec (λ c κs. search needs) returns)
+schedule-zero-spec = tie.close (tie.spec (λ c κs. search needs) (λ c κs. search needs) returns)

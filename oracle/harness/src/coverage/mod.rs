@@ -193,4 +193,16 @@ mod test {
         assert!(new.iter().all(|path| owed(4).iter().any(|owed| owed == path)));
         assert!(new.iter().all(|path| owed(3).iter().all(|owed| owed != path)));
     }
+
+    #[test]
+    fn the_fifth_edition_owes_its_sums() {
+        let owed = |edition| Coverage::of(edition).unwalked();
+        let new = [
+            "never: an installment before the last is partly paid",
+            "never: only what the others leave is owed on the last installment",
+            "never: an amount is repaid on a schedule of earlier terms",
+        ];
+        assert!(new.iter().all(|path| owed(5).iter().any(|owed| owed == path)));
+        assert!(new.iter().all(|path| owed(4).iter().all(|owed| owed != path)));
+    }
 }

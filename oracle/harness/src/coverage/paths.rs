@@ -1,8 +1,9 @@
 //! Paths that a comparison of some length must have walked.
 
 use journal::{Command, Numbers};
-use plain::edition::{holds_amount, most_rounds};
-use side::{Book, Invoice, Offer, Round};
+use plain::edition::{holds_amount, keeps_terms, most_rounds};
+use plain::schedule::sums;
+use side::{Book, Invoice, Offer, Round, Schedule};
 
 /// An answered command on an offer, with the offer before and after it and the invoice.
 struct Walk<'a> {
@@ -109,6 +110,21 @@ impl Walk<'_> {
     }
 }
 
+impl Walk<'_> {
+    /// An update of the amount repaid on an offer that is not over, with its schedule and whether it is
+    /// paid as far as this says, by the amount repaid and the sums up to each installment.
+    fn repays(&self, paid: fn(i64, &Schedule, &[i64]) -> bool) -> bool {
+        let schedule = self.is.schedule.filter(|_| self.accepted(0x42) && self.is.status < 4);
+        schedule.is_some_and(|row| paid(self.is.repaid, &row, &sums(&row).collect::<Vec<_>>()))
+    }
+
+    /// Whether the terms of the offer are others than its schedule has kept.
+    fn parts_from_kept(&self) -> bool {
+        let terms = (self.is.amount, self.is.rate);
+        self.is.schedule.is_some_and(|row| (row.amount, row.rate) != terms)
+    }
+}
+
 type Path = (&'static str, fn(&Walk) -> bool);
 
 const ON_OFFERS: [Path; 15] = [
@@ -167,6 +183,38 @@ const ON_MORE_ROUNDS: [Path; 6] = [
     ("a seventeenth round is refused", |walk| walk.refused_after(16)),
 ];
 
+/// Where the last installment carries what the others leave.
+const ON_SUMS: [Path; 7] = [
+    ("an installment before the last is partly paid", |walk| {
+        walk.repays(|repaid, row, sums| {
+            let paid = sums.iter().take_while(|sum| repaid >= **sum).last().copied();
+            let others = &sums[..row.count as usize - 1];
+            repaid > paid.unwrap_or(0) && others.last().is_some_and(|sum| repaid < *sum)
+        })
+    }),
+    ("all but the last installment are paid", |walk| {
+        walk.repays(|repaid, row, sums| row.count > 1 && repaid == sums[row.count as usize - 2])
+    }),
+    ("only what the others leave is owed on the last installment", |walk| {
+        walk.repays(|repaid, row, sums| {
+            let all_alike = row.count as i64 * row.installment;
+            (all_alike..sums[row.count as usize - 1]).contains(&repaid)
+        })
+    }),
+    ("one is owed on the last installment", |walk| {
+        walk.repays(|repaid, row, sums| repaid + 1 == sums[row.count as usize - 1])
+    }),
+    ("the total is repaid", |walk| {
+        walk.repays(|repaid, row, sums| repaid == sums[row.count as usize - 1])
+    }),
+    ("an amendment parts from the terms that a schedule keeps", |walk| {
+        walk.accepted(AMEND) && walk.parts_from_kept()
+    }),
+    ("an amount is repaid on a schedule of earlier terms", |walk| {
+        walk.repays(|_, _, _| true) && walk.parts_from_kept()
+    }),
+];
+
 /// Where the amount is held to the invoice's.
 const ON_AMOUNTS: [Path; 11] = [
     ("an amendment above the invoice's amount is refused", |walk| walk.refused_above(AMEND)),
@@ -208,7 +256,8 @@ const BACK: &str = "a command is accepted at an earlier time than the one before
 fn on_offers(edition: u64) -> impl Iterator<Item = &'static Path> {
     let on_amounts: &[Path] = if holds_amount(edition) { &ON_AMOUNTS } else { &[] };
     let on_rounds: &[Path] = if most_rounds(edition) > 12 { &ON_MORE_ROUNDS } else { &[] };
-    ON_OFFERS.iter().chain(on_amounts).chain(on_rounds)
+    let on_sums: &[Path] = if keeps_terms(edition) { &ON_SUMS } else { &[] };
+    ON_OFFERS.iter().chain(on_amounts).chain(on_rounds).chain(on_sums)
 }
 
 /// The paths that are to be walked in an edition.

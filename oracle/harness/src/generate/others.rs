@@ -1,6 +1,8 @@
 //! The port's commands, repayment's updates and the admin commands.
 
 use journal::Command;
+use plain::edition::keeps_terms;
+use plain::schedule::sums;
 use side::{Account, Book, Offer};
 
 use super::{Generator, MOST_HELD, TRILLION};
@@ -60,7 +62,11 @@ impl Generator {
                 let code = self.chance.pick(&[0, 0, 1, 2, 3, 4, 5]);
                 Command::UpdateStatus { now, caller, id, code }
             }
-            0x42 => Command::UpdateRepaid { now, caller, id, amount: self.repaid(offer) },
+            0x42 => {
+                let by_sums = keeps_terms(book.edition) && self.chance.percent(60);
+                let amount = if by_sums { self.about_sum(offer) } else { self.repaid(offer) };
+                Command::UpdateRepaid { now, caller, id, amount }
+            }
             0x43 => {
                 let code = self.chance.pick(&[0, 1, 1]);
                 Command::UpdateLenderRepaid { now, caller, id: self.any_account(book), code }
@@ -85,6 +91,18 @@ impl Generator {
             _ => self.beside(whole),
         };
         amount.min(MOST_HELD) as i64
+    }
+
+    /// An amount repaid about the sum up to an installment, the last one before others.
+    fn about_sum(&mut self, offer: Option<&Offer>) -> i64 {
+        let Some(row) = offer.and_then(|offer| offer.schedule) else { return self.repaid(offer) };
+        let number = match self.chance.below(4) {
+            0 => self.chance.within(1, row.count),
+            1 => row.count.saturating_sub(1).max(1),
+            _ => row.count,
+        };
+        let sum = sums(&row).nth(number as usize - 1).unwrap_or(0);
+        self.beside(sum as u64) as i64
     }
 
     /// A difference to a total, mostly up.

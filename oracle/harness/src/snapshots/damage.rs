@@ -50,7 +50,7 @@ impl std::fmt::Display for Counts {
 /// Starts a side.
 pub type Start<'a> = &'a (dyn Fn() -> Result<Box<dyn Side>, String> + Sync);
 
-/// Damages the three samples, each beside a side of its own and at the same time.
+/// Damages the four samples, each beside a side of its own and at the same time.
 pub fn compare_samples(start: Start, one_in: usize) -> Result<Vec<(Sample, Counts)>, String> {
     let damaged = |sample: Sample| {
         let counts = compare_damaged(&mut *start()?, &sample.bytes, one_in)?;

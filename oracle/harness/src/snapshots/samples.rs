@@ -1,5 +1,5 @@
-//! The three books whose snapshots are damaged byte by byte: two of edition 3, the first without a
-//! field that says so, and one of edition 4.
+//! The four books whose snapshots are damaged byte by byte: two of edition 3, the first without a
+//! field that says so, one of edition 4 and one of edition 5.
 
 use plain::edition::{fresh, OF_OLD_SNAPSHOTS};
 use plain::snapshot::write;
@@ -19,14 +19,14 @@ pub struct Sample {
     pub bytes: Vec<u8>,
 }
 
-pub fn samples() -> [Sample; 3] {
+pub fn samples() -> [Sample; 4] {
     let sample = |name, book: &Book| {
         let bytes = write(book).expect("the sample's books are sound");
         Sample { name, bytes }
     };
     let small = sample("small", &small());
     let old = Sample { name: "old", bytes: without_edition(&small.bytes).to_vec() };
-    [old, sample("middle", &middle()), sample("generated", &generated())]
+    [old, sample("middle", &middle()), sample("generated", &generated()), sample("kept", &kept())]
 }
 
 /// Two accounts, an invoice, an offer on it with two rounds and a schedule.
@@ -37,6 +37,8 @@ fn small() -> Book {
     let duration = 86_400;
     let counter = Round { party: 1, amount: 900, rate: 400, duration, time: 100 };
     let amend = Round { party: 0, amount: 900, rate: 500, duration, time: 160 };
+    let (count, code, installment, first) = (3, 1, 315, 1_000_000);
+    let schedule = Schedule { count, code, installment, first, ..Schedule::default() };
     let offer = Offer {
         id: 20,
         invoice: 10,
@@ -46,7 +48,7 @@ fn small() -> Book {
         duration,
         deadline: 259_300,
         rounds: vec![counter, amend],
-        schedule: Some(Schedule { count: 3, code: 1, installment: 315, first: 1_000_000 }),
+        schedule: Some(schedule),
         ..Offer::default()
     };
     Book {
@@ -57,6 +59,17 @@ fn small() -> Book {
         offers: vec![offer],
         ..fresh(OF_OLD_SNAPSHOTS)
     }
+}
+
+/// The small book in edition 5, with the offer as it is after an amendment and the schedule as it was
+/// made before: of 905 in three installments, the last of which is 318. One is owed on that.
+fn kept() -> Book {
+    let mut book = Book { edition: 5, ..small() };
+    let offer = &mut book.offers[0];
+    offer.repaid = 2 * 316 + 317;
+    let schedule = offer.schedule.as_mut().expect("the small book has a schedule");
+    (schedule.amount, schedule.rate, schedule.installment) = (905, 500, 316);
+    book
 }
 
 /// Numbers at the ends of their ranges, ids beside each other, an idle repayment account, an offer
@@ -88,7 +101,8 @@ fn middle() -> Book {
         rounds: vec![round],
         ..bare.clone()
     };
-    let longest = Schedule { count: 1_200, code: 3, installment: 2_000_000_000_000, first: 0 };
+    let (count, code, installment) = (1_200, 3, 2_000_000_000_000);
+    let longest = Schedule { count, code, installment, ..Schedule::default() };
     Book {
         paused: true,
         window: 2_592_000,
@@ -126,6 +140,7 @@ mod test {
     fn the_samples_are_as_long_as_they_should_be() {
         let lengths = samples().map(|sample| sample.bytes.len());
         assert!(lengths[..2] == [660, 847] && lengths[2] <= LONGEST, "{lengths:?}");
+        assert_eq!(lengths[3], 671 + 22);
         let book = generated();
         let rounds = book.offers.iter().map(|row| row.rounds.len());
         assert!(book.accounts.len() > 1 && rounds.max() > Some(12), "{book:?}");

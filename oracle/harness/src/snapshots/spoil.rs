@@ -10,8 +10,8 @@ use crate::chance::Chance;
 use crate::damage::wound;
 
 /// Editions that there are, neighbours of them and numbers that are one in fewer bits.
-const EDITIONS: [u64; 12] =
-    [0, 1, 2, 3, 4, 5, 256 + 3, (1 << 16) + 4, (1 << 32) + 1, (1 << 32) + 4, 1 << 63, u64::MAX];
+const EDITIONS: [u64; 13] =
+    [0, 1, 2, 3, 4, 5, 6, 256 + 3, (1 << 16) + 4, (1 << 32) + 1, (1 << 32) + 4, 1 << 63, u64::MAX];
 
 /// Numbers at and past the ends of the columns' types, ranges and limits.
 const NUMBERS: [u64; 24] = [

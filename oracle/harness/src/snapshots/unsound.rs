@@ -1,7 +1,8 @@
 //! Faults that make a book unsound. A number stays within 32 bits where a book has no more room for
 //! it, so that every side can hold it.
 
-use plain::edition::most_rounds;
+use plain::edition::{keeps_terms, most_rounds};
+use plain::schedule::installment;
 use side::{Account, Book, Invoice, Offer, Round, Schedule};
 
 /// Plants the fault, where the book has a row for it.
@@ -25,6 +26,22 @@ fn round(book: &mut Book, change: fn(&mut Round)) -> Option<()> {
 
 fn schedule(book: &mut Book, change: fn(&mut Schedule)) -> Option<()> {
     book.offers.iter_mut().find_map(|row| row.schedule.as_mut()).map(change)
+}
+
+/// Of a schedule that keeps terms.
+fn kept(book: &mut Book, change: fn(&mut Schedule)) -> Option<()> {
+    keeps_terms(book.edition).then(|| schedule(book, change))?
+}
+
+/// Of a schedule that keeps none.
+fn bare(book: &mut Book, change: fn(&mut Schedule)) -> Option<()> {
+    (!keeps_terms(book.edition)).then(|| schedule(book, change))?
+}
+
+/// Other terms are kept, and their installment is stored.
+fn refit(row: &mut Schedule, amount: i64, rate: u64) {
+    (row.amount, row.rate) = (amount, rate);
+    row.installment = installment(amount, row.count, rate);
 }
 
 fn set(book: &mut Book, change: fn(&mut Book)) -> Option<()> {
@@ -66,7 +83,7 @@ const TOO_MUCH: i64 = 4_000_000_000_000_001;
 
 /// Each with what is wrong.
 #[rustfmt::skip]
-pub const FAULTS: [(&str, Fault); 47] = [
+pub const FAULTS: [(&str, Fault); 58] = [
     ("edition 0", |book| set(book, |book| book.edition = 0)),
     ("the edition after the latest", |book| set(book, |book| book.edition = journal::LATEST + 1)),
     ("window 3599", |book| set(book, |book| book.window = 3_599)),
@@ -114,4 +131,15 @@ pub const FAULTS: [(&str, Fault); 47] = [
     ("period 4", |book| schedule(book, |row| row.code = 4)),
     ("installment 0", |book| schedule(book, |row| row.installment = 0)),
     ("installment too much", |book| schedule(book, |row| row.installment = 2_000_000_000_001)),
+    ("an installment one above that of the kept terms", |book| kept(book, |row| row.installment += 1)),
+    ("an installment one below that of the kept terms", |book| kept(book, |row| row.installment -= 1)),
+    ("a kept amount of another installment", |book| kept(book, |row| row.amount += row.count as i64)),
+    ("a kept amount of 0", |book| kept(book, |row| row.amount = 0)),
+    ("a kept amount below 0", |book| kept(book, |row| row.amount = -row.amount)),
+    ("a kept amount of too much", |book| kept(book, |row| refit(row, 1_000_000_000_001, 1))),
+    ("a kept rate of 0", |book| kept(book, |row| refit(row, row.amount, 0))),
+    ("a kept rate of 10001", |book| kept(book, |row| refit(row, row.amount, 10_001))),
+    ("a kept amount before edition 5", |book| bare(book, |row| row.amount = 1)),
+    ("a kept rate before edition 5", |book| bare(book, |row| row.rate = 1)),
+    ("kind 1", |book| schedule(book, |row| row.kind = 1)),
 ];

@@ -3,7 +3,8 @@
 
 use std::collections::BTreeSet;
 
-use side::Book;
+use plain::edition::keeps_terms;
+use side::{Book, Offer};
 
 use super::samples::Sample;
 use crate::reference::Reference;
@@ -33,7 +34,7 @@ const OWED: [(&str, &[u64]); 20] = [
 ];
 
 /// What only the book and the time asked for tell.
-const EDGES: [(&str, &str); 10] = [
+const EDGES: [(&str, &str); 14] = [
     ("negotiation", "twelve rounds"),
     ("negotiation", "sixteen rounds"),
     ("negotiation-status", "open at the deadline"),
@@ -44,6 +45,10 @@ const EDGES: [(&str, &str); 10] = [
     ("due", "of an offer rejected"),
     ("due", "of an offer repaid or defaulted"),
     ("due", "paid as far as is due"),
+    ("due", "partly paid"),
+    ("due", "partly paid in an edition before sums"),
+    ("due", "more on the last than an installment"),
+    ("due", "only what the others leave on the last"),
 ];
 
 /// Something that the questions and their answers never meet, if there is such.
@@ -134,12 +139,29 @@ fn sort(kind: &str, answered: &[u64]) -> u64 {
     match (kind, answered) {
         (_, [refusal, ..]) if *refusal != 0 => 100 + refusal,
         ("negotiation-status" | "paused", [_, code]) => *code,
-        ("due" | "count" | "threshold", [_, number]) => (*number).min(2),
+        ("due", [_, number, _]) | ("count" | "threshold", [_, number]) => (*number).min(2),
         ("schedule", [_, _, code, ..]) => *code,
         ("negotiation", [.., outcome]) => *outcome,
         (_, [_, rows]) if is_list(kind) => (*rows).min(2),
         _ => answered.iter().any(|number| *number != 0).into(),
     }
+}
+
+/// Less is owed than an installment.
+fn is_part(offer: &Offer, answered: &[u64]) -> bool {
+    let installment = offer.schedule.map(|schedule| schedule.installment as u64);
+    installment > answered.get(2).copied()
+}
+
+/// More is owed than an installment.
+fn is_more(offer: &Offer, answered: &[u64]) -> bool {
+    let installment = offer.schedule.map(|schedule| schedule.installment as u64);
+    installment < answered.get(2).copied()
+}
+
+/// So much is repaid as all installments are, were the last as the others.
+fn is_past_all(offer: &Offer) -> bool {
+    offer.schedule.is_some_and(|row| offer.repaid >= row.installment * row.count as i64)
 }
 
 fn edges(book: &Book, kind: &str, asked: &[u64], answered: &[u64]) -> Vec<&'static str> {
@@ -148,6 +170,8 @@ fn edges(book: &Book, kind: &str, asked: &[u64], answered: &[u64]) -> Vec<&'stat
     let now = asked.get(1).copied().unwrap_or(0);
     let first = offer.schedule.map_or(u64::MAX, |schedule| schedule.first);
     let late = offer.schedule.is_some() && now >= first;
+    let partly = answer > 0 && offer.repaid > 0 && is_part(offer, answered);
+    let by_sums = keeps_terms(book.edition);
     let met = [
         kind == "negotiation" && answer == 12,
         kind == "negotiation" && answer == 16,
@@ -159,6 +183,10 @@ fn edges(book: &Book, kind: &str, asked: &[u64], answered: &[u64]) -> Vec<&'stat
         late && offer.status == 2 && answer > 0,
         late && offer.status > 3 && answer == 0,
         late && offer.status < 4 && answer == 0,
+        partly && by_sums,
+        partly && !by_sums,
+        late && answer > 0 && by_sums && is_more(offer, answered),
+        late && answer > 0 && by_sums && is_past_all(offer),
     ];
     let edges = EDGES.iter().zip(met).filter(|((of, _), met)| *met && *of == kind);
     edges.map(|((_, edge), _)| *edge).collect()

@@ -3,6 +3,7 @@
 
 use std::collections::BTreeSet;
 
+use plain::edition::keeps_terms;
 use side::{Book, Offer};
 
 use crate::chance::Chance;
@@ -23,6 +24,9 @@ const ASKED_TOO: [&str; 12] = [
     "fits-round",
     "size-32768",
 ];
+
+/// Of so many offers it is asked what is owed in the end, where an installment is paid by its sum.
+const MOST_OWED: usize = 12;
 
 /// Whether questions stand beside the journal of this name.
 pub(super) fn is_asked(name: &str) -> bool {
@@ -206,6 +210,10 @@ impl Asking<'_> {
             }
             let other = self.chance.pick(&[self.now, u64::MAX]);
             self.ask("due", &[offer.id, other]);
+        }
+        if keeps_terms(self.book.edition) {
+            let offers = self.book.offers.iter().filter(|offer| offer.schedule.is_some());
+            offers.take(MOST_OWED).for_each(|offer| self.ask("due", &[offer.id, u64::MAX]));
         }
         let offers: Vec<_> = self.book.offers.iter().filter(|row| row.schedule.is_none()).collect();
         let without = self.some(&offers, 1).first().map(|offer| offer.id);

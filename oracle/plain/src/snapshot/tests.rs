@@ -80,6 +80,13 @@ const SAMPLE: [u8; 517] = [
     0x0C, 0, 8, 0, 0, 0, 0, 0, 0, 0, 53,
 ];
 
+/// What follows them in edition 5: the terms that the schedule keeps.
+#[rustfmt::skip]
+const KEPT: [u8; 22] = [
+    0x9A, 0, 8, 0, 0, 0, 0, 0, 0, 0x0A, 0x5A, // 2,650 in 51 installments: 51 and 1 of interest each
+    0x9B, 0, 8, 0, 0, 0, 0, 0, 0, 0, 200,
+];
+
 fn sample() -> Book {
     let totals =
         Totals { offers: 1_000_000, financed: 4_000_000_000_000_000, repaid: 61, fees: 62 };
@@ -94,6 +101,8 @@ fn sample() -> Book {
         blacklisted: 1,
     };
     let round = Round { party: 1, amount: 41, rate: 42, duration: 86_401, time: 43 };
+    let (count, code, installment, first) = (51, 3, 52, 53);
+    let schedule = Schedule { count, code, installment, first, ..Schedule::default() };
     let offer = Offer {
         id: 9,
         invoice: 31,
@@ -108,7 +117,7 @@ fn sample() -> Book {
         outcome: 4,
         deadline: u64::MAX,
         rounds: vec![round],
-        schedule: Some(Schedule { count: 51, code: 3, installment: 52, first: 53 }),
+        schedule: Some(schedule),
     };
     Book {
         edition: 3,
@@ -125,6 +134,25 @@ fn sample() -> Book {
     }
 }
 
+/// The sample in an edition, with the terms that a schedule keeps there.
+fn sample_of(edition: u64) -> Book {
+    let mut book = Book { edition, ..sample() };
+    if edition >= 5 {
+        let schedule = book.offers[0].schedule.as_mut().unwrap();
+        (schedule.amount, schedule.rate) = (2_650, 200);
+    }
+    book
+}
+
+/// The sample's bytes in edition 5 without the edition, with other numbers in some fields.
+fn kept_with(numbers: &[(usize, u64)]) -> Vec<u8> {
+    let mut bytes = [SAMPLE.as_slice(), &KEPT].concat();
+    for (field, number) in numbers {
+        bytes[11 * field + 3..11 * field + 11].copy_from_slice(&number.to_be_bytes());
+    }
+    bytes
+}
+
 fn empty() -> Vec<u8> {
     [FRESH.as_slice(), &NO_ROWS].concat()
 }
@@ -136,7 +164,7 @@ fn of_edition(edition: u64, bytes: &[u8]) -> Vec<u8> {
 
 /// The sample's book with so many rounds on its offer.
 fn with_rounds(edition: u64, rounds: usize) -> Book {
-    let mut book = Book { edition, ..sample() };
+    let mut book = sample_of(edition);
     book.offers[0].rounds = vec![book.offers[0].rounds[0]; rounds];
     book
 }
@@ -165,12 +193,15 @@ fn every_column_has_its_field() {
     let bytes = of_edition(3, &SAMPLE);
     assert_eq!(write(&sample()), Ok(bytes.clone()));
     assert_eq!(read(&bytes), Ok(sample()));
+    let bytes = of_edition(5, &kept_with(&[]));
+    assert_eq!(write(&sample_of(5)), Ok(bytes.clone()));
+    assert_eq!(read(&bytes), Ok(sample_of(5)));
 }
 
 #[test]
 fn the_books_of_all_editions_are_read_back() {
-    for edition in 1..=4 {
-        for book in [fresh(edition), Book { edition, ..sample() }, with_rounds(edition, 12)] {
+    for edition in 1..=5 {
+        for book in [fresh(edition), sample_of(edition), with_rounds(edition, 12)] {
             let bytes = write(&book).unwrap();
             assert_eq!(bytes[..11], of_edition(edition, &[]));
             assert_eq!(read(&bytes), Ok(book));
@@ -188,12 +219,56 @@ fn bytes_without_an_edition_are_of_edition_3() {
         assert_eq!(read(&bytes[11..]), Ok(with_rounds(3, 12)));
     }
     assert_eq!(examine(&write(&with_rounds(4, 13)).unwrap()[11..]), Err(Refusal::TooMany));
+    assert_eq!(examine(&write(&with_rounds(5, 13)).unwrap()[11..]), Err(Refusal::TooMany));
+    assert_eq!(read(&write(&fresh(5)).unwrap()[11..]), Ok(fresh(3)));
+}
+
+/// The terms of a schedule have fields in edition 5 and nowhere else.
+#[test]
+fn kept_terms_are_of_edition_5() {
+    let kept = kept_with(&[]);
+    assert_eq!(read(&kept), Err((13, 517)));
+    for edition in 1..=4 {
+        assert_eq!(read(&of_edition(edition, &kept)), Err((13, 528)), "{edition}");
+        assert_eq!(write(&Book { edition, ..sample_of(5) }), Err(15), "{edition}");
+    }
+    assert_eq!(write(&Book { edition: 5, ..sample() }), Err(15));
+    for length in 0..kept.len() {
+        let wrong = (length / 11 * 11 + 11) as u64;
+        assert_eq!(read(&of_edition(5, &kept[..length])), Err((13, wrong)), "{length}");
+    }
+    for field in 0..49 {
+        let mut bytes = kept.clone();
+        bytes[11 * field] ^= 0x40;
+        assert_eq!(read(&of_edition(5, &bytes)), Err((13, 11 * field as u64 + 11)), "{field}");
+    }
+    assert_eq!(read(&of_edition(5, &[kept.as_slice(), &[0x9C]].concat())), Err((13, 550)));
+}
+
+/// Field 47 is the kept amount and 48 the kept rate; 45 is the installment that follows from them.
+#[test]
+fn kept_terms_are_held_to_the_installment() {
+    let read_with = |numbers: &[(usize, u64)]| read(&of_edition(5, &kept_with(numbers)));
+    let minus = u64::MAX;
+    for good in [(47, 2_601), (47, 2_651), (48, 197), (48, 392)] {
+        assert!(read_with(&[good]).is_ok(), "{good:?}");
+    }
+    let wrong = [(47, 0), (47, 2_600), (47, 2_652), (47, minus), (48, 0), (48, 196), (48, 393)];
+    for wrong in wrong.into_iter().chain([(45, 51), (45, 53), (43, 50), (48, (1 << 32) + 200)]) {
+        assert_eq!(read_with(&[wrong]), Err(UNSOUND), "{wrong:?}");
+    }
+    assert!(read_with(&[(48, 10_000), (45, 102)]).is_ok());
+    assert_eq!(read_with(&[(48, 10_001), (45, 102)]), Err(UNSOUND));
+    let most = [(43, 1), (47, 1_000_000_000_000), (45, 1_000_100_000_000), (48, 1)];
+    assert!(read_with(&most).is_ok());
+    let more = [(43, 1), (47, 1_000_000_000_001), (45, 1_000_100_000_001), (48, 1)];
+    assert_eq!(read_with(&more), Err(UNSOUND));
 }
 
 #[test]
 fn an_edition_that_there_is_not_is_wrong_at_once() {
     let past_32_bits = (1 << 32) + 1;
-    for edition in [0, 5, 257, past_32_bits, past_32_bits + 2, 1 << 63, u64::MAX] {
+    for edition in [0, 6, 257, past_32_bits, past_32_bits + 2, 1 << 63, u64::MAX] {
         for rest in [SAMPLE.as_slice(), &[], &[0; 20]] {
             assert_eq!(read(&of_edition(edition, rest)), Err((13, 0)), "{edition}");
         }
@@ -222,7 +297,7 @@ fn the_edition_has_a_field_as_any_other() {
 /// The limit is the edition's, and a round past it is seen before the malformed bytes after it.
 #[test]
 fn the_number_of_rounds_is_held_to_the_edition() {
-    for (edition, most) in [(1, 12), (2, 12), (3, 12), (4, 16)] {
+    for (edition, most) in [(1, 12), (2, 12), (3, 12), (4, 16), (5, 16)] {
         let book = with_rounds(edition, most);
         let bytes = write(&book).unwrap();
         assert_eq!(read(&bytes), Ok(book));
@@ -237,10 +312,11 @@ fn the_number_of_rounds_is_held_to_the_edition() {
     }
 }
 
-/// 64 rows in each table, all rounds on each offer: (11 + 3 + 64 × (8 + 4 + 17 + rounds × 5)) × 11.
+/// 64 rows in each table, all rounds on each offer: (11 + 3 + 64 × (8 + 4 + 17 + rounds × 5)) × 11, and
+/// in edition 5 two fields more for each offer.
 #[test]
 fn a_full_book_is_the_longest() {
-    for (edition, rounds, longest) in [(3, 12, 62_810), (4, 16, 76_890)] {
+    for (edition, rounds, longest) in [(3, 12, 62_810), (4, 16, 76_890), (5, 16, 78_298)] {
         let book = with_rounds(edition, rounds);
         let (account, invoice, offer) = (book.accounts[0], book.invoices[0], &book.offers[0]);
         let full = Book {
@@ -391,12 +467,20 @@ fn ids_ascend() {
 }
 
 #[test]
-fn an_absent_schedule_is_four_zeros() {
+fn an_absent_schedule_is_all_zeros() {
     let none = with(&[(43, 0), (44, 0), (45, 0), (46, 0)]);
     assert_eq!(read(&none).unwrap().offers[0].schedule, None);
     for field in [44, 45, 46] {
         let mut bytes = none.clone();
         bytes[11 * field + 10] = 1;
+        assert_eq!(examine(&bytes), Err(Refusal::Unsound), "{field}");
+    }
+    let zeros = [43, 44, 45, 46, 47, 48].map(|field| (field, 0));
+    let none = of_edition(5, &kept_with(&zeros));
+    assert_eq!(read(&none).unwrap().offers[0].schedule, None);
+    for field in 44..49 {
+        let mut bytes = none.clone();
+        bytes[11 * field + 21] = 1;
         assert_eq!(examine(&bytes), Err(Refusal::Unsound), "{field}");
     }
 }

@@ -39,9 +39,9 @@ returns-2 c =
 
 returns-3 : tie.Need-returns-3
 returns-3 c =
-    let t = tested (c .before) ∙ c .if2 .left in
-    let x = back (c .before .before .installment-of .result) (search needs) ∙ c .before .before .installment-of .ensures in
-    accepted posted _ _ (passes invalidInput _ t none-left ∙ sym (first-pass (checked (c .before .before .before .before .before .before .before .before)) _ (clear (c .before .before .before .before)))) refl (rw x)
+    let t = tested (c .before .before .before) ∙ c .before .before .if2 .left in
+    let x = back (c .before .before .before .before .installment-of .result) (search needs) ∙ c .before .before .before .before .installment-of .ensures in
+    accepted posted _ _ (passes invalidInput _ t none-left ∙ sym (first-pass (checked (c .before .before .before .before .before .before .before .before .before .before)) _ (clear (c .before .before .before .before .before .before)))) refl (rw (c .made .ensures, c .before .keeps-terms .ensures, x))
 
 pub schedule-spec : {M : Type 1} → statement M
 schedule-spec =
@@ -54,4 +54,6 @@ schedule-spec =
     (λ c κs. search needs)
     (λ c κs. search needs)
     returns-2
+    (λ c κs. search needs)
+    (λ c κs. search needs)
     returns-3)

@@ -2,7 +2,7 @@ use mathlib.Core.Path.{refl}
 use borrow.Author.Needs.{needs}
 use Rattle.codec.specs.Puts.{puts-then, puts-via, puts-kept}
 use Rattle.snapshot.specs.Layout.{deal, dealFrom, dealParts}
-use Rattle.snapshot.specs.Rounds.{deal-rounds}
+use Rattle.snapshot.specs.Rounds.{deal-rounds, deal-schedule}
 use Rattle.snapshot.proofs.writing.put_deal.Statement.{statement}
 use Rattle.snapshot.proofs.writing.put_deal.Tie as tie
 
@@ -18,6 +18,6 @@ put-deal-spec =
     (λ c κs. search needs)
     (λ c κs. search needs)
     (λ c κs. deal-rounds _ _ (c .before .before .before .before .before .before .before .before .before .before .before .before .pre))
-    (λ c κs. search needs)
+    (λ c κs. deal-schedule _ _ (c .before .before .before .before .before .before .before .before .before .before .before .before .before .before .before .before .before .pre))
     (λ c. puts-kept (returns c))
     returns)

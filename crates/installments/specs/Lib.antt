@@ -1,0 +1,12 @@
+pub mod Sums
+pub mod SumLaws
+pub mod Even
+pub mod EvenLaws
+pub mod Flat
+pub mod FlatLaws
+pub mod Falling
+pub mod FallingLaws
+pub mod Promised
+pub mod Arguments
+pub mod ArgumentLaws
+pub mod Examples
