@@ -1,6 +1,6 @@
 //! Damaged journals: the reading by table or the plain reading of the format against another side's.
 
-use journal::{field, header, journal, kinds, Command, HEADER_SIZE, NARROW};
+use journal::{field, header, journal, kinds, Command, HEADER_SIZE, LATEST, NARROW, TAGS};
 use side::Side;
 
 use crate::chance::Chance;
@@ -23,14 +23,21 @@ pub fn answers_differ(other: &mut dyn Side, sample: &Sample) -> Option<(String, 
 
 /// A journal of these commands with one or two things wrong.
 pub fn damaged(chance: &mut Chance, edition: u64, commands: &[Command]) -> Vec<u8> {
-    let mut bytes = match chance.below(3) {
-        0 => wrong_fields(chance, edition, commands),
+    let mut bytes = match chance.below(6) {
+        0..2 => wrong_fields(chance, edition, commands),
+        2 => of_another(chance, edition, commands),
         _ => journal(edition, commands),
     };
     for _ in 0..chance.below(3) {
         wound(chance, &mut bytes);
     }
     bytes
+}
+
+/// The records of some edition behind the header of this one.
+fn of_another(chance: &mut Chance, edition: u64, commands: &[Command]) -> Vec<u8> {
+    let records = journal(chance.within(1, LATEST), commands);
+    [header(edition).as_slice(), &records[HEADER_SIZE..]].concat()
 }
 
 /// One byte lost, changed or added, or all from a place on lost.
@@ -76,7 +83,7 @@ fn wrong_record(chance: &mut Chance, edition: u64, command: &Command, out: &mut 
         0 => drop(fields.remove(at)),
         1 => fields.insert(at, fields[at]),
         2 => fields.swap(at, 0),
-        3 => fields.push((chance.within(0x01, 0x13) as u8, chance.number())),
+        3 => fields.push((chance.within(0x01, TAGS as u64) as u8, chance.number())),
         4 => width = chance.pick(&[0, 1, 4, 7, 9]),
         5 => fields[at].0 = chance.within(0, 0x20) as u8,
         6 => tag = chance.pick(&[0x20, 0x27, 0x30, 0x39, 0x40, 0x45, 0x50, 0x57, 0x10, 0xFF]),
