@@ -112,3 +112,72 @@ pub fn other_tags(edition: u64, command: &Command) -> Vec<Vec<u8>> {
     let retagged = tags.map(|tag| [header.as_slice(), &[tag], &record[1..]].concat());
     retagged.collect()
 }
+
+#[cfg(test)]
+mod test {
+    use journal::{edition_of, read, Step};
+    use plain::edition::fresh;
+    use plain::Plain;
+
+    use super::*;
+    use crate::generate::{Generator, Plan};
+
+    /// The number and the offset of the first malformed record, by the table.
+    fn malformed(bytes: &[u8]) -> Option<(usize, usize)> {
+        let Some(edition) = edition_of(bytes) else { return Some((0, 0)) };
+        let mut at = HEADER_SIZE;
+        for number in 1.. {
+            match read(edition, bytes, at) {
+                Step::Command(_, next) => at = next,
+                Step::Malformed => return Some((number, at)),
+                Step::End => return None,
+            }
+        }
+        None
+    }
+
+    /// The same by the plain reading: the listing's line of three numbers.
+    fn listed(bytes: &[u8]) -> Option<(usize, usize)> {
+        let listing = String::from_utf8(Plain::default().listing(bytes)).unwrap();
+        let parts = |line: &str| -> Vec<_> { line.split(' ').map(str::to_string).collect() };
+        listing.lines().map(parts).find_map(|parts| match parts.as_slice() {
+            [number, thirteen, offset] if thirteen == "13" => {
+                Some((number.parse().ok()?, offset.parse().ok()?))
+            }
+            _ => None,
+        })
+    }
+
+    /// Commands of the generator on a growing book.
+    fn commands(edition: u64, chance: &mut Chance) -> Vec<Command> {
+        let plan = Plan::new(chance);
+        let mut generator = Generator::new(Chance::new(chance.number()), plan);
+        let (mut plain, mut flat) = (Plain::default(), Vec::new());
+        fresh(edition).flat(&mut flat);
+        plain.load(&flat);
+        let next = |_| {
+            let command = generator.next(plain.book());
+            plain.run(&command);
+            command
+        };
+        (0..60).map(next).collect()
+    }
+
+    #[test]
+    fn both_readings_stop_at_the_same_record() {
+        for edition in 1..=LATEST {
+            let mut chance = Chance::new(edition);
+            let (mut whole, mut stopped) = (0, 0);
+            for _ in 0..40 {
+                let commands = commands(edition, &mut chance);
+                for _ in 0..20 {
+                    let bytes = damaged(&mut chance, edition, &commands);
+                    let first = malformed(&bytes);
+                    assert_eq!(first, listed(&bytes), "{edition}: {bytes:02x?}");
+                    *(if first.is_none() { &mut whole } else { &mut stopped }) += 1;
+                }
+            }
+            assert!(whole > 50 && stopped > 300, "{edition}: {whole} {stopped}");
+        }
+    }
+}
