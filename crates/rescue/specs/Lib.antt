@@ -1,0 +1,3 @@
+pub mod Rescue
+pub mod Walk
+pub mod Sweep
