@@ -8,12 +8,15 @@ use native.Mathlib.Omega.{arith}
 use lib.ListN.{length, take, drop, length-append, length-drop, take-append-drop}
 use lib.Seq.{length-take-le, drop-drop}
 use lib.Dec.{leb}
-use borrow.Author.Tests.{lt-leb, leb-true}
+use borrow.Author.Tests.{le-leb, lt-leb, leb-true}
+use Rattle.wire.specs.Field.{numberAt}
 use Rattle.refusal.specs.Choice.{pick}
 use Rattle.refusal.specs.ChoiceLaws.{pick-on, pick-off, either}
 use Rattle.refusal.specs.Placed.{placed}
 use Rattle.refusal.specs.PlacedLaws.{length-placed, placed-twice, placed-none}
-use Rattle.rescue.specs.Rescue.{outer, fits, stands, Piece, pieceAt, piecesBy, piecesFrom, bytesIn, keptIn, lostIn, droppedIn, Answer, answer}
+use Rattle.journal.specs.Answers.{Reading}
+use Rattle.journal.specs.Format.{readAt}
+use Rattle.rescue.specs.Rescue.{outer, fits, isRecord, stands, Piece, pieceAt, piecesBy, piecesFrom, bytesIn, keptIn, lostIn, droppedIn, Answer, answer}
 
 -- ---- one step
 
@@ -25,6 +28,46 @@ module _ (s : List ℕ) (at : ℕ) where
   pub fits-room : fits (drop at s) ≡ true → (at + outer (drop at s) ≤ length s) × (3 ≤ outer (drop at s))
   unfolding fits outer
   fits-room h = let l = leb-true (outer (drop at s)) (length (drop at s)) h in (omega (arith, l, length-drop at s), omega arith)
+
+module _ (s : List ℕ) (at : ℕ) where
+  pub outer-at : 3 + numberAt 2 (drop (at + 1) s) ≡ outer (drop at s)
+  unfolding outer
+  outer-at = rw (drop-drop 1 at s)
+
+  -- what a step of the code answers: a field that does not fit, and one that does
+  pub no-step : {n : ℕ} → n ≡ outer (drop at s) → length s - at < n → 0 ≡ pick (fits (drop at s)) (outer (drop at s)) 0
+  unfolding fits
+  no-step e h = sym (pick-off _ _ (rw length-drop (lt-leb (outer (drop at s)) (length s - at) (omega arith))))
+
+  pub a-step : {n : ℕ} → n ≡ outer (drop at s) → n ≤ length s - at → n ≡ pick (fits (drop at s)) (outer (drop at s)) 0
+  unfolding fits
+  a-step e h = e ∙ sym (pick-on _ _ (rw length-drop (le-leb (outer (drop at s)) (length s - at) (omega arith))))
+
+pub stands-is : (e : ℕ) (s : List ℕ) (at : ℕ) {r : Reading} → readAt e s at ≡ r → isRecord r ≡ stands e s at
+unfolding stands
+stands-is e s at q = ap isRecord (sym q)
+
+-- a step of the code: it goes on by a field that fits, and stops where there is none
+pub record Steps (b : List ℕ) (n : ℕ) : Type 0 where
+  pub fit : fits b ≡ true
+  pub size : n ≡ outer b
+
+module _ (b : List ℕ) {n : ℕ} (e : n ≡ pick (fits b) (outer b) 0) where
+  pub stepped : (n ≡ 0 → ⊥) → Steps b n
+  unfolding pick
+  stepped h = go (fits b) refl e
+    where
+      go : (t : Bool) → fits b ≡ t → n ≡ pick t (outer b) 0 → Steps b n
+      go true q r = record { fit = q; size = r }
+      go false q r = absurd (h r)
+
+  pub stopped : n ≡ 0 → fits b ≡ false
+  unfolding pick outer
+  stopped h = go (fits b) refl e
+    where
+      go : (t : Bool) → fits b ≡ t → n ≡ pick t (outer b) 0 → fits b ≡ false
+      go true q r = absurd (omega arith)
+      go false q r = q
 
 pick-same : {A : Type 0} (t : Bool) (x y z : A) → (t ≡ true → x ≡ y) → pick t x z ≡ pick t y z
 unfolding pick

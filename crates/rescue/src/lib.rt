@@ -38,10 +38,11 @@ fn stands(edition: u32, s: &[u8], at: usize) -> bool
     ensures { λ r. ⌜ r ≡ stands edition (now (s .entry)) at ⌝ }
 {
     let d = journal::decode(edition, s, at);
-    let Decoded::Command(_, _) = d else {
-        return false;
-    };
-    true
+    match d {
+        Decoded::Command(_, _) => true,
+        Decoded::Malformed(_) => false,
+        Decoded::End => false,
+    }
 }
 
 // How many records a rescue drops from a place on.
