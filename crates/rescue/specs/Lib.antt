@@ -1,3 +1,4 @@
 pub mod Rescue
 pub mod Walk
 pub mod Sweep
+pub mod Answers
