@@ -2,3 +2,5 @@ pub mod Rescue
 pub mod Walk
 pub mod Sweep
 pub mod Answers
+pub mod Laws
+pub mod Trips
