@@ -4,3 +4,4 @@ pub mod Sweep
 pub mod Answers
 pub mod Laws
 pub mod Trips
+pub mod Unique
