@@ -5,3 +5,4 @@ pub mod Answers
 pub mod Laws
 pub mod Trips
 pub mod Unique
+pub mod Room
