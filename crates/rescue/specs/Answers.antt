@@ -22,7 +22,7 @@ use Rattle.journal.specs.Answers.{Opening, goodHeader, badHeader}
 use Rattle.journal.specs.Format.{editionIn, openingOf}
 use Rattle.rescue.specs.Rescue.{Piece, piecesFrom, bytesIn, keptIn, droppedIn, opens, piecesOf, cleanOf, reportOf, leftOf, numberFor, Answer, answer, answerFor, outFor, reportFor}
 use Rattle.rescue.specs.Walk.{parted, all-within}
-use Rattle.rescue.specs.Sweep.{Swept}
+use Rattle.rescue.specs.Swept.{Swept}
 
 -- ---- the header
 

@@ -59,9 +59,9 @@ stops-by (suc n) e s at h =
     let w = bytesIn (piecesBy n e s (at + o)) in
     either (λ ps. fits (drop (at + length (bytesIn ps)) s) ≡ false) (fits (drop at s)) (pieceAt e s at ∷ piecesBy n e s (at + o)) []
     (λ q.
-      let r = fits-room s at q in
-      let l : at + length (take o (drop at s) ++ w) ≡ at + o + length w = omega (arith, length-append (take o (drop at s)) w, piece-long s at q) in
-      rw l (stops-by n e s (at + o) (omega arith)))
+    let r = fits-room s at q in
+    let l : at + length (take o (drop at s) ++ w) ≡ at + o + length w = omega (arith, length-append (take o (drop at s)) w, piece-long s at q) in
+    rw l (stops-by n e s (at + o) (omega arith)))
     (λ q. rw (add-zero at) q)
 
 pub left-fits-not : (s : List ℕ) → fits (leftOf s) ≡ false

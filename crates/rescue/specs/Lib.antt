@@ -1,4 +1,5 @@
 pub mod Rescue
+pub mod Swept
 pub mod Walk
 pub mod Sweep
 pub mod Answers

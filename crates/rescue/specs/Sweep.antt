@@ -1,4 +1,4 @@
--- What a pass over the pieces leaves, and the invariant of the pass: what is still to come completes it. Assumes nothing.
+-- The invariants of the two passes over the pieces: what is still to come completes what a pass leaves. Assumes nothing.
 use mathlib.Core.Path.{_≡_, refl, sym, ap, _∙_}
 use mathlib.Core.Bool.{Bool, true, false}
 use mathlib.Core.List.{List, [], _∷_, _++_, append-nil}
@@ -13,12 +13,8 @@ use Rattle.refusal.specs.ChoiceLaws.{pick-on, pick-off}
 use Rattle.refusal.specs.Placed.{placed}
 use Rattle.refusal.specs.PlacedLaws.{length-placed, placed-twice, placed-none}
 use Rattle.rescue.specs.Rescue.{outer, fits, stands, Piece, pieceAt, piecesFrom, bytesIn, keptIn, lostIn, droppedIn, Answer, answer}
+use Rattle.rescue.specs.Swept.{Swept}
 use Rattle.rescue.specs.Walk.{Steps, fits-room, piece-long, from-piece, from-stop, all-within, parted}
-
-pub record Swept (e : ℕ) (s : List ℕ) (first : ℕ) (out report : List ℕ) (a : Answer) (wrote noted : List ℕ) : Type 0 where
-  pub says : a ≡ answer 0 (first + length (keptIn (piecesFrom e s first))) (length (droppedIn (piecesFrom e s first))) (length s - (first + length (bytesIn (piecesFrom e s first))))
-  pub clean : wrote ≡ placed first (keptIn (piecesFrom e s first)) out
-  pub offsets : noted ≡ placed 0 (droppedIn (piecesFrom e s first)) report
 
 answers : {a b c x y z : ℕ} → a ≡ x → b ≡ y → c ≡ z → answer 0 a b c ≡ answer 0 x y z
 answers {a} {b} {c} {x} {y} {z} f g h = ap (λ (n : ℕ). answer 0 n b c) f ∙ ap (λ (n : ℕ). answer 0 x n c) g ∙ ap (λ (n : ℕ). answer 0 x y n) h

@@ -9,7 +9,7 @@ ghost use lib.ListN.{length, take, drop};
 ghost use Rattle.refusal.specs.Choice.{pick};
 ghost use Rattle.refusal.specs.Placed.{placed};
 ghost use Rattle.rescue.specs.Rescue.{outer, fits, stands, piecesFrom, droppedIn, said, answerFor, outFor, reportFor};
-ghost use Rattle.rescue.specs.Sweep.{Swept};
+ghost use Rattle.rescue.specs.Swept.{Swept};
 
 // How many bytes the clean journal has, how many records were dropped and how many bytes are left; or what is wrong.
 pub enum Rescued {
