@@ -27,10 +27,10 @@ fn step(s: &[u8], at: usize) -> usize
         return 0;
     }
     let size = 3 + wire::pair(s, at + 1) as usize;
-    if s.len() - at < size {
-        return 0;
+    if size <= s.len() - at {
+        return size;
     }
-    size
+    0
 }
 
 // Whether a record of the edition stands at a place.

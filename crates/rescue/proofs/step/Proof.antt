@@ -23,10 +23,10 @@ size-is : (c : tie.After-pair) → 3 + c .pair .result ≡ outer (drop (c .befor
 size-is c = let a = c .before .before .before .args in ap (λ (n : ℕ). 3 + n) (c .pair .ensures) ∙ outer-at (a .s .now) (a .at)
 
 returns-2 : tie.Need-returns-2
-returns-2 c = let a = c .before .before .before .before .args in no-step (a .s .now) (a .at) (size-is (c .before)) (c .if2 .taken)
+returns-2 c = let a = c .before .before .before .before .args in a-step (a .s .now) (a .at) (size-is (c .before)) (c .if2 .taken)
 
 returns-3 : tie.Need-returns-3
-returns-3 c = let a = c .before .before .before .before .args in a-step (a .s .now) (a .at) (size-is (c .before)) (c .if2 .left)
+returns-3 c = let a = c .before .before .before .before .args in no-step (a .s .now) (a .at) (size-is (c .before)) (c .if2 .left)
 
 pub step-spec : {M : Type 1} → statement M
 step-spec =
