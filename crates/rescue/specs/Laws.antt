@@ -1,33 +1,26 @@
 -- Document 02, k, as theorems: the bytes are accounted for, an undamaged journal comes out unchanged, and what comes out is undamaged. Assumes nothing.
 use mathlib.Core.Path.{_≡_, refl, sym, ap, _∙_}
 use mathlib.Core.Bool.{Bool, true, false, _&&_}
-use mathlib.Core.List.{List, [], _∷_, _++_, append-assoc, append-nil}
-use Prim.Native.Nat.{ℕ, zero, suc, _+_, _*_, _-_, _≤_, _<_}
+use mathlib.Core.List.{List, [], _∷_, _++_}
+use Prim.Native.Nat.{ℕ, zero, suc, _+_, _*_, _≤_}
 use native.Mathlib.Nat.{add-zero}
 use native.Mathlib.Omega.{arith}
-use lib.ListN.{length, getD, take, drop, length-append, length-drop, take-append-drop, drop-of-length-le}
-use lib.Seq.{drop-drop, take-length, length-take-le}
+use lib.ListN.{length, getD, take, drop, length-append, take-append-drop}
+use lib.Seq.{length-take-le}
 use lib.Dec.{eqb, leb}
-use borrow.Author.Tests.{le-leb, lt-leb, leb-true, leb-false, eqb-true, eq-eqb}
+use borrow.Author.Tests.{le-leb, leb-true, eqb-true}
 use Rattle.refusal.specs.Choice.{pick}
-use Rattle.refusal.specs.ChoiceLaws.{pick-on, pick-off, either}
-use Rattle.refusal.specs.Refusal.{number, journalMalformed}
+use Rattle.refusal.specs.ChoiceLaws.{either}
 use Rattle.edition.specs.Edition.{listed}
 use Rattle.command.specs.declared.Command.{Command}
 use Rattle.wire.specs.Field.{numberIn, numberAt, begins}
 use Rattle.wire.specs.FieldLaws.{and-left, and-right, number-there}
-use Rattle.wire.specs.NumberLaws.{Bytes}
-use Rattle.journal.specs.Answers.{Opening, goodHeader, badHeader, Reading, found, refused, ended, malformed}
-use Rattle.journal.specs.Table.{Row, rows, named, fieldsOf, madeIn, made, partsOf}
-use Rattle.journal.specs.Format.{headerOf, editionIn, openingOf, wellIn, numbersIn, zeros, byTag, recordAt, readAt, bytesFor}
-use Rattle.journal.specs.ReadLaws.{at-end}
-use Rattle.journal.specs.RoundTrip.{header-long, header-back, parts-back}
-use Rattle.journal.specs.WriteLaws.{length-for}
-use Rattle.journal.specs.Canonical.{Stands, canonical, Headed, header-canonical}
-use Rattle.journal.specs.Ahead.{Goes, goes}
-use Rattle.rescue.specs.Rescue.{outer, fits, isRecord, stands, Piece, pieceAt, piecesBy, piecesFrom, bytesIn, keptIn, lostIn, droppedIn, opens, piecesOf, cleanOf, reportOf, leftOf, toEnd, wholeBy, undamaged}
-use Rattle.rescue.specs.Walk.{fits-not, fits-room, from-piece, from-stop, accounted, parted, all-within, piece-long}
-use Rattle.rescue.specs.Answers.{Opens, opened}
+use Rattle.journal.specs.Answers.{goodHeader, badHeader, found, ended, malformed}
+use Rattle.journal.specs.Table.{Row, rows, named, fieldsOf, madeIn, made}
+use Rattle.journal.specs.Format.{editionIn, openingOf, wellIn, numbersIn, zeros, recordAt, readAt}
+use Rattle.rescue.specs.Rescue.{outer, fits, isRecord, stands, pieceAt, piecesBy, piecesFrom, bytesIn, keptIn, lostIn, opens, piecesOf, leftOf}
+use Rattle.rescue.specs.Walk.{fits-not, fits-room, accounted, parted, piece-long}
+use Rattle.rescue.specs.Answers.{opened}
 
 -- ---- ACCOUNTED FOR: the header's five bytes, the pieces, kept and dropped in their order, and what is left are the journal
 

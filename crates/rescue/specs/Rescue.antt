@@ -1,11 +1,11 @@
 -- Document 02, k: what a rescue keeps of a journal, what it drops and where, what it leaves, and what it answers.
 use mathlib.Core.Bool.{Bool, true, false, not, _&&_}
 use mathlib.Core.List.{List, [], _∷_, _++_}
-use Prim.Native.Nat.{ℕ, zero, suc, _+_, _-_}
+use Prim.Native.Nat.{ℕ, zero, suc, _+_}
 use lib.ListN.{length, take, drop}
 use lib.Dec.{eqb, leb}
 use Rattle.refusal.specs.Choice.{pick}
-use Rattle.refusal.specs.Refusal.{number, journalMalformed, bufferShort, Check, _gives_, first}
+use Rattle.refusal.specs.Refusal.{number, journalMalformed, bufferShort, _gives_, first}
 use Rattle.refusal.specs.Placed.{placed}
 use Rattle.wire.specs.Field.{numberAt}
 use Rattle.journal.specs.Answers.{Reading, found, refused, ended}
@@ -13,11 +13,11 @@ use Rattle.journal.specs.Format.{openingOf, readAt}
 use Rattle.rescue.specs.declared.Rescued.{Rescued}
 use Rattle.rescue.specs.declared.Rescued.the-variants.{Clean, Malformed, Short}
 
--- the size of the outer field that b begins with, by its length: tag, length and inside. A length that is cut counts as 0
+-- the size of the outer field that b begins with: tag, length and inside. A length that is cut counts as 0
 unfoldable pub outer : List ℕ → ℕ
 outer b = 3 + numberAt 2 (drop 1 b)
 
--- the length is there, and the field fits in what remains
+-- the field fits in what remains; where its length is cut not even the three bytes of tag and length do
 unfoldable pub fits : List ℕ → Bool
 fits b = leb (outer b) (length b)
 

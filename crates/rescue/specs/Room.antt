@@ -1,5 +1,5 @@
 -- A rescue takes no more of its buffers than there is, and their lengths stay. Assumes nothing.
-use mathlib.Core.Path.{_≡_, refl, ap, _∙_}
+use mathlib.Core.Path.{_≡_, refl}
 use mathlib.Core.Bool.{Bool, true, false, not}
 use mathlib.Core.List.{List, [], _∷_}
 use Prim.Native.Nat.{ℕ, _≤_}
@@ -13,7 +13,7 @@ use Rattle.refusal.specs.Refusal.{journalMalformed, bufferShort, _gives_, first
 use Rattle.refusal.specs.Placed.{placed}
 use Rattle.refusal.specs.PlacedLaws.{length-placed}
 use Rattle.rescue.specs.Rescue.{opens, cleanOf, reportOf, numberFor, Answer, answerFor, outFor, reportFor}
-use Rattle.rescue.specs.Answers.{Opens, opened, clean-short}
+use Rattle.rescue.specs.Answers.{opened, clean-short}
 use Rattle.rescue.specs.Laws.{header-good}
 
 module _ (s out report : List ℕ) where

@@ -1,18 +1,18 @@
 -- The invariants of the two passes over the pieces: what is still to come completes what a pass leaves. Assumes nothing.
 use mathlib.Core.Path.{_≡_, refl, sym, ap, _∙_}
 use mathlib.Core.Bool.{Bool, true, false}
-use mathlib.Core.List.{List, [], _∷_, _++_, append-nil}
+use mathlib.Core.List.{List, [], _∷_, _++_}
 use Prim.Native.Nat.{ℕ, _+_, _-_, _≤_, _<_}
 use native.Mathlib.Nat.{add-zero}
 use native.Mathlib.Numerals.{add-one}
 use native.Mathlib.Omega.{arith}
 use lib.Seq.{set-split}
-use lib.ListN.{length, take, drop, set, length-append, length-drop}
+use lib.ListN.{length, take, drop, set, length-append}
 use Rattle.refusal.specs.Choice.{pick}
 use Rattle.refusal.specs.ChoiceLaws.{pick-on, pick-off}
 use Rattle.refusal.specs.Placed.{placed}
 use Rattle.refusal.specs.PlacedLaws.{length-placed, placed-twice, placed-none}
-use Rattle.rescue.specs.Rescue.{outer, fits, stands, Piece, pieceAt, piecesFrom, bytesIn, keptIn, lostIn, droppedIn, Answer, answer}
+use Rattle.rescue.specs.Rescue.{outer, fits, stands, piecesFrom, bytesIn, keptIn, droppedIn, answer}
 use Rattle.rescue.specs.Swept.{Swept}
 use Rattle.rescue.specs.Walk.{Steps, fits-room, piece-long, from-piece, from-stop, all-within, parted}
 

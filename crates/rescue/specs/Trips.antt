@@ -1,29 +1,28 @@
 -- Document 02, k, as theorems: an undamaged journal comes out unchanged with an empty report, and what comes out is undamaged: each kept record is what writing its
 -- command gives, and is read wherever it stands. Assumes nothing.
 use mathlib.Core.Path.{_≡_, refl, sym, ap, _∙_}
-use mathlib.Core.Bool.{Bool, true, false, _&&_}
+use mathlib.Core.Bool.{Bool, true, false}
 use mathlib.Core.List.{List, [], _∷_, _++_, append-assoc, append-nil}
-use Prim.Native.Nat.{ℕ, zero, suc, _+_, _-_, _≤_, _<_}
+use Prim.Native.Nat.{ℕ, zero, suc, _+_, _≤_}
 use native.Mathlib.Omega.{arith}
 use lib.ListN.{length, take, drop, length-append, length-drop, take-append-drop, drop-of-length-le}
 use lib.Seq.{drop-drop, length-take-le}
-use lib.Dec.{eqb, leb}
-use borrow.Author.Tests.{le-leb, leb-true, eq-eqb}
+use borrow.Author.Tests.{le-leb, leb-true}
 use Rattle.refusal.specs.Choice.{pick}
-use Rattle.refusal.specs.ChoiceLaws.{pick-on, pick-off, either}
+use Rattle.refusal.specs.ChoiceLaws.{pick-on, either}
 use Rattle.command.specs.declared.Command.{Command}
-use Rattle.wire.specs.FieldLaws.{and-left, and-right}
+use Rattle.wire.specs.FieldLaws.{and-right}
 use Rattle.wire.specs.NumberLaws.{Bytes}
 use Rattle.journal.specs.Answers.{Opening, goodHeader, Reading, found, refused, ended}
-use Rattle.journal.specs.Table.{rows, named, fieldsOf, made, partsOf}
+use Rattle.journal.specs.Table.{rows, fieldsOf, made, partsOf}
 use Rattle.journal.specs.Format.{headerOf, openingOf, zeros, byTag, readAt, bytesFor}
 use Rattle.journal.specs.ReadLaws.{at-end}
 use Rattle.journal.specs.RoundTrip.{header-long, header-back, parts-back}
 use Rattle.journal.specs.WriteLaws.{length-for}
-use Rattle.journal.specs.Canonical.{Stands, canonical, Headed, header-canonical}
+use Rattle.journal.specs.Canonical.{canonical, header-canonical}
 use Rattle.journal.specs.Ahead.{Goes, goes}
 use Rattle.rescue.specs.Rescue.{outer, fits, isRecord, stands, Piece, pieceAt, piecesBy, piecesFrom, bytesIn, keptIn, droppedIn, opens, piecesOf, cleanOf, reportOf, leftOf, toEnd, wholeBy, undamaged}
-use Rattle.rescue.specs.Walk.{fits-not, fits-room, from-piece, from-stop}
+use Rattle.rescue.specs.Walk.{fits-not, from-piece, from-stop}
 use Rattle.rescue.specs.Laws.{header-good, made-moves, Found, is-found}
 
 -- ---- AN UNDAMAGED JOURNAL COMES OUT UNCHANGED

@@ -1,22 +1,19 @@
 -- How the walk over the outer fields goes, and what a pass over them writes. Assumes nothing.
 use mathlib.Core.Path.{_≡_, refl, sym, ap, _∙_}
 use mathlib.Core.Bool.{Bool, true, false}
-use mathlib.Core.List.{List, [], _∷_, _++_, append-assoc, append-nil}
+use mathlib.Core.List.{List, [], _∷_, _++_, append-assoc}
 use Prim.Native.Nat.{ℕ, zero, suc, _+_, _-_, _≤_, _<_}
 use native.Mathlib.Nat.{add-zero}
 use native.Mathlib.Omega.{arith}
 use lib.ListN.{length, take, drop, length-append, length-drop, take-append-drop}
 use lib.Seq.{length-take-le, drop-drop}
-use lib.Dec.{leb}
 use borrow.Author.Tests.{le-leb, lt-leb, leb-true}
 use Rattle.wire.specs.Field.{numberAt}
 use Rattle.refusal.specs.Choice.{pick}
 use Rattle.refusal.specs.ChoiceLaws.{pick-on, pick-off, either}
-use Rattle.refusal.specs.Placed.{placed}
-use Rattle.refusal.specs.PlacedLaws.{length-placed, placed-twice, placed-none}
 use Rattle.journal.specs.Answers.{Reading}
 use Rattle.journal.specs.Format.{readAt}
-use Rattle.rescue.specs.Rescue.{outer, fits, isRecord, stands, Piece, pieceAt, piecesBy, piecesFrom, bytesIn, keptIn, lostIn, droppedIn, Answer, answer}
+use Rattle.rescue.specs.Rescue.{outer, fits, isRecord, stands, Piece, pieceAt, piecesBy, piecesFrom, bytesIn, keptIn, lostIn}
 
 -- ---- one step
 

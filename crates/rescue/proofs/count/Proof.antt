@@ -2,7 +2,7 @@ use Prim.Native.Nat.{_-_}
 use native.Mathlib.Omega.{arith}
 use lib.ListN.{length, drop}
 use borrow.Author.Needs.{needs}
-use Rattle.rescue.specs.Walk.{Steps, stepped, stopped, fits-room}
+use Rattle.rescue.specs.Walk.{Steps, stepped, stopped}
 use Rattle.rescue.specs.Sweep.{Counting, counting, count-on, count-done}
 use Rattle.rescue.proofs.count.Statement.{statement}
 use Rattle.rescue.proofs.count.Tie as tie

@@ -1,13 +1,13 @@
-use mathlib.Core.Path.{_≡_, refl, sym, ap, _∙_}
+use mathlib.Core.Path.{_≡_, sym, ap, _∙_}
 use Prim.Native.Nat.{ℕ, _≤_}
 use native.Mathlib.Omega.{arith}
-use lib.ListN.{length, take, drop, length-append, length-drop, length-take}
-use lib.Seq.{length-take-le, take-length}
+use lib.ListN.{length, take}
+use lib.Seq.{length-take-le}
 use borrow.Author.Needs.{needs}
 use Rattle.refusal.specs.Placed.{placed}
 use Rattle.journal.specs.Answers.{opening}
 use Rattle.rescue.specs.Rescue.{reportOf}
-use Rattle.rescue.specs.Answers.{Opens, opened, not-opened, Answers, bad-header, short-out, short-report, count-is, head-is, head-long, rescued}
+use Rattle.rescue.specs.Answers.{Opens, opened, not-opened, bad-header, short-out, short-report, count-is, head-is, head-long, rescued}
 use Rattle.rescue.proofs.rescue.Statement.{statement}
 use Rattle.rescue.proofs.rescue.Tie as tie
 

@@ -2,7 +2,7 @@ use Prim.Native.Nat.{_-_}
 use native.Mathlib.Omega.{arith}
 use lib.ListN.{length, drop}
 use borrow.Author.Needs.{needs}
-use Rattle.rescue.specs.Walk.{Steps, stepped, stopped, fits-room}
+use Rattle.rescue.specs.Walk.{Steps, stepped, stopped}
 use Rattle.rescue.specs.Sweep.{Sweeping, sweeping, room-out, room-report, sweep-on, sweep-done}
 use Rattle.rescue.proofs.sweep.Statement.{statement}
 use Rattle.rescue.proofs.sweep.Tie as tie
