@@ -10,8 +10,10 @@ use lib.Seq.{drop-drop, length-take-le}
 use borrow.Author.Tests.{le-leb, leb-true}
 use Rattle.refusal.specs.Choice.{pick}
 use Rattle.refusal.specs.ChoiceLaws.{pick-on, either}
+use Rattle.refusal.specs.Placed.{placed}
+use Rattle.refusal.specs.PlacedLaws.{placed-none}
 use Rattle.command.specs.declared.Command.{Command}
-use Rattle.wire.specs.FieldLaws.{and-right}
+use Rattle.wire.specs.FieldLaws.{and-left, and-right}
 use Rattle.wire.specs.NumberLaws.{Bytes}
 use Rattle.journal.specs.Answers.{Opening, goodHeader, Reading, found, refused, ended}
 use Rattle.journal.specs.Table.{rows, fieldsOf, made, partsOf}
@@ -21,8 +23,9 @@ use Rattle.journal.specs.RoundTrip.{header-long, header-back, parts-back}
 use Rattle.journal.specs.WriteLaws.{length-for}
 use Rattle.journal.specs.Canonical.{canonical, header-canonical}
 use Rattle.journal.specs.Ahead.{Goes, goes}
-use Rattle.rescue.specs.Rescue.{outer, fits, isRecord, stands, Piece, pieceAt, piecesBy, piecesFrom, bytesIn, keptIn, droppedIn, opens, piecesOf, cleanOf, reportOf, leftOf, toEnd, wholeBy, undamaged}
+use Rattle.rescue.specs.Rescue.{outer, fits, isRecord, stands, Piece, pieceAt, piecesBy, piecesFrom, bytesIn, keptIn, droppedIn, opens, piecesOf, cleanOf, reportOf, leftOf, toEnd, wholeBy, undamaged, answer}
 use Rattle.rescue.specs.Walk.{fits-not, from-piece, from-stop}
+use Rattle.rescue.specs.Answers.{Answers, answering}
 use Rattle.rescue.specs.Laws.{header-good, made-moves, Found, is-found}
 
 -- ---- AN UNDAMAGED JOURNAL COMES OUT UNCHANGED
@@ -74,6 +77,14 @@ unchanged s h =
     let c = clear (length s) e s 5 (and-right (opens s) _ h) in
     let l : length s ≤ 5 + length (bytesIn (piecesFrom e s 5)) = omega (arith, ap length (c .all), length-drop 5 s) in
     record { clean = ap (λ (b : List ℕ). take 5 s ++ b) (c .kept) ∙ take-append-drop 5 s; report = c .none; left = drop-of-length-le s l }
+
+-- so says the function, whatever the report's room
+pub answers-unchanged : (s out report : List ℕ) → undamaged s ≡ true → length s ≤ length out → Answers s out report (answer 0 (length s) 0 0) (placed 0 s out) report
+unfolding undamaged
+answers-unchanged s out report h k =
+    let u = unchanged s h in
+    let r : length (reportOf s) ≤ length report = rw (u .report) (omega arith) in
+    answering s out report (and-left (opens s) _ h) k r (rw (u .clean, u .report, u .left) refl) (rw (u .clean) refl) (rw (u .report) (placed-none 0 report))
 
 -- ---- EACH KEPT RECORD is what writing its command gives, and is read wherever it stands
 
