@@ -31,9 +31,10 @@ const MANY: u64 = 1_000_000;
 const SESSION: usize = 1_000;
 const QUESTION: usize = 3;
 const ANSWER: usize = 12;
-/// Codes of questions: an offer, a lender's figures, the last one.
+/// Codes of questions: an offer, a lender's figures, an installment due, the last one.
 const OFFER: u64 = 1;
 const LENDER: u64 = 3;
+const DUE: u64 = 7;
 const LAST: u64 = 13;
 
 pub fn replay(journal: &[u8]) -> u64 {
@@ -54,21 +55,39 @@ pub fn measure(runs: usize, bytes: &[u8]) {
     let mut chance = Chance::new(0);
     let asked: Vec<_> = (0..SESSION).map(|_| chance.pick(&offers)).collect();
     sessions(runs, bytes, &asked);
+    dues(runs);
     maps(runs, &journal, &asked);
 }
 
 /// Questions by the thousand, of offers and lenders that are there, in no order.
 fn sessions(runs: usize, bytes: &[u8], asked: &[Offer]) {
-    let of = |what, questions: Vec<[u64; QUESTION]>| session(runs, bytes, what, questions.as_flattened());
+    let of = |what, questions: Vec<[u64; QUESTION]>| session(runs, bytes, what, MANY, questions.as_flattened());
     of("session, offers", asked.iter().map(|offer| [OFFER, offer.id, 0]).collect());
     of("session, lenders' figures", asked.iter().map(|offer| [LENDER, offer.lender, 0]).collect());
     let turns = asked.iter().zip((OFFER..=LAST).cycle());
     of("session, each code in turn", turns.map(|(offer, code)| [code, offer.id, offer.expires]).collect());
 }
 
-fn session(runs: usize, bytes: &[u8], what: &str, questions: &[u64]) {
+/// What is due of the longest schedule of each kind, where all but its last installment are paid.
+fn dues(runs: usize) {
+    for (what, kind) in [("session, dues, flat", 0), ("session, dues, falling", 1)] {
+        let mut journal = Journal::of_edition(5).expect("an edition that there is");
+        let text = format!(
+            "open-account 100 1\nopen-account 100 2\nregister 100 2 10 1000000000000\n\
+             create 100 1 20 10 1000000000000 10000 86400 0\nschedule 100 1 20 1200 1 1000000 {kind}\n\
+             repayment-account 100 1 1\nrepaid 100 1 20 {}\n",
+            [1_999_000_000_000_u64, 1_500_000_000_000][kind]
+        );
+        journal.write(&text).expect("lines of commands");
+        let due = journal.ask(&format!("due 20 {}\n", u64::MAX)).expect("a sound book");
+        assert!(due.starts_with("0 1200 "), "the last is due: {due}");
+        session(runs, journal.bytes(), what, SINGLE, [DUE, 20, u64::MAX].repeat(SESSION).as_slice());
+    }
+}
+
+fn session(runs: usize, bytes: &[u8], what: &str, many: u64, questions: &[u64]) {
     let answers = RefCell::new(vec![0; SESSION * ANSWER]);
-    show(runs, what, MANY, &|times| {
+    show(runs, what, many, &|times| {
         let (from, len) = (bytes.as_ptr(), bytes.len());
         let (words, count) = (questions.as_ptr(), questions.len());
         let mut out = answers.borrow_mut();

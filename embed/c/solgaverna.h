@@ -60,7 +60,7 @@ enum {
     SOLGAVERNA_LOOKUP_OFFER = 1,
     SOLGAVERNA_LOOKUP_ACCOUNT = 2,
     SOLGAVERNA_LOOKUP_LENDER = 3,
-    SOLGAVERNA_LOOKUP_SCHEDULE = 4,           /* of an offer; no values where it has none */
+    SOLGAVERNA_LOOKUP_SCHEDULE = 4,           /* of an offer, its kind last; no values where it has none */
     SOLGAVERNA_LOOKUP_DEADLINE = 5,           /* of an offer's negotiation */
     SOLGAVERNA_LOOKUP_NEGOTIATION_STATUS = 6, /* of an offer, at a time */
     SOLGAVERNA_LOOKUP_DUE = 7,                /* of an offer, at a time */
@@ -74,7 +74,7 @@ enum {
 int64_t solgaverna_answers(const uint8_t *journal, size_t journal_len, const uint64_t *questions, size_t questions_len,
                            uint64_t *out, size_t out_len);
 
-/* The snapshot of the book after the journal: the whole book in bytes (docs/SNAPSHOT.md), 78,298 of them at most. */
+/* The snapshot of the book after the journal: the whole book in bytes (docs/SNAPSHOT.md), 79,002 of them at most. */
 int64_t solgaverna_snapshot(const uint8_t *journal, size_t journal_len, uint8_t *out, size_t out_len);
 
 /* A journal that goes on from the book of a snapshot. It must be of the edition that the snapshot names; one from before there was

@@ -296,7 +296,7 @@ impl Book {
         self.apply(Command::CloseNegotiation { now, caller, id })
     }
 
-    // The lender or the originator sets the installments.
+    // The lender or the originator sets the installments, of a kind that the edition has.
     pub fn schedule_repayment(
         self,
         now: u64,
@@ -305,8 +305,9 @@ impl Book {
         count: u32,
         code: u32,
         first: u64,
+        kind: u64,
     ) -> Step
-        ensures { λ r. ⌜ r ≡ answers self (ScheduleRepayment now caller id count code first) ⌝ }
+        ensures { λ r. ⌜ r ≡ answers self (ScheduleRepayment now caller id count code first kind) ⌝ }
     {
         self.apply(Command::ScheduleRepayment {
             now,
@@ -315,6 +316,7 @@ impl Book {
             count,
             code,
             first,
+            kind,
         })
     }
 

@@ -153,7 +153,14 @@ fn offer(out: &mut [u8; 65536], a: OfferAnswer) -> usize {
 
 fn schedule(out: &mut [u8; 65536], a: ScheduleAnswer) -> usize {
     match a {
-        ScheduleAnswer::Schedule(n) => four(out, n.count, n.code, n.installment, n.first),
+        ScheduleAnswer::Schedule(n) => {
+            let mut p = head(out, 0, 5, 5);
+            p = bridge_words::put(out, p, n.count);
+            p = bridge_words::put(out, p, n.code);
+            p = bridge_words::put(out, p, n.installment);
+            p = bridge_words::put(out, p, n.first);
+            bridge_words::put(out, p, n.kind)
+        }
         ScheduleAnswer::Absent => head(out, 0, 0, 0),
         ScheduleAnswer::Unsound => refused(out, refusal::BOOK_UNSOUND),
     }

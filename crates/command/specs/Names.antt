@@ -30,7 +30,7 @@ unfoldable pub offerNames : ℕ → OnOffer → Declared.Names
 offerNames o (withdraws a) = called a Other.Nobody Paper.OfOffer (Id o)
 offerNames o (rejects a) = called a Other.Nobody Paper.OfOffer (Id o)
 offerNames o (closes now a) = called a Other.Nobody Paper.OfOffer (Id o)
-offerNames o (schedules now a k c d) = called a Other.Nobody Paper.OfOffer (Id o)
+offerNames o (schedules now a n c d k) = called a Other.Nobody Paper.OfOffer (Id o)
 offerNames o (marks a c) = called a Other.Nobody Paper.OfOffer (Id o)
 offerNames o (repaid a x) = called a Other.Nobody Paper.OfOffer (Id o)
 

@@ -16,7 +16,7 @@ pub data OnAccount : Type 0 where
 pub data OnOffer : Type 0 where
   withdraws rejects : (caller : ℕ) → OnOffer
   closes : (now caller : ℕ) → OnOffer
-  schedules : (now caller count code first : ℕ) → OnOffer
+  schedules : (now caller count code first kind : ℕ) → OnOffer
   marks : (caller code : ℕ) → OnOffer
   repaid : (caller : ℕ) → ℤ → OnOffer
 
@@ -53,7 +53,7 @@ shapeOf (RejectOffer now a o) = offer o (rejects a)
 shapeOf (AmendOffer now a o t n) = amends now a o t n
 shapeOf (CounterOffer now a o t n) = counters now a o t n
 shapeOf (CloseNegotiation now a o) = offer o (closes now a)
-shapeOf (ScheduleRepayment now a o k c d) = offer o (schedules now a k c d)
+shapeOf (ScheduleRepayment now a o n c d k) = offer o (schedules now a n c d k)
 shapeOf (UpdateStatus now a o c) = offer o (marks a c)
 shapeOf (UpdateRepaid now a o x) = offer o (repaid a x)
 shapeOf (UpdateLenderRepaid now a l f) = account l (lenderRepaid a f)

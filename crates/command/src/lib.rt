@@ -1,4 +1,4 @@
-// The 24 commands of document 01's journal, each with its fields in the order of their tags.
+// The 24 commands of document 01's journal, each with its fields in the order of their tags. What an edition's records lack is read as 0.
 use table::Named;
 use terms::Terms;
 ghost use mathlib.Core.Path.{_≡_};
@@ -84,6 +84,7 @@ pub enum Command {
         count: u32,
         code: u32,
         first: u64,
+        kind: u64,
     },
     UpdateStatus {
         now: u64,
@@ -307,6 +308,7 @@ impl Command {
                 count: _,
                 code: _,
                 first: _,
+                kind: _,
             } => called(caller, Other::Nobody, Paper::OfOffer, Named::Id(id)),
             Command::UpdateStatus {
                 now: _,

@@ -25,7 +25,7 @@ freshWindow e = cond (leb 3 e) 259200 604800
 unfoldable pub roundLimit : ℕ → ℕ
 roundLimit e = cond (leb 4 e) 16 12
 
--- from edition 5 on (i): a schedule keeps the offer's terms, and its last installment carries what is left of their total
+-- from edition 5 on (i, j): a schedule keeps the offer's terms, so that its installments leave no rest, and is of one of two kinds
 unfoldable pub keepsTerms : ℕ → Bool
 keepsTerms e = leb 5 e
 

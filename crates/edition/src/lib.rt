@@ -43,7 +43,7 @@ pub fn round_limit(edition: u32) -> u32
     12
 }
 
-// Whether a schedule keeps its terms, and its last installment carries what is left of their total.
+// Whether a schedule keeps its terms, so that its installments leave no rest, and is of one of two kinds.
 pub fn keeps_terms(edition: u32) -> bool
     ensures { λ r. ⌜ r ≡ keepsTerms edition ⌝ }
 {

@@ -106,7 +106,7 @@ module _ (m : Model) (c : Covered m) where
   on-offer o (withdraws a) = deal-put (m .invoices) (m .offers) o _ c (like refl refl)
   on-offer o (rejects a) = deal-put (m .invoices) (m .offers) o _ c (like refl refl)
   on-offer o (closes now a) = deal-put (m .invoices) (m .offers) o _ c (like refl refl)
-  on-offer o (schedules now a k q d) = deal-put (m .invoices) (m .offers) o _ c (like refl refl)
+  on-offer o (schedules now a n q d k) = deal-put (m .invoices) (m .offers) o _ c (like refl refl)
   on-offer o (marks a q) = deal-put (m .invoices) (m .offers) o _ c (like refl refl)
   on-offer o (repaid a x) = deal-put (m .invoices) (m .offers) o _ c (like refl refl)
 

@@ -81,7 +81,7 @@ module _ {l : Ledger} {m : Model} (A : Agrees l m) where
   keeps-offer o (Shape.withdraws a) = on-offer o _ refl (A .bargains .rounds o)
   keeps-offer o (Shape.rejects a) = on-offer o _ refl (A .bargains .rounds o)
   keeps-offer o (Shape.closes now a) = on-offer o _ refl (record { long = A .bargains .rounds o .long })
-  keeps-offer o (Shape.schedules now a k c d) = on-offer o _ refl (A .bargains .rounds o)
+  keeps-offer o (Shape.schedules now a n c d k) = on-offer o _ refl (A .bargains .rounds o)
   keeps-offer o (Shape.marks a c) = on-offer o _ refl (A .bargains .rounds o)
   keeps-offer o (Shape.repaid a x) = on-offer o _ refl (A .bargains .rounds o)
 

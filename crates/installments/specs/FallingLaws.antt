@@ -1,9 +1,10 @@
 -- What the falling installments come to. Assumes nothing.
 use Prim.Native.Nat.{ℕ, zero, suc, _+_, _-_, _*_, _/_, _≤_, _<_}
-use native.Mathlib.Nat.{not-suc-le-zero, le-of-suc-le-suc, le-trans, le-div-iff-mul-le, div-mul-le-self, div-le-self, div-le-of-le-mul, div-zero, div-one, mul-le-mul, mul-le-mul-left, mul-le-mul-right}
+use native.Mathlib.Nat.{not-suc-le-zero, le-of-suc-le-suc, le-trans, le-div-iff-mul-le, lt-div-mul-add, div-mul-le-self, div-le-self, div-le-of-le-mul, div-zero, div-one, mul-le-mul, mul-le-mul-left, mul-le-mul-right}
 use native.Mathlib.Decide.{decLe}
 use native.Mathlib.Omega.{arith}
 use mathlib.Core.Path.{_≡_, refl, sym, ap, _∙_}
+use mathlib.Core.Logic.{_↔_}
 use lib.Dec.{eqb}
 use lib.ListN.{length, getD}
 use borrow.Author.Tests.{eq-eqb, ne-eqb}
@@ -126,6 +127,24 @@ principal-first amount count h = by (decLe 2 count)
 pub falling-first : (amount rate count : ℕ) → 1 ≤ count → getD (falling amount rate count) 0 0 ≡ amount / count + amount * rate / (10000 * count)
 unfolding fallingMember interest
 falling-first amount rate count h = falling-member amount rate count 0 h ∙ rw (principal-first amount count h, outstanding-first amount count)
+
+-- it is 0 exactly where floor(amount/count) is: the interest on less than a unit each is none
+pub first-share : (amount rate count : ℕ) → 1 ≤ count → rate ≤ 10000 → (getD (falling amount rate count) 0 0 ≡ 0) ↔ (amount / count ≡ 0)
+first-share amount rate count some small = ((λ z. omega (arith, z, e)), none)
+  where
+    e : getD (falling amount rate count) 0 0 ≡ amount / count + amount * rate / (10000 * count)
+    e = falling-first amount rate count some
+
+    none : amount / count ≡ 0 → getD (falling amount rate count) 0 0 ≡ 0
+    none z =
+        let less : amount < count = omega (arith, lt-div-mul-add {a = amount} some, ap (λ (n : ℕ). n * count) z) in
+        omega (arith, z, e, none-of (decLe 1 (amount * rate / (10000 * count))) less)
+      where
+        none-of : Dec (1 ≤ amount * rate / (10000 * count)) → amount < count → amount * rate / (10000 * count) ≡ 0
+        none-of (no h) less = omega arith
+        none-of (yes h) less =
+            let k = le-div-iff-mul-le {k = 10000 * count} {x = 1} {y = amount * rate} (omega arith) .0 h in
+            absurd (omega (arith, mul-le-mul-left amount small))
 
 -- Nothing leaves 64 bits: an interest is no more than what it is on, and no member more than twice the amount
 module _ (amount rate count k : ℕ) (some : 1 ≤ count) (small : rate ≤ 10000) where

@@ -24,8 +24,8 @@ use Rattle.journal.specs.TableLaws.{few}
 use Rattle.journal.specs.Format.{headerOf, editionIn, openingOf, fieldIn, wellIn, numbersIn, zeros, recordAt, readAt, fieldsOut, recordOf, bytesFor}
 use Rattle.journal.specs.ReadLaws.{at-record}
 use Rattle.journal.specs.WriteLaws.{length-fields, length-record}
-use Rattle.journal.specs.Held.{Held}
-use Rattle.journal.specs.HeldLaws.{Tops, byTag, in-range, made-back}
+use Rattle.journal.specs.Held.{byTag, Held}
+use Rattle.journal.specs.HeldLaws.{Tops, in-range, made-back}
 
 -- an edition that there is fits the header's two bytes
 pub listed-fits : (e : ℕ) → listed e ≡ true → e < 65536

@@ -1,4 +1,4 @@
--- Document 01, "Journal and replay": the commands' tags, their fields in ascending order, and the command that the fields make.
+-- Document 01, "Journal and replay", and what an edition of document 02 adds: the commands' tags, their fields in ascending order, and the command that the fields make.
 use mathlib.Core.Bool.{Bool, _||_}
 use mathlib.Core.List.{List, [], _∷_, _++_}
 use Prim.Native.Nat.{ℕ, _-_}
@@ -6,6 +6,7 @@ use lib.ListN.{length, getD, replicate}
 use lib.Dec.{eqb}
 use lib.IntN.{ℤ}
 use Rattle.refusal.specs.Choice.{pick}
+use Rattle.edition.specs.Edition.{keepsTerms}
 use Rattle.money.specs.Range.{ofBits, bitsOf}
 use Rattle.terms.specs.declared.Terms.{Terms}
 use Rattle.command.specs.declared.Command.{Command}
@@ -35,6 +36,7 @@ fromNumbers amount fee v = record {
   fee = fee;
   window = getD v 0x11 0;
   next = getD v 0x12 0;
+  kind = getD v 0x14 0;
 }
 
 unfoldable pub named : List ℕ → Values
@@ -58,9 +60,13 @@ row t l m = record { tag = t; fields = l; make = m }
 abbrev termsIn : Values → Terms
 termsIn f = record { amount = f .amount; rate = f .rate; duration = f .duration }
 
--- the records of an edition
-abbrev pub rows : ℕ → List Row
-rows e =
+-- a field that only some editions' records have: its tag among the fields, its number among the numbers
+abbrev pub also : Bool → ℕ → List ℕ
+also has x = pick has (x ∷ []) []
+
+-- the records, by what the edition has: from edition 5 on (j) a schedule's kind, 14
+abbrev pub rowsIn : Bool → List Row
+rowsIn kinds =
     row 0x21 (0x01 ∷ 0x02 ∷ []) (λ f. OpenAccount (f .now) (f .caller))
     ∷ row 0x22 (0x01 ∷ 0x02 ∷ 0x05 ∷ []) (λ f. Deposit (f .now) (f .caller) (f .amount))
     ∷ row 0x23 (0x01 ∷ 0x02 ∷ 0x05 ∷ []) (λ f. Payout (f .now) (f .caller) (f .amount))
@@ -74,7 +80,7 @@ rows e =
     ∷ row 0x35 (0x01 ∷ 0x02 ∷ 0x03 ∷ 0x05 ∷ 0x06 ∷ 0x07 ∷ 0x09 ∷ []) (λ f. AmendOffer (f .now) (f .caller) (f .id) (termsIn f) (f .round))
     ∷ row 0x36 (0x01 ∷ 0x02 ∷ 0x03 ∷ 0x05 ∷ 0x06 ∷ 0x07 ∷ 0x09 ∷ []) (λ f. CounterOffer (f .now) (f .caller) (f .id) (termsIn f) (f .round))
     ∷ row 0x37 (0x01 ∷ 0x02 ∷ 0x03 ∷ []) (λ f. CloseNegotiation (f .now) (f .caller) (f .id))
-    ∷ row 0x38 (0x01 ∷ 0x02 ∷ 0x03 ∷ 0x0A ∷ 0x0B ∷ 0x0C ∷ []) (λ f. ScheduleRepayment (f .now) (f .caller) (f .id) (f .count) (f .code) (f .first))
+    ∷ row 0x38 (0x01 ∷ 0x02 ∷ 0x03 ∷ 0x0A ∷ 0x0B ∷ 0x0C ∷ also kinds 0x14) (λ f. ScheduleRepayment (f .now) (f .caller) (f .id) (f .count) (f .code) (f .first) (f .kind))
     ∷ row 0x41 (0x01 ∷ 0x02 ∷ 0x03 ∷ 0x0B ∷ []) (λ f. UpdateStatus (f .now) (f .caller) (f .id) (f .code))
     ∷ row 0x42 (0x01 ∷ 0x02 ∷ 0x03 ∷ 0x05 ∷ []) (λ f. UpdateRepaid (f .now) (f .caller) (f .id) (f .amount))
     ∷ row 0x43 (0x01 ∷ 0x02 ∷ 0x03 ∷ 0x0B ∷ []) (λ f. UpdateLenderRepaid (f .now) (f .caller) (f .id) (f .code))
@@ -86,6 +92,9 @@ rows e =
     ∷ row 0x55 (0x01 ∷ 0x03 ∷ 0x0B ∷ 0x0D ∷ []) (λ f. SetBlacklisted (f .now) (f .id) (f .code) (f .seats))
     ∷ row 0x56 (0x01 ∷ 0x0D ∷ 0x0E ∷ 0x12 ∷ []) (λ f. SetSeats (f .now) (f .seats) (f .threshold) (f .next))
     ∷ []
+
+abbrev pub rows : ℕ → List Row
+rows e = rowsIn (keepsTerms e)
 
 -- the fields of a tag, and none for a tag that no command has
 unfoldable pub fieldsIn : List Row → ℕ → List ℕ
@@ -103,32 +112,35 @@ madeIn (r ∷ rs) t f at next = pick (eqb t (r .tag)) (found (r .make f) next) (
 unfoldable pub made : ℕ → ℕ → Values → ℕ → ℕ → Reading
 made e t f at next = madeIn (rows e) t f at next
 
--- a command's tag and the numbers of its fields in order, in an edition
+-- a command's tag and the numbers of its fields in order, likewise
+unfoldable pub partsIn : Bool → Command → ℕ × List ℕ
+partsIn kinds (OpenAccount t c) = (0x21, t ∷ c ∷ [])
+partsIn kinds (Deposit t c a) = (0x22, t ∷ c ∷ bitsOf a ∷ [])
+partsIn kinds (Payout t c a) = (0x23, t ∷ c ∷ bitsOf a ∷ [])
+partsIn kinds (Approve t c a) = (0x24, t ∷ c ∷ bitsOf a ∷ [])
+partsIn kinds (RegisterInvoice t c i a) = (0x25, t ∷ c ∷ i ∷ bitsOf a ∷ [])
+partsIn kinds (CancelInvoice t c i) = (0x26, t ∷ c ∷ i ∷ [])
+partsIn kinds (CreateOffer t c i v m x) = (0x31, t ∷ c ∷ i ∷ v ∷ bitsOf (m .amount) ∷ m .rate ∷ m .duration ∷ x ∷ [])
+partsIn kinds (WithdrawOffer t c i) = (0x32, t ∷ c ∷ i ∷ [])
+partsIn kinds (AcceptOffer t c i) = (0x33, t ∷ c ∷ i ∷ [])
+partsIn kinds (RejectOffer t c i) = (0x34, t ∷ c ∷ i ∷ [])
+partsIn kinds (AmendOffer t c i m r) = (0x35, t ∷ c ∷ i ∷ bitsOf (m .amount) ∷ m .rate ∷ m .duration ∷ r ∷ [])
+partsIn kinds (CounterOffer t c i m r) = (0x36, t ∷ c ∷ i ∷ bitsOf (m .amount) ∷ m .rate ∷ m .duration ∷ r ∷ [])
+partsIn kinds (CloseNegotiation t c i) = (0x37, t ∷ c ∷ i ∷ [])
+partsIn kinds (ScheduleRepayment t c i n k f d) = (0x38, t ∷ c ∷ i ∷ n ∷ k ∷ f ∷ also kinds d)
+partsIn kinds (UpdateStatus t c i k) = (0x41, t ∷ c ∷ i ∷ k ∷ [])
+partsIn kinds (UpdateRepaid t c i a) = (0x42, t ∷ c ∷ i ∷ bitsOf a ∷ [])
+partsIn kinds (UpdateLenderRepaid t c i k) = (0x43, t ∷ c ∷ i ∷ k ∷ [])
+partsIn kinds (UpdateTotalsRepaid t c a b) = (0x44, t ∷ c ∷ bitsOf a ∷ bitsOf b ∷ [])
+partsIn kinds (Pause t s) = (0x51, t ∷ s ∷ [])
+partsIn kinds (Unpause t s) = (0x52, t ∷ s ∷ [])
+partsIn kinds (SetWindow t s w) = (0x53, t ∷ s ∷ w ∷ [])
+partsIn kinds (SetRepaymentAccount t i s) = (0x54, t ∷ i ∷ s ∷ [])
+partsIn kinds (SetBlacklisted t i k s) = (0x55, t ∷ i ∷ k ∷ s ∷ [])
+partsIn kinds (SetSeats t s h x) = (0x56, t ∷ s ∷ h ∷ x ∷ [])
+
 unfoldable pub partsOf : ℕ → Command → ℕ × List ℕ
-partsOf e (OpenAccount t c) = (0x21, t ∷ c ∷ [])
-partsOf e (Deposit t c a) = (0x22, t ∷ c ∷ bitsOf a ∷ [])
-partsOf e (Payout t c a) = (0x23, t ∷ c ∷ bitsOf a ∷ [])
-partsOf e (Approve t c a) = (0x24, t ∷ c ∷ bitsOf a ∷ [])
-partsOf e (RegisterInvoice t c i a) = (0x25, t ∷ c ∷ i ∷ bitsOf a ∷ [])
-partsOf e (CancelInvoice t c i) = (0x26, t ∷ c ∷ i ∷ [])
-partsOf e (CreateOffer t c i v m x) = (0x31, t ∷ c ∷ i ∷ v ∷ bitsOf (m .amount) ∷ m .rate ∷ m .duration ∷ x ∷ [])
-partsOf e (WithdrawOffer t c i) = (0x32, t ∷ c ∷ i ∷ [])
-partsOf e (AcceptOffer t c i) = (0x33, t ∷ c ∷ i ∷ [])
-partsOf e (RejectOffer t c i) = (0x34, t ∷ c ∷ i ∷ [])
-partsOf e (AmendOffer t c i m r) = (0x35, t ∷ c ∷ i ∷ bitsOf (m .amount) ∷ m .rate ∷ m .duration ∷ r ∷ [])
-partsOf e (CounterOffer t c i m r) = (0x36, t ∷ c ∷ i ∷ bitsOf (m .amount) ∷ m .rate ∷ m .duration ∷ r ∷ [])
-partsOf e (CloseNegotiation t c i) = (0x37, t ∷ c ∷ i ∷ [])
-partsOf e (ScheduleRepayment t c i n k f) = (0x38, t ∷ c ∷ i ∷ n ∷ k ∷ f ∷ [])
-partsOf e (UpdateStatus t c i k) = (0x41, t ∷ c ∷ i ∷ k ∷ [])
-partsOf e (UpdateRepaid t c i a) = (0x42, t ∷ c ∷ i ∷ bitsOf a ∷ [])
-partsOf e (UpdateLenderRepaid t c i k) = (0x43, t ∷ c ∷ i ∷ k ∷ [])
-partsOf e (UpdateTotalsRepaid t c a b) = (0x44, t ∷ c ∷ bitsOf a ∷ bitsOf b ∷ [])
-partsOf e (Pause t s) = (0x51, t ∷ s ∷ [])
-partsOf e (Unpause t s) = (0x52, t ∷ s ∷ [])
-partsOf e (SetWindow t s w) = (0x53, t ∷ s ∷ w ∷ [])
-partsOf e (SetRepaymentAccount t i s) = (0x54, t ∷ i ∷ s ∷ [])
-partsOf e (SetBlacklisted t i k s) = (0x55, t ∷ i ∷ k ∷ s ∷ [])
-partsOf e (SetSeats t s h x) = (0x56, t ∷ s ∷ h ∷ x ∷ [])
+partsOf e c = partsIn (keepsTerms e) c
 
 -- in an array of nine
 unfoldable pub padded : List ℕ → List ℕ

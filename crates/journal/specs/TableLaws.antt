@@ -1,18 +1,19 @@
 -- What the table says of a tag that no row has, and of a tag that is known. Assumes nothing.
 use mathlib.Core.Path.{_≡_, refl}
 use mathlib.Core.Bool.{Bool, true, false, _&&_}
-use mathlib.Core.List.{List, [], _∷_, _++_}
+use mathlib.Core.List.{List, [], _∷_, _++_, append-assoc, append-nil}
 use Prim.Native.Nat.{ℕ, zero, suc, _-_, _≤_, _<_}
 use native.Mathlib.Omega.{arith}
-use lib.ListN.{length, getD, take, replicate}
+use lib.ListN.{length, getD, take, replicate, length-append}
 use lib.Seq.{take-append-seam}
 use lib.Dec.{eqb, leb, ltb}
 use borrow.Author.Tests.{ne-eqb, leb-true, ltb-true}
 use Rattle.refusal.specs.Choice.{pick}
 use Rattle.refusal.specs.ChoiceLaws.{pick-off}
+use Rattle.edition.specs.Edition.{keepsTerms}
 use Rattle.wire.specs.FieldLaws.{and-left, and-right}
 use Rattle.journal.specs.Answers.{malformed}
-use Rattle.journal.specs.Table.{Row, rows, fieldsIn, fieldsOf, madeIn, made, padded}
+use Rattle.journal.specs.Table.{Row, also, rowsIn, rows, fieldsIn, fieldsOf, madeIn, made, padded}
 use Rattle.journal.specs.declared.reading.Values.{Values}
 
 pub zeros-at : (n k : ℕ) → _≡_ {A = ℕ} (getD (replicate n 0) k 0) 0
@@ -65,9 +66,17 @@ fine-in [] t e = refl
 fine-in (r ∷ rs) t e =
     fine-pick (eqb t (r .tag)) (r .fields) (fieldsIn rs t) (and-left (isFine (r .fields)) (allFine rs) e) (fine-in rs t (and-right (isFine (r .fields)) (allFine rs) e))
 
-pub few : (e t : ℕ) → length (fieldsOf e t) ≤ 9
+all-fine : (kinds : Bool) → allFine (rowsIn kinds) ≡ true
+unfolding pick
+all-fine true = refl
+all-fine false = refl
+
+fine : (e t : ℕ) → isFine (fieldsOf e t) ≡ true
 unfolding fieldsOf
-few e t = leb-true (length (fieldsIn (rows e) t)) 9 (and-left (leb (length (fieldsIn (rows e) t)) 9) (lowAll (fieldsIn (rows e) t)) (fine-in (rows e) t refl))
+fine e t = fine-in (rows e) t (all-fine (keepsTerms e))
+
+pub few : (e t : ℕ) → length (fieldsOf e t) ≤ 9
+few e t = leb-true (length (fieldsOf e t)) 9 (and-left (leb (length (fieldsOf e t)) 9) (lowAll (fieldsOf e t)) (fine e t))
 
 low-at : (l : List ℕ) (n k : ℕ) → lowAll l ≡ true → getD (l ++ replicate n 0) k 0 < 32
 low-at [] n k e = omega (arith, zeros-at n k)
@@ -75,11 +84,21 @@ low-at (x ∷ l) n zero e = ltb-true x 32 (and-left (ltb x 32) (lowAll l) e)
 low-at (x ∷ l) n (suc k) e = low-at l n k (and-right (ltb x 32) (lowAll l) e)
 
 pub low : (e t k : ℕ) → getD (padded (fieldsOf e t)) k 0 < 32
-unfolding fieldsOf padded
-low e t k = low-at (fieldsIn (rows e) t) (9 - length (fieldsIn (rows e) t)) k (and-right (leb (length (fieldsIn (rows e) t)) 9) (lowAll (fieldsIn (rows e) t)) (fine-in (rows e) t refl))
+unfolding padded
+low e t k = low-at (fieldsOf e t) (9 - length (fieldsOf e t)) k (and-right (leb (length (fieldsOf e t)) 9) (lowAll (fieldsOf e t)) (fine e t))
 
 -- ---- lists in arrays
 
 pub take-padded : (l : List ℕ) → take (length l) (padded l) ≡ l
 unfolding padded
 take-padded l = take-append-seam l (replicate (9 - length l) 0)
+
+-- a last number that some editions' records have stands in its place in each of them
+pub padded-also : (has : Bool) (l : List ℕ) (x : ℕ) → length l < 9 → l ++ (pick has x 0 ∷ replicate (8 - length l) 0) ≡ padded (l ++ also has x)
+unfolding padded pick
+padded-also true l x h =
+    let n : 9 - length (l ++ x ∷ []) ≡ 8 - length l = omega (arith, length-append l (x ∷ [])) in
+    rw (n, append-assoc l (x ∷ []) (replicate (8 - length l) 0))
+padded-also false l x h =
+    let n : 9 - length l ≡ suc (8 - length l) = omega arith in
+    rw (append-nil l, n)

@@ -62,6 +62,7 @@ pub(crate) struct Values {
     pub(crate) fee: i64,
     pub(crate) window: u64,
     pub(crate) next: u64,
+    pub(crate) kind: u64,
 }
 
 // The names, and the types, of the fields.
@@ -87,6 +88,7 @@ pub(crate) fn named(v: [u64; 32]) -> Values
         fee: of_bits(v[0x0f]),
         window: v[0x11],
         next: v[0x12],
+        kind: v[0x14],
     }
 }
 
@@ -113,6 +115,7 @@ pub(crate) fn build(edition: u32, tag: u8, f: Values, at: usize, past: usize) ->
     let threshold = f.threshold;
     let fee = f.fee;
     let window = f.window;
+    let kind = f.kind;
     match tag {
         0x21 => Decoded::Command(Command::OpenAccount { now, caller }, past),
         0x22 => Decoded::Command(
@@ -192,6 +195,7 @@ pub(crate) fn build(edition: u32, tag: u8, f: Values, at: usize, past: usize) ->
                 count,
                 code,
                 first,
+                kind,
             },
             past,
         ),

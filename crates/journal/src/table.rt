@@ -5,6 +5,16 @@ ghost use Rattle.journal.specs.Table.{fieldsOf, topOf, rowFields};
 // The number of fields of a record, and their tags in ascending order.
 pub struct Listed(pub usize, pub [u8; 9]);
 
+// The fields of command 38, with the kind where schedules are of one.
+fn schedule(edition: u32) -> Listed
+    ensures { λ r. ⌜ r ≡ rowFields (fieldsOf edition 0x38) ⌝ }
+{
+    if edition::keeps_terms(edition) {
+        return Listed(7, [0x01, 0x02, 0x03, 0x0a, 0x0b, 0x0c, 0x14, 0, 0]);
+    }
+    Listed(6, [0x01, 0x02, 0x03, 0x0a, 0x0b, 0x0c, 0, 0, 0])
+}
+
 // The fields of an edition's record by its tag. None: no record has this tag.
 pub fn fields(edition: u32, tag: u8) -> Listed
     ensures { λ r. ⌜ r ≡ rowFields (fieldsOf edition tag) ⌝ }
@@ -23,7 +33,7 @@ pub fn fields(edition: u32, tag: u8) -> Listed
         0x35 => Listed(7, [0x01, 0x02, 0x03, 0x05, 0x06, 0x07, 0x09, 0, 0]),
         0x36 => Listed(7, [0x01, 0x02, 0x03, 0x05, 0x06, 0x07, 0x09, 0, 0]),
         0x37 => Listed(3, [0x01, 0x02, 0x03, 0, 0, 0, 0, 0, 0]),
-        0x38 => Listed(6, [0x01, 0x02, 0x03, 0x0a, 0x0b, 0x0c, 0, 0, 0]),
+        0x38 => schedule(edition),
         0x41 => Listed(4, [0x01, 0x02, 0x03, 0x0b, 0, 0, 0, 0, 0]),
         0x42 => Listed(4, [0x01, 0x02, 0x03, 0x05, 0, 0, 0, 0, 0]),
         0x43 => Listed(4, [0x01, 0x02, 0x03, 0x0b, 0, 0, 0, 0, 0]),

@@ -4,12 +4,23 @@ use money::bits;
 ghost use mathlib.Core.Path.{_≡_};
 ghost use Prim.Native.Nat.{_+_, _*_, _≤_};
 ghost use lib.ListN.{length, take};
+ghost use Rattle.refusal.specs.Choice.{pick};
 ghost use Rattle.refusal.specs.Placed.{placed};
 ghost use Rattle.journal.specs.Table.{sent, partsOf};
 ghost use Rattle.journal.specs.Format.{fieldsOut};
 
 // A command's tag and the numbers of its fields in order.
 pub struct Parts(pub u8, pub [u64; 9]);
+
+// The number of a field that only some editions' records have, or the 0 that follows a record's numbers.
+fn also(has: bool, x: u64) -> u64
+    ensures { λ r. ⌜ r ≡ pick has x 0 ⌝ }
+{
+    if has {
+        return x;
+    }
+    0
+}
 
 // A command's tag and the numbers of its fields in order, in an edition.
 pub fn split(edition: u32, c: Command) -> Parts
@@ -126,9 +137,20 @@ pub fn split(edition: u32, c: Command) -> Parts
             count,
             code,
             first,
+            kind,
         } => Parts(
             0x38,
-            [now, caller, id, count as u64, code as u64, first, 0, 0, 0],
+            [
+                now,
+                caller,
+                id,
+                count as u64,
+                code as u64,
+                first,
+                also(edition::keeps_terms(edition), kind),
+                0,
+                0,
+            ],
         ),
         Command::UpdateStatus {
             now,

@@ -16,8 +16,9 @@ use Rattle.edition.specs.Edition.{roundLimit, keepsTerms}
 use Rattle.terms.specs.Status.{statusListed}
 use Rattle.terms.specs.Terms.{termsOk, countOk}
 use Rattle.terms.specs.Schedule.{periodListed, madeOf, scheduleOk}
-use Rattle.terms.specs.Installment.{installmentOf}
-use Rattle.terms.specs.Laws.{terms-in, installment-valid, installment-in, made-ok}
+use Rattle.terms.specs.Kind.{kindListed}
+use Rattle.terms.specs.Installment.{installmentOf, noneToPay}
+use Rattle.terms.specs.Laws.{terms-in, installment-valid, installment-in, listed-both, none-is, made-ok}
 use Rattle.terms.specs.declared.Terms.{Terms}
 use Rattle.negotiation.specs.Rounds.{roundSlots, negotiable, roundOf, addedOf, acceptedOf, closedAs}
 use Rattle.negotiation.specs.Laws.{stored, round-sound, added-sound, added-whole, closed-sound, closed-whole, accepted-sound, accepted-whole}
@@ -118,20 +119,21 @@ close-keeps {e} s now caller paper h z =
     negotiation-kept h (closedAs o n) (closed-sound roundSlots (roundLimit e) o n (outcome-stored (standing s now)) (kept-ranges h .rounds-in)) (closed-whole roundSlots o n (h .whole))
 
 -- the schedule of valid terms whose installment is not 0 can be stored, with its terms or without
-made-kept : (kept : Bool) (t : Terms) (count code first : ℕ) → termsOk t ≡ true → countOk count ≡ true → periodListed code ≡ true → isZero (installmentOf t count .1) ≡ false
-    → scheduleOk kept (madeOf kept t count code first (installmentOf t count .1)) ≡ true
-made-kept kept t count code first h k l z =
-    let v = ap (λ (q : ℕ × ℤ). q .1) (installment-valid t count h k) in
-    rw v (made-ok kept t count code first (terms-in t h) k l (installment-in t count (terms-in t h) (ap isZero (sym v) ∙ z)))
+made-kept : (kept : Bool) (t : Terms) (kind count code first : ℕ) → termsOk t ≡ true → kindListed kept kind ≡ true → countOk count ≡ true → periodListed code ≡ true → noneToPay t kind count ≡ false
+    → scheduleOk kept (madeOf kept t kind count code first (installmentOf t kind count .1)) ≡ true
+made-kept kept t kind count code first h q k l z =
+    let v = ap (λ (q : ℕ × ℤ). q .1) (installment-valid t kind count h k (listed-both kept kind q)) in
+    rw v (made-ok kept t kind count code first (terms-in t h) q k l (installment-in t kind count (terms-in t h) k (ap isZero (sym v) ∙ (sym (none-is t kind count) ∙ z))))
 
-pub schedule-keeps : (e : ℕ) (s : SeenDeal) (now caller count code first : ℕ) (paper : SeenInvoice) → Keeps (DealKept e) (s .row) (scheduleOf e s now caller count code first paper)
-schedule-keeps e s now caller count code first paper h c =
+pub schedule-keeps : (e : ℕ) (s : SeenDeal) (now caller count code first kind : ℕ) (paper : SeenInvoice) → Keeps (DealKept e) (s .row) (scheduleOf e s now caller count code first kind paper)
+schedule-keeps e s now caller count code first kind paper h c =
     let t = s .row .offer .terms in
     let a = passed _ _ _ c in
-    let b = passed _ _ _ (passed _ _ _ (a .1) .1) in
+    let q = passed _ _ _ (a .1) in
+    let b = passed _ _ _ (passed _ _ _ (q .1) .1) in
     let z = passed _ _ _ (passed _ _ _ (passed _ _ _ (passed _ _ _ (passed _ _ _ (b .1) .1) .1) .1) .1) in
-    schedule-kept h (madeOf (keepsTerms e) t count code first (installmentOf t count .1))
-    (made-kept (keepsTerms e) t count code first (kept-ranges h .terms-in) (not-false (countOk count) (a .0)) (not-false (periodListed code) (b .0)) (z .0))
+    schedule-kept h (madeOf (keepsTerms e) t kind count code first (installmentOf t kind count .1))
+    (made-kept (keepsTerms e) t kind count code first (kept-ranges h .terms-in) (not-false (kindListed (keepsTerms e) kind) (q .0)) (not-false (countOk count) (a .0)) (not-false (periodListed code) (b .0)) (z .0))
 
 pub status-update-keeps : {e : ℕ} (s : SeenDeal) (allowed : Bool) (code : ℕ) → Keeps (DealKept e) (s .row) (statusUpdateOf s allowed code)
 status-update-keeps s allowed code h e =

@@ -10,7 +10,7 @@ use Rattle.edition.specs.Edition.{roundLimit, keepsTerms}
 use Rattle.money.specs.Facts.{both, zero-is}
 use Rattle.terms.specs.Terms.{termsOk}
 use Rattle.terms.specs.Schedule.{keepsNone, scheduleOk, scheduleNone, scheduleZero}
-use Rattle.terms.specs.Laws.{made-in, none-kept}
+use Rattle.terms.specs.Laws.{none-kept}
 use Rattle.terms.specs.declared.Terms.{Terms}
 use Rattle.terms.specs.declared.Schedule.{Schedule}
 use Rattle.negotiation.specs.Rounds.{roundSlots, noNegotiation, negotiationSound}
@@ -28,9 +28,9 @@ no-schedule s n k x f a r q i = record { count = n i; code = k i; installment = 
 pub schedule-zero : (s : Schedule) → scheduleZero s ≡ true → s ≡ noSchedule
 unfolding scheduleZero scheduleNone keepsNone
 schedule-zero s e =
-    let g = both _ _ e in
-    let f = both _ _ (g .0) in
-    let d = both _ _ (f .1) in
+    let f = both _ _ e in
+    let g = both _ _ (f .1) in
+    let d = both _ _ (g .0) in
     let c = both _ _ (f .0) in
     let b = both _ _ (c .0) in
     let a = both _ _ (b .0) in
@@ -77,7 +77,7 @@ pub no-deal-zero : dealZero noDeal ≡ true
 unfolding dealZero offerZero scheduleZero scheduleNone keepsNone
 no-deal-zero = rw none-zero
 
--- a schedule of an edition that keeps no terms has none, and there is one kind
+-- a schedule of an edition that keeps no terms has none, and is flat
 module _ (kept : Bool) (s : Schedule) (h : scheduleZero s || scheduleOk kept s ≡ true) where
   by-case : {P : Type 0} → (s ≡ noSchedule → P) → (scheduleOk kept s ≡ true → P) → P
   by-case {P} f g = go (scheduleZero s) refl h
@@ -86,11 +86,8 @@ module _ (kept : Bool) (s : Schedule) (h : scheduleZero s || scheduleOk kept s �
       go true e k = f (schedule-zero s e)
       go false e k = g k
 
-  pub unkept : kept ≡ false → _≡_ {A = ℤ × ℕ} (s .amount, s .rate) (pos 0, 0)
-  unkept e = by-case (λ z. ap (λ (x : Schedule). (x .amount, x .rate)) z) (λ k. none-kept s (subst (λ (b : Bool). scheduleOk b s ≡ true) e k))
-
-  pub one-kind : s .kind ≡ 0
-  one-kind = by-case (λ z. ap (λ (x : Schedule). x .kind) z) (λ k. made-in kept s k .kind)
+  pub unkept : kept ≡ false → _≡_ {A = ℤ × (ℕ × ℕ)} (s .amount, (s .rate, s .kind)) (pos 0, (0, 0))
+  unkept e = by-case (λ z. ap (λ (x : Schedule). (x .amount, (x .rate, x .kind))) z) (λ k. none-kept s (subst (λ (b : Bool). scheduleOk b s ≡ true) e k))
 
 -- ── Sound rows ────────────────────────────────────────────────────
 -- a row passes the test, and its negotiation has room for all its rounds

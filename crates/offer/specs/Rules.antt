@@ -4,7 +4,7 @@ use mathlib.Core.Bool.{Bool, true, not, _&&_, _||_}
 use mathlib.Core.List.{List, [], _∷_, _++_}
 use lib.Dec.{leb, eqb}
 use lib.IntN.{ℤ}
-use Rattle.money.specs.Range.{inTotal, isZero}
+use Rattle.money.specs.Range.{inTotal}
 use Rattle.refusal.specs.Choice.{pick}
 use Rattle.refusal.specs.Refusal.{Check, _gives_, blacklisted, invalidInput, notFound, alreadyExists, unauthorized, invalidTransition, offerExpired, outOfRange, noRoom}
 use Rattle.refusal.specs.Rule.{Rule}
@@ -12,7 +12,8 @@ use Rattle.edition.specs.Edition.{holdsAmount, roundLimit, keepsTerms}
 use Rattle.terms.specs.Status.{statusRejected, statusRepaid, statusDefaulted, statusListed}
 use Rattle.terms.specs.Terms.{termsOk, countOk}
 use Rattle.terms.specs.Schedule.{periodListed, madeOf}
-use Rattle.terms.specs.Installment.{installmentOf}
+use Rattle.terms.specs.Kind.{kindListed}
+use Rattle.terms.specs.Installment.{installmentOf, noneToPay}
 use Rattle.terms.specs.declared.Terms.{Terms}
 use Rattle.negotiation.specs.Rounds.{statusOf, negotiable, closedAs}
 use Rattle.account.specs.declared.Account.{Account}
@@ -135,10 +136,11 @@ closeOf s now caller paper = record {
   done = withNegotiation (closedAs (outcomeAt (standing s now)) (s .row .negotiation)) (s .row);
 }
 
--- Schedule: count 3; first_due ≤ now 3; code 3; 4; Rejected, Repaid or Defaulted 7; invoice 4; not lender or originator 6; installment 0 gives 3
-abbrev pub scheduleChecks : SeenDeal → ℕ → ℕ → ℕ → ℕ → ℕ → SeenInvoice → List Check
-scheduleChecks s now caller count code first paper =
+-- Schedule: count 3; kind 3 (02 j); first_due ≤ now 3; code 3; 4; Rejected, Repaid or Defaulted 7; invoice 4; not lender or originator 6
+abbrev pub scheduleChecks : ℕ → SeenDeal → ℕ → ℕ → ℕ → ℕ → ℕ → ℕ → SeenInvoice → List Check
+scheduleChecks e s now caller count code first kind paper =
     (not (countOk count) gives invalidInput)
+    ∷ (not (kindListed (keepsTerms e) kind) gives invalidInput)
     ∷ (leb first now gives invalidInput)
     ∷ (not (periodListed code) gives invalidInput)
     ∷ (not (s .here) gives notFound)
@@ -147,11 +149,11 @@ scheduleChecks s now caller count code first paper =
     ∷ (not (eqb (s .row .offer .lender) caller || eqb (paper .row .originator) caller) gives unauthorized)
     ∷ []
 
--- the schedule keeps the offer's terms where the edition does (02 i)
-abbrev pub scheduleOf : ℕ → SeenDeal → ℕ → ℕ → ℕ → ℕ → ℕ → SeenInvoice → Rule Deal
-scheduleOf e s now caller count code first paper = record {
-  checks = scheduleChecks s now caller count code first paper ++ ((isZero (installmentOf (s .row .offer .terms) count .1) gives invalidInput) ∷ []);
-  done = withSchedule (madeOf (keepsTerms e) (s .row .offer .terms) count code first (installmentOf (s .row .offer .terms) count .1)) (s .row);
+-- then installment 0, or falling with floor(amount/count) = 0, gives 3. The schedule keeps the offer's terms where the edition does (02 i)
+abbrev pub scheduleOf : ℕ → SeenDeal → ℕ → ℕ → ℕ → ℕ → ℕ → ℕ → SeenInvoice → Rule Deal
+scheduleOf e s now caller count code first kind paper = record {
+  checks = scheduleChecks e s now caller count code first kind paper ++ ((noneToPay (s .row .offer .terms) kind count gives invalidInput) ∷ []);
+  done = withSchedule (madeOf (keepsTerms e) (s .row .offer .terms) kind count code first (installmentOf (s .row .offer .terms) kind count .1)) (s .row);
 }
 
 -- Repayment's first update: caller 6; unlisted code 3; row 4. It sets the status

@@ -475,16 +475,21 @@ impl SeenDeal {
 
     fn schedule_refusal(
         self,
+        edition: u32,
         now: u64,
         caller: u64,
         count: u32,
         code: u32,
         first: u64,
+        kind: u64,
         paper: SeenInvoice,
     ) -> u64
-        ensures { λ r. ⌜ r ≡ Refusal.first (scheduleChecks self now caller count code first paper) ⌝ }
+        ensures { λ r. ⌜ r ≡ Refusal.first (scheduleChecks edition self now caller count code first kind paper) ⌝ }
     {
         if !terms::count_valid(count) {
+            return refusal::INVALID_INPUT;
+        }
+        if !terms::kind_listed(edition::keeps_terms(edition), kind) {
             return refusal::INVALID_INPUT;
         }
         if first <= now {
@@ -523,23 +528,25 @@ impl SeenDeal {
         count: u32,
         code: u32,
         first: u64,
+        kind: u64,
         paper: SeenInvoice,
     ) -> DealPosted
-        ensures { λ r. ⌜ r ≡ answered posted (self .row) (scheduleOf edition self now caller count code first paper) ⌝ }
+        ensures { λ r. ⌜ r ≡ answered posted (self .row) (scheduleOf edition self now caller count code first kind paper) ⌝ }
     {
         let mut row = self.row;
         let offer = row.offer;
-        let refusal = self.schedule_refusal(now, caller, count, code, first, paper);
+        let refusal = self.schedule_refusal(edition, now, caller, count, code, first, kind, paper);
         if !(refusal == 0) {
             return refused(row, refusal);
         }
         let terms = offer.terms;
-        let installment = installment_of(terms, count);
+        let listed = kind as u32;
+        let installment = installment_of(terms, listed, count);
         if money::is_zero(installment) {
             return refused(row, refusal::INVALID_INPUT);
         }
         let kept = edition::keeps_terms(edition);
-        let made = Schedule::made(kept, terms, count, code, first, installment);
+        let made = Schedule::made(kept, terms, listed, count, code, first, installment);
         row.schedule = made;
         DealPosted { answer: 0, row }
     }
@@ -666,11 +673,11 @@ pub fn create_refusal(
     0
 }
 
-// The installment, 0 where the terms or the count are out of range.
-fn installment_of(t: Terms, count: u32) -> i64
-    ensures { λ r. ⌜ r ≡ installmentOf t count .1 ⌝ }
+// The first installment, 0 where the terms, the count or the kind are out of range.
+fn installment_of(t: Terms, kind: u32, count: u32) -> i64
+    ensures { λ r. ⌜ r ≡ installmentOf t kind count .1 ⌝ }
 {
-    let InstallmentAnswer::Of(x) = terms::installment(t, count) else {
+    let InstallmentAnswer::Of(x) = terms::installment(t, kind, count) else {
         return 0;
     };
     x

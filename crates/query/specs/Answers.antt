@@ -51,7 +51,7 @@ readOffer p = pick (eqb (p .0) 0) (Offer.Offer (numbers (p .1))) (pick (eqb (p .
 
 found : List ℕ → ScheduleAnswer
 found [] = Schedule.Absent
-found (n ∷ l) = Schedule.Schedule (record { count = n; code = getD l 0 0; installment = getD l 1 0; first = getD l 2 0 })
+found (n ∷ l) = Schedule.Schedule (record { count = n; code = getD l 0 0; installment = getD l 1 0; first = getD l 2 0; kind = getD l 3 0 })
 
 readSchedule : Reply → ScheduleAnswer
 readSchedule p = pick (eqb (p .0) 0) (found (p .1)) Schedule.Unsound

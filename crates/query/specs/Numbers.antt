@@ -20,7 +20,7 @@ abbrev pub offersOnly : Offers → OfferRows
 offersOnly t = record { ids = t .ids; rows = t .rows; count = t .count }
 
 abbrev pub scheduleNumbers : Schedule → ScheduleNumbers
-scheduleNumbers s = record { count = s .count; code = s .code; installment = bitsOf (s .installment); first = s .first }
+scheduleNumbers s = record { count = s .count; code = s .code; installment = bitsOf (s .installment); first = s .first; kind = s .kind }
 
 abbrev pub lenderNumbers : Account → LenderNumbers
 lenderNumbers a = record { offered = bitsOf (a .purse .offered); accepted = bitsOf (a .purse .accepted); pending = a .pending; repaid = a .repaid }

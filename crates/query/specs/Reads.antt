@@ -61,7 +61,7 @@ abbrev pub offerRead : ℕ → Model → Rule (List ℕ)
 offerRead id m = dealRead id (offerIn m id)
 
 abbrev pub scheduleOrder : ScheduleNumbers → List ℕ
-scheduleOrder n = n .count ∷ n .code ∷ n .installment ∷ n .first ∷ []
+scheduleOrder n = n .count ∷ n .code ∷ n .installment ∷ n .first ∷ n .kind ∷ []
 
 -- no values where there is no schedule
 unfoldable pub scheduleValues : Schedule → List ℕ

@@ -59,12 +59,13 @@ pub enum OfferAnswer {
     Unsound,
 }
 
-// The numbers of a schedule: how many installments, the code of their period, the amount of the first, when it is due.
+// The numbers of a schedule: how many installments, the code of their period, the amount of the first, when it is due, their kind.
 pub struct ScheduleNumbers {
     pub count: u64,
     pub code: u64,
     pub installment: u64,
     pub first: u64,
+    pub kind: u64,
 }
 
 // The number of the installment that is due and the sum still owed on it, 0 and 0 where none is.
@@ -109,6 +110,7 @@ impl ScheduleNumbers {
             code: s.code as u64,
             installment,
             first: s.first,
+            kind: s.kind as u64,
         }
     }
 }
@@ -485,6 +487,12 @@ fn words_four(a: u64, b: u64, c: u64, d: u64) -> [u64; 12]
     [0, 4, a, b, c, d, 0, 0, 0, 0, 0, 0]
 }
 
+fn words_five(a: u64, b: u64, c: u64, d: u64, e: u64) -> [u64; 12]
+    ensures { λ r. ⌜ r ≡ twelve (0, a ∷ b ∷ c ∷ d ∷ e ∷ []) ⌝ }
+{
+    [0, 5, a, b, c, d, e, 0, 0, 0, 0, 0]
+}
+
 fn words_ten(n: OfferNumbers) -> [u64; 12]
     ensures { λ r. ⌜ r ≡ twelve (0, inOrder n) ⌝ }
 {
@@ -544,7 +552,7 @@ fn schedule_words(deal: SeenDeal) -> [u64; 12]
         return words_none(0);
     }
     let n = ScheduleNumbers::of(schedule);
-    words_four(n.count, n.code, n.installment, n.first)
+    words_five(n.count, n.code, n.installment, n.first, n.kind)
 }
 
 fn deadline_words(deal: SeenDeal) -> [u64; 12]

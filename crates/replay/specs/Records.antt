@@ -15,7 +15,8 @@ use Rattle.command.specs.Shape.{Shape, opens, account, registers, cancels, crea
 use Rattle.wire.specs.Field.{begins}
 use Rattle.wire.specs.FieldLaws.{and-left, and-right}
 use Rattle.journal.specs.Answers.{Reading, found, refused, ended, malformed}
-use Rattle.journal.specs.Table.{Row, rows, topOf, named, fieldsIn, fieldsOf, madeIn, made}
+use Rattle.edition.specs.Edition.{keepsTerms}
+use Rattle.journal.specs.Table.{Row, rowsIn, rows, topOf, named, fieldsIn, fieldsOf, madeIn, made}
 use Rattle.journal.specs.Format.{wellIn, numbersIn, zeros, gatheredIn, recordAt, readAt}
 use Rattle.journal.specs.ReadLaws.{all-tops}
 use Rattle.account.specs.declared.Account.{Account}
@@ -119,6 +120,11 @@ abbrev allTwo : List Row → Bool
 allTwo [] = true
 allTwo (r ∷ rs) = leb 2 (length (r .fields)) && allTwo rs
 
+all-two : (kinds : Bool) → allTwo (rowsIn kinds) ≡ true
+unfolding pick
+all-two true = refl
+all-two false = refl
+
 -- ── What is read ──────────────────────────────────────────────────
 unfoldable pub Weighs : ℕ → Reading → Type 0
 Weighs at (found c next) = (at + 25 ≤ next) × OpensLow (shapeOf c)
@@ -153,7 +159,7 @@ record-weighs e t b at = go (begins t (11 * length fs) b && wellIn fs (drop 3 b)
     v = numbersIn zeros fs (drop 3 b)
 
     go : (w : Bool) → begins t (11 * length fs) b && wellIn fs (drop 3 b) ≡ w → Weighs at (pick w (made e t (named v) at (at + (3 + 11 * length fs))) (malformed at))
-    go true q = made-weighs (rows e) t v at (at + (3 + 11 * length fs)) (all-fair e) refl (caller-low fs (drop 3 b) (and-right (begins t (11 * length fs) b) _ q)) (λ h. omega arith)
+    go true q = made-weighs (rows e) t v at (at + (3 + 11 * length fs)) (all-fair e) (all-two (keepsTerms e)) (caller-low fs (drop 3 b) (and-right (begins t (11 * length fs) b) _ q)) (λ h. omega arith)
     go false q = tt
 
 pub weighs : (e : ℕ) (s : List ℕ) (at : ℕ) → Weighs at (readAt e s at)

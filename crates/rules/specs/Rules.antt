@@ -147,7 +147,7 @@ unfoldable pub offerRule : Model → ℕ → OnOffer → Rule Deal
 offerRule m o (withdraws a) = withdrawOf (offerIn m o) a
 offerRule m o (rejects a) = rejectOf (offerIn m o) a (paperOf m o)
 offerRule m o (closes now a) = closeOf (offerIn m o) now a (paperOf m o)
-offerRule m o (schedules now a k c d) = scheduleOf (m .settings .edition) (offerIn m o) now a k c d (paperOf m o)
+offerRule m o (schedules now a n c d k) = scheduleOf (m .settings .edition) (offerIn m o) now a n c d k (paperOf m o)
 offerRule m o (marks a c) = statusUpdateOf (offerIn m o) (isRepayer (m .settings) a) c
 offerRule m o (repaid a x) = repaidUpdateOf (offerIn m o) (isRepayer (m .settings) a) x
 

@@ -88,7 +88,7 @@ unfolding ruled offerNames
 touch-offer m o (withdraws a) = at-first _
 touch-offer m o (rejects a) = at-first _
 touch-offer m o (closes now a) = at-first _
-touch-offer m o (schedules now a k c d) = at-first _
+touch-offer m o (schedules now a n c d k) = at-first _
 touch-offer m o (marks a c) = at-first _
 touch-offer m o (repaid a x) = at-first _
 

@@ -9,6 +9,7 @@ use lib.ListN.{length, take}
 use Rattle.edition.specs.Edition.{listed, roundLimit, keepsTerms}
 use Rattle.table.specs.Tables.{Table}
 use Rattle.table.specs.Padded.{padded}
+use Rattle.terms.specs.Kind.{flatKind}
 use Rattle.terms.specs.declared.Terms.{Terms}
 use Rattle.terms.specs.declared.Schedule.{Schedule}
 use Rattle.negotiation.specs.declared.Round.{Round}
@@ -172,20 +173,20 @@ negotiation e =
     then rows 0x97 (roundLimit e) round)
     (λ x f. rounds-back (x .0) (x .1 .0) (x .1 .1) (omega (arith, f .1 .1 .0 .0, limit-in-slots e)))
 
--- the terms that a schedule keeps, in the editions that keep them (i)
-unfoldable pub kept : ℕ → Codec (ℤ × ℕ)
-kept e = given (keepsTerms e) (pos 0, 0) (signed 0x9a then half 0x9b)
+-- the terms that a schedule keeps and its kind, in the editions that have them (i, j)
+unfoldable pub kept : ℕ → Codec (ℤ × (ℕ × ℕ))
+kept e =
+    given (keepsTerms e) (pos 0, (0, flatKind))
+    (signed 0x9a
+    then half 0x9b
+    then half 0x14)
 
-abbrev pub scheduleFrom : ℕ × (ℕ × (ℤ × (ℕ × (ℤ × ℕ)))) → Schedule
-scheduleFrom (count, (code, (installment, (first, (amount, rate))))) =
-    record { count = count; code = code; installment = installment; first = first; amount = amount; rate = rate; kind = 0 }
+abbrev pub scheduleFrom : ℕ × (ℕ × (ℤ × (ℕ × (ℤ × (ℕ × ℕ))))) → Schedule
+scheduleFrom (count, (code, (installment, (first, (amount, (rate, kind)))))) =
+    record { count = count; code = code; installment = installment; first = first; amount = amount; rate = rate; kind = kind }
 
-abbrev pub scheduleParts : Schedule → ℕ × (ℕ × (ℤ × (ℕ × (ℤ × ℕ))))
-scheduleParts s = (s .count, (s .code, (s .installment, (s .first, (s .amount, s .rate)))))
-
--- a schedule of the one kind
-pub of-kind : (s : Schedule) → s .kind ≡ 0 → scheduleFrom (scheduleParts s) ≡ s
-of-kind s e = ap (λ (k : ℕ). record { count = s .count; code = s .code; installment = s .installment; first = s .first; amount = s .amount; rate = s .rate; kind = k }) (sym e)
+abbrev pub scheduleParts : Schedule → ℕ × (ℕ × (ℤ × (ℕ × (ℤ × (ℕ × ℕ)))))
+scheduleParts s = (s .count, (s .code, (s .installment, (s .first, (s .amount, (s .rate, s .kind))))))
 
 unfoldable pub schedule : ℕ → Codec Schedule
 schedule e =

@@ -50,19 +50,19 @@ weighs-negotiation : (e : ℕ) → Weighs (negotiation e) 913
 unfolding negotiation
 weighs-negotiation e = weighs-via _ _ _ (weighs-then (weighs-column _ _) (weighs-then (weighs-column _ _) (weighs-rounds e)))
 
-weighs-kept : (e : ℕ) → Weighs (kept e) 22
+weighs-kept : (e : ℕ) → Weighs (kept e) 33
 unfolding kept
-weighs-kept e = weighs-given _ _ (weighs-then (weighs-signed _) (weighs-column _ _))
+weighs-kept e = weighs-given _ _ (weighs-then (weighs-signed _) (weighs-then (weighs-column _ _) (weighs-column _ _)))
 
-weighs-schedule : (e : ℕ) → Weighs (schedule e) 66
+weighs-schedule : (e : ℕ) → Weighs (schedule e) 77
 unfolding schedule
 weighs-schedule e = weighs-via _ _ _ (weighs-then (weighs-column _ _) (weighs-then (weighs-column _ _) (weighs-then (weighs-signed _) (weighs-then (weighs-column _ _) (weighs-kept e)))))
 
-weighs-deal : (e : ℕ) → Weighs (deal e) 1089
+weighs-deal : (e : ℕ) → Weighs (deal e) 1100
 unfolding deal
 weighs-deal e = weighs-via _ _ _ (weighs-then (weighs-column _ _) (weighs-then weighs-offer (weighs-then (weighs-negotiation e) (weighs-schedule e))))
 
-weighs-fields : (e : ℕ) → Weighs (fields e) 78287
+weighs-fields : (e : ℕ) → Weighs (fields e) 78991
 unfolding fields
 weighs-fields e = weighs-via _ _ _ (weighs-then (weighs-settings e) (weighs-then weighs-totals (weighs-then (weighs-rows weighs-account _ _) (weighs-then (weighs-rows weighs-invoice _ _) (weighs-rows (weighs-deal e) _ _)))))
 

@@ -35,7 +35,7 @@ writing b l =
 
 -- a full book's has so many bytes
 abbrev pub snapshotMost : ℕ
-snapshotMost = 78298
+snapshotMost = 79002
 
 -- what `write` ensures: the answer and the buffer; of a book that was written, that each number fits its field and each array is a table; and that a buffer which holds a full book's is
 -- never short

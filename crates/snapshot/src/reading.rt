@@ -308,29 +308,33 @@ fn read_negotiation(s: &[u8], c: Cursor, edition: u32) -> ReadNegotiation
     ReadNegotiation { row, c: d }
 }
 
-// The terms that a schedule keeps; zeros where the edition keeps none.
+// The terms that a schedule keeps and its kind; zeros where the edition has neither.
 struct ReadKept {
     amount: i64,
     rate: u32,
+    kind: u32,
     c: Cursor,
 }
 
 fn read_kept(s: &[u8], c: Cursor, edition: u32) -> ReadKept
-    ensures { λ r. ⌜ Takes (now (s .entry)) c (kept edition) (r .c) (r .amount, r .rate) ⌝ }
+    ensures { λ r. ⌜ Takes (now (s .entry)) c (kept edition) (r .c) (r .amount, (r .rate, r .kind)) ⌝ }
 {
     if !edition::keeps_terms(edition) {
         return ReadKept {
             amount: 0,
             rate: 0,
+            kind: terms::FLAT,
             c,
         };
     }
     let amount = codec::next(s, c, tags::KEPT_AMOUNT, codec::WHOLE);
     let rate = codec::next(s, amount, tags::KEPT_RATE, codec::HALF);
+    let kind = codec::next(s, rate, tags::KIND, codec::HALF);
     ReadKept {
         amount: money::of_bits(amount.x),
         rate: rate.x as u32,
-        c: rate,
+        kind: kind.x as u32,
+        c: kind,
     }
 }
 
@@ -354,7 +358,7 @@ fn read_schedule(s: &[u8], c: Cursor, edition: u32) -> ReadSchedule
         first: first.x,
         amount: k.amount,
         rate: k.rate,
-        kind: terms::FLAT,
+        kind: k.kind,
     };
     let d = k.c;
     ReadSchedule { row, c: d }

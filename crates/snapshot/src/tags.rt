@@ -83,6 +83,8 @@ pub(crate) const KEPT_AMOUNT: u8 = 0x9a;
 
 pub(crate) const KEPT_RATE: u8 = 0x9b;
 
+pub(crate) const KIND: u8 = 0x14;
+
 pub(crate) const PARTY: u8 = 0x98;
 
 pub(crate) const INSTALLMENT: u8 = 0x99;

@@ -138,13 +138,14 @@ fn put_negotiation(out: &mut [u8], pen: Pen, ink: bool, edition: u32, row: Negot
 
 fn put_kept(out: &mut [u8], pen: Pen, ink: bool, edition: u32, row: Schedule) -> Pen
     requires { ⌜ scheduleZero row || scheduleOk (keepsTerms edition) row ≡ true ⌝ }
-    ensures { λ r. ⌜ Puts ink (kept edition) (row .amount, row .rate) (now (out .entry)) pen (now (out .exit)) r ⌝ }
+    ensures { λ r. ⌜ Puts ink (kept edition) (row .amount, (row .rate, row .kind)) (now (out .entry)) pen (now (out .exit)) r ⌝ }
 {
     if !edition::keeps_terms(edition) {
         return pen;
     }
     let p = codec::put_signed(out, pen, ink, tags::KEPT_AMOUNT, row.amount);
-    codec::put_half(out, p, ink, tags::KEPT_RATE, row.rate)
+    let q = codec::put_half(out, p, ink, tags::KEPT_RATE, row.rate);
+    codec::put_half(out, q, ink, tags::KIND, row.kind)
 }
 
 fn put_schedule(out: &mut [u8], pen: Pen, ink: bool, edition: u32, row: Schedule) -> Pen

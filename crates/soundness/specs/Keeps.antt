@@ -107,7 +107,7 @@ module _ {m : Model} (s : ModelSound m) where
   keeps-offer o (withdraws a) = Deal.withdraw-keeps (offerIn m o) a
   keeps-offer o (rejects a) = Deal.reject-keeps (offerIn m o) a (paperOf m o)
   keeps-offer o (closes now a) = Deal.close-keeps (offerIn m o) now a (paperOf m o)
-  keeps-offer o (schedules now a k c d) = Deal.schedule-keeps (m .settings .edition) (offerIn m o) now a k c d (paperOf m o)
+  keeps-offer o (schedules now a n c d k) = Deal.schedule-keeps (m .settings .edition) (offerIn m o) now a n c d k (paperOf m o)
   keeps-offer o (marks a c) = Deal.status-update-keeps (offerIn m o) (isRepayer (m .settings) a) c
   keeps-offer o (repaid a x) = Deal.repaid-update-keeps (offerIn m o) (isRepayer (m .settings) a) x
 

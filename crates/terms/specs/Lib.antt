@@ -1,5 +1,6 @@
 pub mod Status
 pub mod Terms
+pub mod Kind
 pub mod Installment
 pub mod Schedule
 pub mod Due

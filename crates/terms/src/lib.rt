@@ -4,11 +4,12 @@ ghost use mathlib.Core.Path.{_≡_};
 ghost use mathlib.Core.Bool.{true};
 ghost use Prim.Native.Nat.{_<_, _≤_};
 ghost use Rattle.terms.specs.Terms.{termsOk, sameTerms, countOk};
+ghost use Rattle.terms.specs.Kind.{kindListed, firstOf};
 ghost use Rattle.terms.specs.Installment.{installmentOf, installmentSays};
 ghost use Rattle.terms.specs.Schedule.{periodListed, secondsOf, periodOf, periodSays, keepsOk, keepsNone, madeOf, scheduleIn, scheduleOk, scheduleNone, scheduleZero, installmentsOf};
 ghost use Rattle.installments.specs.Sums as Sums;
 ghost use Rattle.installments.specs.Flat.{partOf};
-ghost use Rattle.installments.specs.Arguments.{dueAs};
+ghost use Rattle.installments.specs.Arguments.{fallingOk, dueAs};
 ghost use Rattle.terms.specs.Due.{elapsedOf, dueOf, dueSays, dueArguments};
 
 // An amount in minor units, a rate in basis points and a duration in seconds.
@@ -30,20 +31,24 @@ pub struct Schedule {
     pub kind: u32,
 }
 
-// The one kind of schedule: installments that are alike but for the last, which carries what is left where the terms are kept.
+// The kinds of schedule: installments that are alike but for the last, which carries what is left where the terms are kept; and
+// such with interest on outstanding principal.
 pub const FLAT: u32 = 0;
+
+pub const FALLING: u32 = 1;
 
 impl Schedule {
     // The schedule of an offer's terms, which it keeps or not.
     pub fn made(
         kept: bool,
         t: Terms,
+        kind: u32,
         count: u32,
         code: u32,
         first: u64,
         installment: i64,
     ) -> Schedule
-        ensures { λ r. ⌜ r ≡ madeOf kept t count code first installment ⌝ }
+        ensures { λ r. ⌜ r ≡ madeOf kept t kind count code first installment ⌝ }
     {
         let mut s = Schedule {
             count,
@@ -52,7 +57,7 @@ impl Schedule {
             first,
             amount: 0,
             rate: 0,
-            kind: FLAT,
+            kind,
         };
         if kept {
             s.amount = t.amount;
@@ -98,29 +103,36 @@ pub fn code_listed(code: u32) -> bool
     (1 <= code) & (code <= 3)
 }
 
+// Whether there is such a kind: the flat one, and the falling one where the edition keeps a schedule's terms.
+pub fn kind_listed(kept: bool, kind: u64) -> bool
+    ensures { λ r. ⌜ r ≡ kindListed kept kind ⌝ }
+{
+    (kind == FLAT as u64) | (kept & (kind == FALLING as u64))
+}
+
 fn schedule_in(s: Schedule) -> bool
     ensures { λ r. ⌜ r ≡ scheduleIn s ⌝ }
 {
     let installment = money::in_installment_range(s.installment);
     let count = s.count;
     let code = s.code;
-    let kind = s.kind;
-    count_valid(count) & code_listed(code) & installment & (kind == FLAT)
+    count_valid(count) & code_listed(code) & installment
 }
 
-// The kept terms are in range, and the installment is theirs.
+// The kept terms are in range, there is such a kind, and the installment is the first of both.
 fn keeps_ok(s: Schedule) -> bool
-    requires { ⌜ 0 < s .count ⌝ }
+    requires { ⌜ countOk (s .count) ≡ true ⌝ }
     ensures { λ r. ⌜ r ≡ keepsOk s ⌝ }
 {
     let amount = money::in_amount_range(s.amount);
     let rate = s.rate;
-    let ranged = amount & (1 <= rate) & (rate <= 10000);
+    let kind = s.kind;
+    let ranged = amount & (1 <= rate) & (rate <= 10000) & kind_listed(true, kind as u64);
     if !ranged {
         return false;
     }
-    let part = part_of(money::magnitude(s.amount), s.rate, s.count);
-    money::same_amount(s.installment, part as i64)
+    let first = first_of(s.kind, money::magnitude(s.amount), s.rate, s.count);
+    money::same_amount(s.installment, first as i64)
 }
 
 fn keeps_none(s: Schedule) -> bool
@@ -128,7 +140,8 @@ fn keeps_none(s: Schedule) -> bool
 {
     let amount = money::is_zero(s.amount);
     let rate = s.rate;
-    amount & (rate == 0)
+    let kind = s.kind;
+    amount & (rate == 0) & (kind == FLAT)
 }
 
 // A schedule that was made, with the terms that it keeps or with none.
@@ -160,8 +173,7 @@ pub fn schedule_zero(s: Schedule) -> bool
 {
     let none = schedule_none(s);
     let unkept = keeps_none(s);
-    let kind = s.kind;
-    none & unkept & (kind == 0)
+    none & unkept
 }
 
 // A part of the amount with its part of the yield.
@@ -175,23 +187,31 @@ fn part_of(amount: u64, rate: u32, count: u32) -> u64
     part + part * rate as u64 / 10000
 }
 
+// The first installment of a kind.
+fn first_of(kind: u32, amount: u64, rate: u32, count: u32) -> u64
+    requires { ⌜ fallingOk amount rate count 0 0 ≡ true ⌝ }
+    ensures { λ r. ⌜ r ≡ firstOf kind amount rate count ⌝ }
+{
+    if kind == FALLING {
+        return installments::falling_first(amount, rate as u64, count as u64);
+    }
+    part_of(amount, rate, count)
+}
+
 pub enum InstallmentAnswer {
     Of(i64),
     Invalid,
 }
 
-// What one installment is: its part of the amount and of the yield.
-pub fn installment(t: Terms, count: u32) -> InstallmentAnswer
-    ensures { λ r. ⌜ installmentSays r ≡ installmentOf t count ⌝ }
+// What the first installment of a kind is: of a flat one its part of the amount and of the yield.
+pub fn installment(t: Terms, kind: u32, count: u32) -> InstallmentAnswer
+    ensures { λ r. ⌜ installmentSays r ≡ installmentOf t kind count ⌝ }
 {
-    if !terms_valid(t) {
+    if !(terms_valid(t) & count_valid(count) & kind_listed(true, kind as u64)) {
         return InstallmentAnswer::Invalid;
     }
-    if !count_valid(count) {
-        return InstallmentAnswer::Invalid;
-    }
-    let whole = part_of(money::magnitude(t.amount), t.rate, count);
-    InstallmentAnswer::Of(whole as i64)
+    let first = first_of(kind, money::magnitude(t.amount), t.rate, count);
+    InstallmentAnswer::Of(first as i64)
 }
 
 // 0 for a code that is not listed.
@@ -255,8 +275,13 @@ fn due_of(kept: bool, s: Schedule, elapsed: u64, repaid: u64) -> Due
     if !kept {
         return installments::even_due(count as u64, installment, elapsed, repaid);
     }
+    let amount = money::magnitude(s.amount);
     let rate = s.rate;
-    let total = installments::total(money::magnitude(s.amount), rate as u64);
+    let kind = s.kind;
+    if kind == FALLING {
+        return installments::falling_due(amount, rate as u64, count as u64, elapsed, repaid);
+    }
+    let total = installments::total(amount, rate as u64);
     installments::flat_due(count as u64, installment, total, elapsed, repaid)
 }
 

@@ -10,9 +10,10 @@ use Rattle.command.specs.declared.Command.{Command}
 use Rattle.command.specs.declared.Command.the-variants.{OpenAccount, Deposit, Payout, Approve, RegisterInvoice, CancelInvoice, CreateOffer, WithdrawOffer, AcceptOffer, RejectOffer, AmendOffer, CounterOffer, CloseNegotiation, ScheduleRepayment, UpdateStatus, UpdateRepaid, UpdateLenderRepaid, UpdateTotalsRepaid, Pause, Unpause, SetWindow, SetRepaymentAccount, SetBlacklisted, SetSeats}
 use Rattle.wire.specs.NumberLaws.{Bytes}
 use Rattle.journal.specs.Answers.{Reading, found, refused, ended}
-use Rattle.journal.specs.Table.{isNarrow, topOf, named, fieldsOf, madeIn, made, partsOf}
+use Rattle.journal.specs.Table.{isNarrow, topOf, named, fieldsOf, madeIn, made, partsIn as partsWith, partsOf}
 use Rattle.journal.specs.Format.{zeros, readAt, bytesFor}
-use Rattle.journal.specs.HeldLaws.{Tops, byTag}
+use Rattle.journal.specs.Held.{byTag}
+use Rattle.journal.specs.HeldLaws.{Tops}
 use Rattle.journal.specs.Faithful.{made-of}
 use Rattle.journal.specs.Canonical.{canonical}
 use Rattle.journal.specs.RoundTrip.{parts-back}
@@ -29,7 +30,7 @@ use Rattle.text.specs.LineWay.{Good, partsIn, pastIn, isItem}
 
 -- each command's tag has a name
 tag-word : (e : ℕ) (c : Command) → 0 < length (wordIn commands (partsOf e c .0))
-unfolding wordIn partsOf pick
+unfolding wordIn partsOf partsWith pick
 tag-word e (OpenAccount t c) = omega arith
 tag-word e (Deposit t c a) = omega arith
 tag-word e (Payout t c a) = omega arith
@@ -43,7 +44,7 @@ tag-word e (RejectOffer t c i) = omega arith
 tag-word e (AmendOffer t c i m r) = omega arith
 tag-word e (CounterOffer t c i m r) = omega arith
 tag-word e (CloseNegotiation t c i) = omega arith
-tag-word e (ScheduleRepayment t c i n k f) = omega arith
+tag-word e (ScheduleRepayment t c i n k f d) = omega arith
 tag-word e (UpdateStatus t c i k) = omega arith
 tag-word e (UpdateRepaid t c i a) = omega arith
 tag-word e (UpdateLenderRepaid t c i k) = omega arith

@@ -11,7 +11,8 @@ pub enum Question {
     Account(u64),
     /// In the order of the fields of `Lender`.
     Lender(u64),
-    /// How many installments an offer has, the code of their period, the amount of the first, when it is due; or no values.
+    /// How many installments an offer has, the code of their period, the amount of the first, when it is due, their kind; or no
+    /// values.
     Schedule(u64),
     /// When an offer's negotiation ends.
     Deadline(u64),

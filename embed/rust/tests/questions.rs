@@ -145,12 +145,22 @@ fn a_malformed_journal_answers_nothing() {
     assert_eq!(journal.answers(&[Question::Count]), Err(Refusal::Number(13)));
 }
 
-/// A book of an edition with an offer, its schedule of weekly installments from 1,000,000 on, and an amount repaid.
+/// A book of an edition with an offer, its flat schedule of weekly installments from 1,000,000 on, and an amount repaid.
 fn repaid(edition: u64, amount: u64, rate: u64, count: u64, repaid: u64) -> Journal {
+    let kind = if edition < 5 { "" } else { " 0" };
+    scheduled(edition, kind, [amount, rate, count, repaid])
+}
+
+/// The same with a falling one, in edition 5.
+fn falling(amount: u64, rate: u64, count: u64, repaid: u64) -> Journal {
+    scheduled(5, " 1", [amount, rate, count, repaid])
+}
+
+fn scheduled(edition: u64, kind: &str, [amount, rate, count, repaid]: [u64; 4]) -> Journal {
     let mut journal = Journal::of_edition(edition).expect("an edition that there is");
     let text = format!(
         "open-account 100 1\nopen-account 100 2\nregister 100 2 10 {amount}\ncreate 100 1 20 10 {amount} {rate} 86400 0\n\
-         schedule 100 1 20 {count} 1 1000000\nrepayment-account 100 1 1\nrepaid 100 1 20 {repaid}\n"
+         schedule 100 1 20 {count} 1 1000000{kind}\nrepayment-account 100 1 1\nrepaid 100 1 20 {repaid}\n"
     );
     journal.write(&text).expect("lines of commands");
     journal
@@ -178,6 +188,37 @@ fn document_01s_dues_in_each_edition() {
         for (paid, answer) in [698, 1049, 1050].into_iter().zip(last) {
             assert_eq!(due(&repaid(edition, 1000, 500, 3, paid), u64::MAX), answer, "edition {edition}, {paid}");
         }
+    }
+}
+
+#[test]
+fn interest_on_what_is_outstanding() {
+    // 333 + 16, 333 + 11, 334 + 5
+    for (paid, answer) in [
+        (0, "0 1 349\n"),
+        (348, "0 1 1\n"),
+        (349, "0 2 344\n"),
+        (692, "0 2 1\n"),
+        (693, "0 3 339\n"),
+        (1031, "0 3 1\n"),
+        (1032, "0 0 0\n"),
+    ] {
+        assert_eq!(due(&falling(1000, 500, 3, paid), u64::MAX), answer, "{paid}");
+    }
+    // 10^12 at 10,000 basis points in 1,200: 833,333,333 and as much interest at first
+    let largest = falling(1_000_000_000_000, 10_000, 1200, 0);
+    assert_eq!(largest.ask("schedule 20\n").as_deref(), Ok("0 1200 1 1666666666 1000000 1\n"));
+    assert_eq!(due(&falling(1_000_000_000_000, 10_000, 1200, 4_000_000_000_000_000), u64::MAX), "0 0 0\n");
+}
+
+#[test]
+fn a_schedule_of_each_kind_over_a_snapshot_and_back() {
+    for (kind, journal) in [(0, repaid(5, 1000, 500, 3, 349)), (1, falling(1000, 500, 3, 349))] {
+        let kept = journal.snapshot().expect("a whole journal");
+        let none = Journal::of_edition(5).expect("edition 5");
+        let told = kept.ask(&none, "schedule 20\ndue 20 18446744073709551615\n").expect("a sound snapshot");
+        assert_eq!(told, format!("0 3 1 349 1000000 {kind}\n0 2 {}\n", [349, 344][kind]));
+        assert_eq!(kept.then(&none), Ok(kept.clone()));
     }
 }
 

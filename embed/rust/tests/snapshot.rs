@@ -237,8 +237,8 @@ fn rounds(count: u64) -> String {
 
 #[test]
 fn sixteen_rounds_in_edition_4_and_twelve_before() {
-    // from edition 5 on a schedule has two fields more
-    for (edition, most, more) in [(1, 12, 0), (2, 12, 0), (3, 12, 0), (4, 16, 0), (5, 16, 2)] {
+    // from edition 5 on a schedule has three fields more
+    for (edition, most, more) in [(1, 12, 0), (2, 12, 0), (3, 12, 0), (4, 16, 0), (5, 16, 3)] {
         let kept = in_edition(edition, &rounds(most)).snapshot().expect("a whole journal");
         assert_eq!(kept.bytes().len(), FIELD * (14 + 2 * 8 + 4 + 17 + more + 5 * most as usize));
         let last = rounds(most + 1).lines().last().map(|line| format!("{line}\n")).expect("a round");

@@ -1,8 +1,8 @@
 //! Sound books that no journal makes: figures at the ends of their ranges, rows that do not fit
 //! each other. Every account that they name is opened, as the comparison's domain asks.
 
-use plain::edition::{keeps_terms, most_rounds};
-use plain::schedule::{installment, sums};
+use plain::edition::{has_kinds, keeps_terms, most_rounds};
+use plain::schedule::{first_installment, sums, FALLING, FLAT};
 use side::{Account, Book, Invoice, Offer, Round, Schedule, Totals};
 
 use crate::chance::Chance;
@@ -142,15 +142,15 @@ fn offer(chance: &mut Chance, id: u64, accounts: &[u64], invoices: &[u64], editi
         schedule: chance.percent(50).then(|| schedule(chance)),
     };
     if keeps_terms(edition) {
-        with_terms(chance, offer)
+        with_terms(chance, offer, edition)
     } else {
         offer
     }
 }
 
-/// The schedule keeps some terms and has their installment; the amount repaid is mostly about one of its
-/// sums.
-fn with_terms(chance: &mut Chance, mut offer: Offer) -> Offer {
+/// The schedule keeps some terms, is of some kind and has its first installment; the amount repaid is mostly
+/// about one of its sums.
+fn with_terms(chance: &mut Chance, mut offer: Offer, edition: u64) -> Offer {
     let Some(row) = &mut offer.schedule else { return offer };
     let least = row.count;
     let amount = match chance.below(3) {
@@ -158,11 +158,11 @@ fn with_terms(chance: &mut Chance, mut offer: Offer) -> Offer {
         _ => offered(chance).max(least as i64),
     };
     (row.amount, row.rate) = (amount, chance.pick(&[1, 500, 9_999, 10_000]));
-    row.installment = installment(row.amount, row.count, row.rate);
+    row.kind = if has_kinds(edition) { chance.pick(&[FLAT, FALLING]) } else { FLAT };
+    row.installment = first_installment(row.kind, row.amount, row.count, row.rate);
     if chance.percent(70) {
         let number = chance.pick(&[1, row.count.div_ceil(2), row.count]);
-        let sum = sums(row).nth(number as usize - 1).unwrap_or(0);
-        offer.repaid = sum - 1 + chance.below(3) as i64;
+        offer.repaid = sums(row)[number as usize - 1] - 1 + chance.below(3) as i64;
     }
     offer
 }

@@ -16,7 +16,7 @@ const USAGE: &str = "usage:
       runs N commands (200000) of edition E (1) from seed S (1) on the original, in a later edition
       on the plain model, and on the proved book, which the command in the variable
       SOLGAVERNA_BRIDGE serves, and compares after each the answer, the whole book and queries;
-      with --side plain on the plain model in its place. K from 1 to 11 plants a slip in that, by
+      with --side plain on the plain model in its place. K from 1 to 15 plants a slip in that, by
       default in the first edition in which it shows, which must then be found
   harness snapshots [--side plain] [--one-in N]
       damages four snapshots at every byte, one damage in N (1), and compares what the plain reader

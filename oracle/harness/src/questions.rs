@@ -1,7 +1,9 @@
 //! Which queries are asked after a command. They follow from the book and the command alone, so
 //! that a journal that is cut down is asked the same.
 
-use side::{Book, Offer, Query};
+use plain::edition::keeps_terms;
+use plain::schedule::paid_by_sums;
+use side::{Book, Offer, Query, Schedule};
 
 /// Rows of each table about which everything is asked; of a longer table a few are taken in turn.
 const ASKED: usize = 6;
@@ -12,7 +14,7 @@ const ABSENT: u64 = 0x00AB_5E17;
 pub fn questions(book: &Book, now: u64, turn: usize, out: &mut Vec<Query>) {
     out.clear();
     for offer in taken(&book.offers, turn) {
-        about_offer(offer, now, out);
+        about_offer(offer, book.edition, now, out);
     }
     for account in taken(&book.accounts, turn) {
         about_lender(account.id, out);
@@ -55,7 +57,16 @@ fn about_absent(now: u64, out: &mut Vec<Query>) {
     about_lender(ABSENT, out);
 }
 
-fn about_offer(offer: &Offer, now: u64, out: &mut Vec<Query>) {
+/// How many installments are paid: by the sums, or by the quotient in an edition before them.
+pub fn paid(schedule: &Schedule, repaid: i64, edition: u64) -> u64 {
+    if keeps_terms(edition) {
+        paid_by_sums(schedule, repaid)
+    } else {
+        (repaid / schedule.installment) as u64
+    }
+}
+
+fn about_offer(offer: &Offer, edition: u64, now: u64, out: &mut Vec<Query>) {
     let id = offer.id;
     out.extend([Query::Offer(id), Query::Schedule(id), Query::Negotiation(id)]);
     let deadline = offer.deadline;
@@ -65,7 +76,7 @@ fn about_offer(offer: &Offer, now: u64, out: &mut Vec<Query>) {
     out.extend([Query::Due(id, now), Query::Due(id, u64::MAX)]);
     let Some(schedule) = &offer.schedule else { return };
     let period = [604_800, 1_209_600, 2_592_000][schedule.code as usize - 1];
-    let paid = (offer.repaid / schedule.installment) as u64;
+    let paid = paid(schedule, offer.repaid, edition);
     let after =
         |periods: u64| schedule.first.saturating_add(period.min(u64::MAX / 2_000) * periods);
     for periods in [0, 1, paid.min(1_200), schedule.count - 1, schedule.count] {

@@ -272,6 +272,148 @@ fn a_book_with_other_terms_in_a_schedule_is_unsound() {
     }
 }
 
+/// The answer to a schedule of offer 20, which is of 1000 at 500, with these last fields.
+fn scheduled(edition: u64, fields: &str) -> u64 {
+    let line = format!("schedule {fields} : 0");
+    last(edition, None, &["use base\n", &line].concat())
+}
+
+#[test]
+fn an_unknown_kind_is_refused_before_the_offer() {
+    let good = "caller=1 id=20 count=3 code=1 first=200";
+    assert_eq!([0, 1].map(|kind| scheduled(5, &format!("{good} kind={kind}"))), [0, 0]);
+    for kind in [2, 3, 1 << 32, (1 << 32) + 1, 1 << 63, u64::MAX] {
+        for (rest, otherwise) in [
+            (good, 0),
+            ("caller=1 id=99 count=3 code=1 first=200", 4),
+            ("caller=3 id=20 count=3 code=1 first=200", 6),
+            ("caller=1 id=20 count=0 code=1 first=200", 3),
+            ("caller=1 id=20 count=3 code=1 first=100", 3),
+            ("caller=1 id=20 count=3 code=4 first=200", 3),
+            ("caller=1 id=20 count=1001 code=1 first=200", 3),
+        ] {
+            assert_eq!(scheduled(5, &format!("{rest} kind={kind}")), 3, "{rest} {kind}");
+            assert_eq!(scheduled(5, &format!("{rest} kind=1")), otherwise, "{rest}");
+        }
+        let unopened = format!("caller=9 id=20 count=3 code=1 first=200 kind={kind}");
+        assert_eq!(scheduled(5, &unopened), 4);
+        let paused = format!("use base\npause : 0\nschedule {good} kind={kind} : 0");
+        assert_eq!(last(5, None, &paused), 1);
+    }
+}
+
+/// Each installment of a falling schedule repays one at least, as one of a flat schedule does.
+#[test]
+fn a_falling_schedule_repays_one_an_installment_at_least() {
+    for kind in [0, 1] {
+        let count = |count| {
+            scheduled(5, &format!("caller=2 id=20 count={count} code=1 first=200 kind={kind}"))
+        };
+        assert_eq!([1, 999, 1_000, 1_001, 1_200].map(count), [0, 0, 0, 3, 3], "{kind}");
+    }
+}
+
+/// A record of a schedule with a kind is one of edition 5, and one without it is of an earlier edition.
+#[test]
+fn a_schedules_kind_is_a_field_of_edition_5() {
+    let line = "schedule caller=1 id=20 count=3 code=1 first=200 kind=1 : 0";
+    let (command, _) = steps(line)[0];
+    for edition in 1..=LATEST {
+        for of in 1..=LATEST {
+            let mut record = Vec::new();
+            journal::write(of, &command, &mut record);
+            let fits = (of >= 5) == (edition >= 5);
+            for mut side in sides() {
+                side.reset(edition);
+                let answer = side.apply(&record);
+                assert_eq!(answer, if fits { 4 } else { 13 }, "{edition} {of}: {}", side.name());
+                let bytes = [journal::header(edition).as_slice(), &record].concat();
+                let listing = String::from_utf8(side.listing(&bytes)).unwrap();
+                let line = if fits { "1 4\n" } else { "1 13 5\n" };
+                let expected = format!("edition {edition}\n{line}totals 0 0 0\n");
+                assert_eq!(listing, expected, "{edition} {of}: {}", side.name());
+            }
+        }
+    }
+}
+
+/// Offer 20 with a schedule of a kind, and this much repaid.
+fn repaid_of(kind: u64, amount: u64) -> String {
+    repaid(amount).replace("first=1000000", &format!("first=1000000 kind={kind}"))
+}
+
+/// 349, 344 and 339 make 1032; what the flat schedule of the same terms owes stands beside it.
+#[test]
+fn a_falling_schedule_is_due_by_its_sums() {
+    for (amount, falling, flat) in [
+        (0, [1, 349], [1, 349]),
+        (348, [1, 1], [1, 1]),
+        (349, [2, 344], [2, 349]),
+        (692, [2, 1], [2, 6]),
+        (693, [3, 339], [2, 5]),
+        (698, [3, 334], [3, 352]),
+        (1_031, [3, 1], [3, 19]),
+        (1_032, [0, 0], [3, 18]),
+        (1_050, [0, 0], [0, 0]),
+        (4_000_000_000_000_000, [0, 0], [0, 0]),
+    ] {
+        for now in [2_209_600, u64::MAX] {
+            assert_eq!(due(5, &repaid_of(1, amount), now), falling, "{amount}");
+            assert_eq!(due(5, &repaid_of(0, amount), now), flat, "{amount}");
+        }
+        let early = due(5, &repaid_of(1, amount), 2_209_599);
+        assert_eq!(early, if amount < 693 { falling } else { [0, 0] }, "{amount}");
+        assert_eq!(due(5, &repaid_of(1, amount), 999_999), [0, 0], "{amount}");
+    }
+}
+
+/// The kind is the last of a schedule's five numbers, 0 in every earlier edition.
+#[test]
+fn a_schedule_says_its_kind() {
+    for (edition, kind) in [(1, 0), (2, 0), (3, 0), (4, 0), (5, 0), (5, 1)] {
+        for mut side in sides() {
+            side.reset(edition);
+            for (command, _) in steps(&repaid_of(kind, 0)) {
+                let mut record = Vec::new();
+                journal::write(edition, &command, &mut record);
+                assert_eq!(side.apply(&record), 0, "{command}");
+            }
+            let mut numbers = [9; 6];
+            let reply = side.ask(Query::Schedule(20), &mut numbers);
+            assert_eq!((reply.number, reply.written), (0, 5), "{}", side.name());
+            assert_eq!(numbers, [3, 1, 349, 1_000_000, kind, 9], "{}", side.name());
+        }
+    }
+}
+
+/// 5 at 7500 in three: the first installment is 1 of a flat schedule, 2 of a falling one.
+#[test]
+fn a_book_with_another_kind_of_schedule_is_unsound() {
+    let opens = |edition, count, amount, installment, kind| {
+        let mut book = without_invoice();
+        let schedule =
+            Schedule { count, code: 1, installment, first: 1, amount, rate: 7_500, kind };
+        let kept = if edition < 5 { Schedule { amount: 0, rate: 0, ..schedule } } else { schedule };
+        book.offers[0].schedule = Some(kept);
+        last(edition, Some(&book), "open caller=3 : 0")
+    };
+    for edition in 1..=LATEST {
+        let falls = if edition < 5 { 15 } else { 0 };
+        assert_eq!(opens(edition, 3, 5, 1, 0), 0, "{edition}");
+        assert_eq!(opens(edition, 3, 5, 2, 1), falls, "{edition}");
+        for kind in [2, 3] {
+            assert_eq!(opens(edition, 3, 5, 1, kind), 15, "{edition}");
+            assert_eq!(opens(edition, 3, 5, 2, kind), 15, "{edition}");
+        }
+    }
+    for (count, amount, installment, kind) in
+        [(3, 5, 2, 0), (3, 5, 1, 1), (3, 5, 3, 1), (3, 2, 1, 1), (3, 2, 0, 1), (1_200, 1_199, 1, 1)]
+    {
+        assert_eq!(opens(5, count, amount, installment, kind), 15, "{count} {amount} {kind}");
+    }
+    assert_eq!([opens(5, 3, 3, 1, 1), opens(5, 1_200, 1_200, 1, 1)], [0, 0]);
+}
+
 #[test]
 fn a_fresh_book_says_its_edition() {
     for edition in 1..=LATEST {

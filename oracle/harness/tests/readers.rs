@@ -5,7 +5,7 @@ use harness::snapshots::{compare_damaged, compare_samples, samples};
 use harness::snapshots::{unsound_alike, without_edition, written_alike};
 use journal::LATEST;
 use plain::edition::{fresh, keeps_terms};
-use plain::schedule::installment;
+use plain::schedule::{first_installment, FALLING, FLAT};
 use plain::snapshot::{examine, read, write, write_within, Refusal};
 use plain::Plain;
 use side::{Book, Query, Refused, Reply, Side};
@@ -190,13 +190,14 @@ fn absent_schedules_are_not_tested(plain: &mut Plain, bytes: &[u8]) -> Result<()
     plain.restore(&zeros)
 }
 
-/// The bytes with the installment that follows from the last schedule's kept terms.
+/// The bytes with the installment that follows from the last schedule's kept terms and kind.
 fn with_its_installment(bytes: &[u8]) -> Option<Vec<u8>> {
-    let [count, stored, amount, rate] = [0x0A, 0x99, 0x9A, 0x9B].map(|tag| last_field(bytes, tag));
-    let (place, (amount, rate)) = (stored?.0, (amount?.1, rate?.1));
+    let tags = [0x0A, 0x99, 0x9A, 0x9B, 0x14];
+    let [count, stored, amount, rate, kind] = tags.map(|tag| last_field(bytes, tag));
+    let (place, (amount, rate), kind) = (stored?.0, (amount?.1, rate?.1), kind?.1);
     let count = count.filter(|(_, count)| *count > 0 && rate < 1 << 32)?.1;
     let mut bytes = bytes.to_vec();
-    let fits = installment(amount as i64, count, rate) as u64;
+    let fits = first_installment(kind, amount as i64, count, rate) as u64;
     bytes[place + 3..place + 11].copy_from_slice(&fits.to_be_bytes());
     Some(bytes)
 }
@@ -209,12 +210,48 @@ fn installments_are_free(plain: &mut Plain, bytes: &[u8]) -> Result<(), Refused>
     })
 }
 
-fn kept_rates_are_cut_to_32_bits(plain: &mut Plain, bytes: &[u8]) -> Result<(), Refused> {
+/// The bytes with the last field of this tag cut to its last so many bytes.
+fn cut_to(bytes: &[u8], tag: u8, width: usize) -> Vec<u8> {
     let mut bytes = bytes.to_vec();
-    if let Some((place, _)) = last_field(&bytes, 0x9B) {
-        bytes[place + 3..place + 7].fill(0);
+    if let Some((place, _)) = last_field(&bytes, tag) {
+        bytes[place + 3..place + 11 - width].fill(0);
+    }
+    bytes
+}
+
+fn kept_rates_are_cut_to_32_bits(plain: &mut Plain, bytes: &[u8]) -> Result<(), Refused> {
+    plain.restore(&cut_to(bytes, 0x9B, 4))
+}
+
+fn kinds_are_cut_to_32_bits(plain: &mut Plain, bytes: &[u8]) -> Result<(), Refused> {
+    plain.restore(&cut_to(bytes, 0x14, 4))
+}
+
+/// Every number but 0 is taken for the falling kind.
+fn kinds_are_flags(plain: &mut Plain, bytes: &[u8]) -> Result<(), Refused> {
+    let mut bytes = bytes.to_vec();
+    if let Some((place, 1..)) = last_field(&bytes, 0x14) {
+        bytes[place + 3..place + 11].copy_from_slice(&FALLING.to_be_bytes());
     }
     plain.restore(&bytes)
+}
+
+/// The kind is read, and every schedule is a flat one.
+fn kinds_are_dropped(plain: &mut Plain, bytes: &[u8]) -> Result<(), Refused> {
+    plain.restore(bytes)?;
+    let (mut book, mut flat) = (plain.book().clone(), Vec::new());
+    book.offers.iter_mut().filter_map(|row| row.schedule.as_mut()).for_each(|row| row.kind = FLAT);
+    book.flat(&mut flat);
+    plain.load(&flat);
+    Ok(())
+}
+
+/// A last schedule without its kind is a flat one.
+fn a_kind_may_be_missing(plain: &mut Plain, bytes: &[u8]) -> Result<(), Refused> {
+    plain.restore(bytes).or_else(|refused| {
+        let kind = [[0x14, 0, 8].as_slice(), &FLAT.to_be_bytes()].concat();
+        plain.restore(&[bytes, &kind].concat()).map_err(|_| refused)
+    })
 }
 
 /// A schedule's terms are read, and the offer's are kept in their place.
@@ -240,7 +277,7 @@ fn idle_accounts_are_dropped(plain: &mut Plain, bytes: &[u8]) -> Result<(), Refu
 
 #[test]
 fn every_mistake_in_a_reader_is_found() {
-    let mistakes: [Reader; 17] = [
+    let mistakes: [Reader; 21] = [
         offset_of_the_number,
         bytes_after_the_end_are_taken,
         counts_are_seen_late,
@@ -258,6 +295,10 @@ fn every_mistake_in_a_reader_is_found() {
         installments_are_free,
         kept_rates_are_cut_to_32_bits,
         the_offers_terms_are_kept,
+        kinds_are_cut_to_32_bits,
+        kinds_are_flags,
+        kinds_are_dropped,
+        a_kind_may_be_missing,
     ];
     for (number, mistake) in mistakes.into_iter().enumerate() {
         let found =

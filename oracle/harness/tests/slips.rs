@@ -12,7 +12,8 @@ fn every_planted_slip_is_found() {
         let most = match slip {
             Slip::TwelveRounds | Slip::SixteenRounds => 17,
             Slip::AnyCounter | Slip::DefaultedActive => 7,
-            Slip::CentsLeft | Slip::PresentTerms => 9,
+            Slip::CentsLeft | Slip::PresentTerms | Slip::RestKept | Slip::InterestStays => 9,
+            Slip::KindLate | Slip::KindCut => 5,
             Slip::DeadlineMoves | Slip::AmountLate => 6,
             Slip::RoundStays | Slip::WithdrawLowers | Slip::AmountReached => 5,
         };

@@ -41,7 +41,7 @@ fn cases(name: &str) -> PathBuf {
 }
 
 /// The latest edition that has stored journals of an independent reading.
-const STORED: u64 = 4;
+const STORED: u64 = 5;
 
 /// The stored journals of an edition, each with its name.
 fn stored(edition: u64) -> Vec<(String, Vec<u8>)> {
@@ -289,8 +289,8 @@ fn a_snapshot_from_before_is_of_edition_3() {
 }
 
 /// The stored snapshots were made by hand: of the session's first part in each edition, of twelve
-/// counters after it, the last of which edition 3 refuses, and in edition 5 of a schedule, an amendment
-/// and an amount repaid after it.
+/// counters after it, the last of which edition 3 refuses, and in edition 5 of a schedule of either kind, an
+/// amendment and an amount repaid after it.
 #[test]
 fn the_stored_snapshots_are_written() {
     let stored = |name: String| fs::read(cases(&format!("snapshot/{name}"))).unwrap();
@@ -310,45 +310,59 @@ fn the_stored_snapshots_are_written() {
             assert!(kept.is_none_or(|kept| side.snapshot(WIDE) == Ok(kept)), "{edition}");
         }
     }
-    for side in &mut sides {
-        side.restore(&stored("edition-5.snapshot".into())).unwrap();
-        let listing = listing_of(5, side.listing_from(&stored("kept.bytes".into())));
-        assert_eq!(listing.answers, [0; 4], "{}", side.name());
-        assert!(side.snapshot(WIDE).unwrap() == stored("kept.snapshot".into()), "{}", side.name());
+    for name in ["kept", "falling"] {
+        let (records, after) =
+            (stored(format!("{name}.bytes")), stored(format!("{name}.snapshot")));
+        for side in &mut sides {
+            side.restore(&stored("edition-5.snapshot".into())).unwrap();
+            let listing = listing_of(5, side.listing_from(&records));
+            assert_eq!(listing.answers, [0; 4], "{name}: {}", side.name());
+            assert!(side.snapshot(WIDE).unwrap() == after, "{name}: {}", side.name());
+        }
     }
 }
 
 /// The terms are those of when the schedule was made, though the offer was amended since; the offer with
-/// the greater id has no schedule, which is six zeros.
+/// the greater id has no schedule, which is seven zeros. Of 1000 at 500 in three the first installment is the
+/// same for each kind: with 693 repaid, 5 are owed on the second of a flat schedule, and of a falling one 339
+/// on the third.
 #[test]
 fn a_snapshot_keeps_the_terms_of_a_schedule() {
-    let text = "use base
+    for (kind, due) in [(0, [2, 5]), (1, [3, 339])] {
+        for mut side in sides() {
+            keeps_terms(&mut *side, kind, due);
+        }
+    }
+}
+
+fn keeps_terms(side: &mut dyn Side, kind: u64, due: [u64; 2]) {
+    let text = format!(
+        "use base
         create caller=1 id=21 invoice=10 amount=1000 : 0
-        schedule caller=1 id=20 count=3 code=1 first=1000000 : 0
+        schedule caller=1 id=20 count=3 code=1 first=1000000 kind={kind} : 0
         amend caller=1 id=20 amount=900 rate=7 round=0 : 0
         repayment-account id=3 : 0
-        repaid caller=3 id=20 amount=698 : 0";
-    for mut side in sides() {
-        side.reset(5);
-        for (command, _) in steps(text) {
-            let mut record = Vec::new();
-            journal::write(5, &command, &mut record);
-            assert_eq!(side.apply(&record), 0, "{command}");
-        }
-        let (flat, bytes) = (side.flat(), side.snapshot(WIDE).unwrap());
-        let number =
-            |tag: u8, number: u64| [[tag, 0, 8].as_slice(), &number.to_be_bytes()].concat();
-        let kept = [number(0x0C, 1_000_000), number(0x9A, 1_000), number(0x9B, 500)].concat();
-        let none = [0x0A, 0x0B, 0x99, 0x0C, 0x9A, 0x9B].map(|tag| number(tag, 0)).concat();
-        assert!(bytes.windows(33).any(|fields| fields == kept), "{}", side.name());
-        assert!(bytes.ends_with(&none), "{}", side.name());
-        side.reset(1);
-        side.restore(&bytes).unwrap();
-        assert_eq!(side.flat(), flat, "{}", side.name());
-        let mut due = [9; 2];
-        side.ask(Query::Due(20, u64::MAX), &mut due);
-        assert_eq!(due, [3, 352], "{}", side.name());
+        repaid caller=3 id=20 amount=693 : 0"
+    );
+    side.reset(5);
+    for (command, _) in steps(&text) {
+        let mut record = Vec::new();
+        journal::write(5, &command, &mut record);
+        assert_eq!(side.apply(&record), 0, "{command}");
     }
+    let (flat, bytes) = (side.flat(), side.snapshot(WIDE).unwrap());
+    let number = |tag: u8, number: u64| [[tag, 0, 8].as_slice(), &number.to_be_bytes()].concat();
+    let kept = [(0x0C, 1_000_000), (0x9A, 1_000), (0x9B, 500), (0x14, kind)];
+    let kept = kept.map(|(tag, held)| number(tag, held)).concat();
+    let none = [0x0A, 0x0B, 0x99, 0x0C, 0x9A, 0x9B, 0x14].map(|tag| number(tag, 0)).concat();
+    assert!(bytes.windows(kept.len()).any(|fields| fields == kept), "{}", side.name());
+    assert!(bytes.ends_with(&none), "{}", side.name());
+    side.reset(1);
+    side.restore(&bytes).unwrap();
+    assert_eq!(side.flat(), flat, "{}", side.name());
+    let mut answer = [9; 2];
+    side.ask(Query::Due(20, u64::MAX), &mut answer);
+    assert_eq!(answer, due, "{}", side.name());
 }
 
 /// 13 at 0 for an edition that there is not, before anything behind it.

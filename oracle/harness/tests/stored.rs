@@ -7,7 +7,7 @@ use std::path::{Path, PathBuf};
 use harness::reference::Reference;
 
 /// The latest edition that has stored journals of an independent reading.
-const STORED: u64 = 4;
+const STORED: u64 = 5;
 
 /// Who reads a journal.
 type Reader = fn(&[u8]) -> Reference;

@@ -78,7 +78,7 @@ commands! {
     0x35 "amend" AmendOffer { now caller id amount rate duration round }
     0x36 "counter" CounterOffer { now caller id amount rate duration round }
     0x37 "close" CloseNegotiation { now caller id }
-    0x38 "schedule" ScheduleRepayment { now caller id count code first }
+    0x38 "schedule" ScheduleRepayment { now caller id count code first kind }
     0x41 "status" UpdateStatus { now caller id code }
     0x42 "repaid" UpdateRepaid { now caller id amount }
     0x43 "lender-repaid" UpdateLenderRepaid { now caller id code }

@@ -114,15 +114,18 @@ macro_rules! tag_of {
     (next) => {
         0x12
     };
+    (kind) => {
+        0x14
+    };
 }
 
 pub(crate) use {tag_of, type_of};
 
 /// Field tags lie below this.
-pub const TAGS: usize = 0x13;
+pub const TAGS: usize = 0x15;
 
 /// Every field tag with its name.
-pub const FIELDS: [(u8, &str); 17] = [
+pub const FIELDS: [(u8, &str); 18] = [
     (tag_of!(now), "now"),
     (tag_of!(caller), "caller"),
     (tag_of!(id), "id"),
@@ -140,6 +143,7 @@ pub const FIELDS: [(u8, &str); 17] = [
     (tag_of!(fee), "fee"),
     (tag_of!(window), "window"),
     (tag_of!(next), "next"),
+    (tag_of!(kind), "kind"),
 ];
 
 /// Tags of the fields whose number fits 32 bits.

@@ -141,6 +141,36 @@ mod test {
         }
     }
 
+    /// A schedule's kind stands last, is of any size, and is there from edition 5 on.
+    #[test]
+    fn a_schedule_has_a_kind_from_edition_5_on() {
+        let record_of = |fields: &[(u8, u64)]| {
+            let (mut inside, mut record) = (Vec::new(), Vec::new());
+            fields
+                .iter()
+                .for_each(|(tag, number)| crate::field(*tag, &number.to_be_bytes(), &mut inside));
+            crate::field(0x38, &inside, &mut record);
+            record
+        };
+        let bare = [(0x01, 100), (0x02, 1), (0x03, 20), (0x0A, 3), (0x0B, 1), (0x0C, 200)];
+        for kind in [0, 1, 2, 1 << 32, u64::MAX] {
+            let kinded = record_of(&[bare.as_slice(), &[(0x14, kind)]].concat());
+            for edition in 1..=LATEST {
+                let since = edition >= 5;
+                let step = |kind, next| {
+                    let (now, caller, id, count, code, first) = (100, 1, 20, 3, 1, 200);
+                    let command =
+                        Command::ScheduleRepayment { now, caller, id, count, code, first, kind };
+                    Step::Command(command, next)
+                };
+                let [with, without] = [kinded.clone(), record_of(&bare)];
+                let read = |record: &[u8]| read(edition, record, 0);
+                assert_eq!(read(&with), if since { step(kind, 80) } else { Step::Malformed });
+                assert_eq!(read(&without), if since { Step::Malformed } else { step(0, 69) });
+            }
+        }
+    }
+
     #[test]
     fn thirty_two_bits_are_the_most_where_document_01_says_so() {
         let edition = LATEST;

@@ -7,7 +7,7 @@ use side::{Query, Reply};
 use soroban_sdk::{Address, Env, Vec as Rows};
 
 use crate::calls::symbol;
-use crate::state::{round_numbers, schedule_numbers, seat_bits, ten, totals_numbers};
+use crate::state::{round_numbers, schedule_numbers, seat_bits, ten, totals_numbers, ONLY_KIND};
 use crate::{refused, Original, Verdict};
 
 type Answer = soroban_sdk::Outcome<Vec<u64>>;
@@ -39,7 +39,8 @@ fn numbers(env: Env, query: Query) -> Answer {
         Query::Offer(id) => ten(&Contract::get_offer(env, symbol(id))).into(),
         Query::Schedule(id) => {
             let schedule = Contract::get_schedule(env, symbol(id));
-            schedule.map_or(Vec::new(), |schedule| schedule_numbers(&schedule).into())
+            let kinded = |numbers: [u64; 4]| [numbers.as_slice(), &[ONLY_KIND]].concat();
+            schedule.map_or(Vec::new(), |schedule| kinded(schedule_numbers(&schedule)))
         }
         Query::Negotiation(id) => negotiation(env, id),
         Query::Status(id, _) => vec![Contract::get_negotiation_status(env, symbol(id)) as u64],

@@ -45,7 +45,8 @@ pub(crate) fn schedule_numbers(schedule: &RepaymentSchedule) -> [u64; 4] {
 }
 
 /// The original's schedules keep no terms and have one kind.
-const NO_TERMS: [u64; 3] = [0; 3];
+const NO_TERMS: [u64; 2] = [0; 2];
+pub(crate) const ONLY_KIND: u64 = 0;
 
 pub(crate) fn round_numbers(round: &NegotiationRecord) -> [u64; 5] {
     let (party, amount) = (round.party as u64, round.amount as u64);
@@ -115,6 +116,7 @@ impl Original {
         out.push(Contract::get_negotiation_deadline(env(), offer.id));
         out.extend(schedule.map_or([0; 4], |schedule| schedule_numbers(&schedule)));
         out.extend(NO_TERMS);
+        out.push(ONLY_KIND);
         out.push(rounds.len().into());
         rounds.iter().for_each(|round| out.extend(round_numbers(&round)));
     }

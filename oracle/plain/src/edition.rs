@@ -39,6 +39,11 @@ pub fn keeps_terms(edition: u64) -> bool {
     edition >= 5
 }
 
+/// Whether there are kinds of schedules beside the flat one.
+pub fn has_kinds(edition: u64) -> bool {
+    edition >= 5
+}
+
 /// A fresh book.
 pub fn fresh(edition: u64) -> Book {
     Book { edition, window: fresh_window(edition), ..Book::fresh() }

@@ -64,10 +64,18 @@ pub enum Slip {
     CentsLeft,
     /// The last installment goes by the offer's present terms, not by those that are kept.
     PresentTerms,
+    /// A schedule's kind is tested last, where installment 0 is.
+    KindLate,
+    /// A schedule's kind is cut to 32 bits.
+    KindCut,
+    /// The last installment of a falling schedule repays no more principal than the others.
+    RestKept,
+    /// Every installment of a falling schedule has the first one's interest.
+    InterestStays,
 }
 
 /// Each with the first edition in which it shows.
-pub const SLIPS: [(Slip, u64); 11] = [
+pub const SLIPS: [(Slip, u64); 15] = [
     (Slip::AnyCounter, 1),
     (Slip::RoundStays, 1),
     (Slip::WithdrawLowers, 1),
@@ -79,6 +87,10 @@ pub const SLIPS: [(Slip, u64); 11] = [
     (Slip::SixteenRounds, 1),
     (Slip::CentsLeft, 5),
     (Slip::PresentTerms, 5),
+    (Slip::KindLate, 5),
+    (Slip::KindCut, 5),
+    (Slip::RestKept, 5),
+    (Slip::InterestStays, 5),
 ];
 
 pub struct Plain {
@@ -212,7 +224,7 @@ impl Side for Plain {
     }
 
     fn apply(&mut self, record: &[u8]) -> u64 {
-        match reading::one_record(record) {
+        match reading::one_record(self.book.edition, record) {
             Some(command) => self.run(&command),
             None => MALFORMED,
         }

@@ -9,7 +9,7 @@ use crate::negotiation::{
     add_round, countered, negotiable, offer_terms, status, CLOSED, EXPIRED, LENDER, NONE,
     ORIGINATOR, PENDING,
 };
-use crate::schedule::{installment, period};
+use crate::schedule::{first_installment, is_kind, period, principal, FALLING};
 use crate::settlement::INVOICE_PENDING;
 use crate::terms::{terms_valid, within_invoice, Terms};
 use crate::{test, Desk, Slip, Test};
@@ -49,9 +49,9 @@ impl Desk {
                 self.counter(now, caller, id, terms, round)
             }
             Command::CloseNegotiation { now, caller, id } => self.close(now, caller, id),
-            Command::ScheduleRepayment { now, caller, id, count, code, first } => {
-                let (count, code) = (count.into(), code.into());
-                let asked = Schedule { count, code, first, ..Schedule::default() };
+            Command::ScheduleRepayment { now, caller, id, count, code, first, kind } => {
+                let (count, code, kind) = (count.into(), code.into(), self.kind_of(kind));
+                let asked = Schedule { count, code, first, kind, ..Schedule::default() };
                 self.schedule(now, caller, id, asked)
             }
             _ => unreachable!("a command on offers"),
@@ -211,6 +211,7 @@ impl Desk {
     fn schedule(&mut self, now: u64, caller: u64, id: u64, asked: Schedule) -> Test {
         self.party(caller)?;
         test((1..=1200).contains(&asked.count), 3)?;
+        test(is_kind(asked.kind) || self.slips(Slip::KindLate), 3)?;
         test(asked.first > now, 3)?;
         test(period(asked.code).is_some(), 3)?;
         let index = self.offer(id)?;
@@ -219,12 +220,23 @@ impl Desk {
         let invoice = self.invoice(offer.invoice)?;
         let originator = self.book.invoices[invoice].originator;
         test(caller == offer.lender || caller == originator, 6)?;
-        let installment = installment(offer.amount, asked.count, offer.rate);
+        test(is_kind(asked.kind), 3)?;
+        let Schedule { count, kind, .. } = asked;
+        let installment = first_installment(kind, offer.amount, count, offer.rate);
         test(installment != 0, 3)?;
+        test(kind != FALLING || principal(offer.amount, count) != 0, 3)?;
         let kept = keeps_terms(self.book.edition).then_some((offer.amount, offer.rate));
         let (amount, rate) = kept.unwrap_or_default();
         let schedule = Schedule { installment, amount, rate, ..asked };
         self.book.offers[index].schedule = Some(schedule);
         Ok(())
+    }
+
+    fn kind_of(&self, kind: u64) -> u64 {
+        if self.slips(Slip::KindCut) {
+            kind & 0xFFFF_FFFF
+        } else {
+            kind
+        }
     }
 }

@@ -4,7 +4,9 @@ use side::{Book, Offer, Query, Schedule};
 
 use crate::edition::keeps_terms;
 use crate::negotiation::{status, PENDING};
-use crate::schedule::{due_by_quotient, due_by_sums, Due};
+use crate::schedule::{
+    due_by_quotient, due_by_sums, due_on, installments, principal, Due, FALLING,
+};
 use crate::{test, Slip, Test};
 
 pub fn answer(book: &Book, query: Query, slip: Option<Slip>) -> Test<Vec<u64>> {
@@ -60,7 +62,7 @@ fn page(book: &Book, offset: u64, limit: u64) -> Vec<u64> {
 
 fn schedule(offer: &Offer) -> Vec<u64> {
     let row = offer.schedule.iter();
-    row.flat_map(|row| [row.count, row.code, row.installment as u64, row.first]).collect()
+    row.flat_map(|row| [row.count, row.code, row.installment as u64, row.first, row.kind]).collect()
 }
 
 fn negotiation(offer: &Offer) -> Vec<u64> {
@@ -83,9 +85,24 @@ fn due_of(offer: &Offer, now: u64, keeps: bool, slip: Option<Slip>) -> Due {
             let row = Schedule { amount: offer.amount, rate: offer.rate, ..row };
             due_by_sums(&row, now, offer.repaid)
         }
+        Some(Slip::RestKept | Slip::InterestStays) if row.kind == FALLING => {
+            due_on(&row, now, offer.repaid, &slipped(&row, slip))
+        }
         _ if keeps && slip != Some(Slip::CentsLeft) => due_by_sums(&row, now, offer.repaid),
         _ => due_by_quotient(&row, now, offer.repaid),
     }
+}
+
+/// The installments of a falling schedule as two of the slips have them.
+fn slipped(row: &Schedule, slip: Option<Slip>) -> Vec<i64> {
+    let (mut list, usual) = (installments(row), principal(row.amount, row.count));
+    let others = row.count as usize - 1;
+    let rest = row.amount - others as i64 * usual;
+    if slip == Some(Slip::RestKept) {
+        list[others] -= rest - usual;
+        return list;
+    }
+    [vec![row.installment; others], vec![row.installment - usual + rest]].concat()
 }
 
 fn active_total(book: &Book, lender: u64, slip: Option<Slip>) -> u64 {

@@ -4,6 +4,7 @@
 use journal::Command;
 use side::{Book, Side};
 
+use crate::schedule::FLAT;
 use crate::{edition, Plain};
 
 /// A field: a one-byte tag, a two-byte big-endian length and its bytes.
@@ -66,7 +67,7 @@ macro_rules! fields {
     }};
 }
 
-fn command(record: &Field) -> Option<Command> {
+fn command(edition: u64, record: &Field) -> Option<Command> {
     let (tag, f) = (record.tag, &inside(record.bytes)?);
     Some(match tag {
         0x21 => fields!(tag, f, [] => |now, caller, []| Command::OpenAccount { now, caller }),
@@ -112,9 +113,14 @@ fn command(record: &Field) -> Option<Command> {
         0x37 => fields!(tag, f, [3] => |now, caller, [id]| {
             Command::CloseNegotiation { now, caller, id }
         }),
-        0x38 => fields!(tag, f, [3, 0x0A, 0x0B, 0x0C] => |now, caller, [id, count, code, first]| {
+        0x38 if edition::has_kinds(edition) => fields!(tag, f, [3, 0x0A, 0x0B, 0x0C, 0x14] =>
+        |now, caller, [id, count, code, first, kind]| {
             let (count, code) = (count as u32, code as u32);
-            Command::ScheduleRepayment { now, caller, id, count, code, first }
+            Command::ScheduleRepayment { now, caller, id, count, code, first, kind }
+        }),
+        0x38 => fields!(tag, f, [3, 0x0A, 0x0B, 0x0C] => |now, caller, [id, count, code, first]| {
+            let (count, code, kind) = (count as u32, code as u32, FLAT);
+            Command::ScheduleRepayment { now, caller, id, count, code, first, kind }
         }),
         0x41 => fields!(tag, f, [3, 0x0B] => |now, caller, [id, code]| {
             Command::UpdateStatus { now, caller, id, code: code as u32 }
@@ -146,10 +152,10 @@ fn command(record: &Field) -> Option<Command> {
     })
 }
 
-/// The command of bytes that are exactly one record.
-pub fn one_record(bytes: &[u8]) -> Option<Command> {
+/// The command of bytes that are exactly one record of an edition.
+pub fn one_record(edition: u64, bytes: &[u8]) -> Option<Command> {
     let record = field(bytes)?;
-    (record.size == bytes.len()).then(|| command(&record))?
+    (record.size == bytes.len()).then(|| command(edition, &record))?
 }
 
 /// The edition of a journal and its records, if it starts with tag 10, length 2 and an edition.
@@ -199,8 +205,10 @@ fn tables_of(book: &Book, lines: &mut Vec<String>) {
 
 fn records_of(plain: &mut Plain, mut records: &[u8], lines: &mut Vec<String>) {
     let (mut number, mut offset) = (1, 5);
+    let edition = plain.book().edition;
     while !records.is_empty() {
-        let read = field(records).and_then(|record| Some((command(&record)?, record.size)));
+        let read =
+            field(records).and_then(|record| Some((command(edition, &record)?, record.size)));
         let Some((command, size)) = read else {
             lines.push(format!("{number} 13 {offset}"));
             return;

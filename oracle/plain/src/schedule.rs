@@ -11,6 +11,14 @@ pub fn period(code: u64) -> Option<u64> {
     }
 }
 
+/// The kinds of schedules.
+pub const FLAT: u64 = 0;
+pub const FALLING: u64 = 1;
+
+pub fn is_kind(kind: u64) -> bool {
+    [FLAT, FALLING].contains(&kind)
+}
+
 /// p = floor(amount/count), y = floor(p×rate/10,000), answer p+y.
 pub fn installment(amount: i64, count: u64, rate: u64) -> i64 {
     let p = i128::from(amount) / i128::from(count);
@@ -18,22 +26,73 @@ pub fn installment(amount: i64, count: u64, rate: u64) -> i64 {
     (p + y) as i64
 }
 
-/// The installments one after the other, where the schedule keeps its terms: count−1 times the stored
-/// one, and the last is what is left of amount + floor(amount×rate/10,000).
-pub fn installments(row: &Schedule) -> impl Iterator<Item = i64> {
-    let (count, stored) = (row.count, row.installment);
+/// The principal that an installment repays, but for the last of a falling schedule.
+pub fn principal(amount: i64, count: u64) -> i64 {
+    amount / count as i64
+}
+
+/// What a falling schedule's installment adds: floor(outstanding×rate/(10,000×count)).
+fn interest(outstanding: i64, count: u64, rate: u64) -> i64 {
+    (i128::from(outstanding) * i128::from(rate) / (10_000 * i128::from(count))) as i64
+}
+
+/// The first installment of a schedule of this kind, which is the one that is stored.
+pub fn first_installment(kind: u64, amount: i64, count: u64, rate: u64) -> i64 {
+    if kind == FALLING {
+        principal(amount, count) + interest(amount, count, rate)
+    } else {
+        installment(amount, count, rate)
+    }
+}
+
+/// The installments one after the other, where the schedule keeps its terms.
+pub fn installments(row: &Schedule) -> Vec<i64> {
+    if row.kind == FALLING {
+        falling(row)
+    } else {
+        flat(row)
+    }
+}
+
+/// count−1 times the stored one, and the last is what is left of amount + floor(amount×rate/10,000).
+fn flat(row: &Schedule) -> Vec<i64> {
     let interest = i128::from(row.amount) * i128::from(row.rate) / 10_000;
     let total = i128::from(row.amount) + interest;
-    let last = total - i128::from(count - 1) * i128::from(stored);
-    (1..=count).map(move |number| if number < count { stored } else { last as i64 })
+    let others = row.count as usize - 1;
+    let last = total - others as i128 * i128::from(row.installment);
+    [vec![row.installment; others], vec![last as i64]].concat()
+}
+
+/// Each repays floor(amount/count) of the principal, the last the rest, with the interest on what was
+/// outstanding before it.
+fn falling(row: &Schedule) -> Vec<i64> {
+    let usual = principal(row.amount, row.count);
+    let mut outstanding = row.amount;
+    let installment = |number| {
+        let interest = interest(outstanding, row.count, row.rate);
+        let repaid = if number < row.count { usual } else { outstanding };
+        outstanding -= repaid;
+        repaid + interest
+    };
+    (1..=row.count).map(installment).collect()
 }
 
 /// What is owed up to and with each installment.
-pub fn sums(row: &Schedule) -> impl Iterator<Item = i64> {
-    installments(row).scan(0, |sum, installment| {
+pub fn sums(row: &Schedule) -> Vec<i64> {
+    sums_of(&installments(row))
+}
+
+pub(crate) fn sums_of(list: &[i64]) -> Vec<i64> {
+    let add = |sum: &mut i64, installment: &i64| {
         *sum += installment;
         Some(*sum)
-    })
+    };
+    list.iter().scan(0, add).collect()
+}
+
+/// How many installments are paid: those whose sum the amount repaid reaches.
+pub fn paid_by_sums(row: &Schedule, repaid: i64) -> u64 {
+    sums(row).iter().take_while(|sum| repaid >= **sum).count() as u64
 }
 
 /// The number of the installment that is due and what is still owed on it; zeros where none is.
@@ -64,7 +123,12 @@ pub fn due_by_quotient(row: &Schedule, now: u64, repaid: i64) -> Due {
 
 /// An installment is paid when the amount repaid reaches the sum up to it.
 pub fn due_by_sums(row: &Schedule, now: u64, repaid: i64) -> Due {
-    let mut fallen = (1..=elapsed(row, now)).zip(sums(row));
+    due_on(row, now, repaid, &installments(row))
+}
+
+/// The same for any list of installments.
+pub(crate) fn due_on(row: &Schedule, now: u64, repaid: i64, list: &[i64]) -> Due {
+    let mut fallen = (1..=elapsed(row, now)).zip(sums_of(list));
     let unpaid = fallen.find(|(_, sum)| repaid < *sum);
     unpaid.map_or(NONE, |(number, sum)| [number, (sum - repaid) as u64])
 }
@@ -107,10 +171,10 @@ mod tests {
 
     #[test]
     fn the_last_installment_carries_what_is_left() {
-        assert!(installments(&WEEKLY).eq([349, 349, 352]));
-        assert!(sums(&WEEKLY).eq([349, 698, 1_050]));
+        assert_eq!(installments(&WEEKLY), [349, 349, 352]);
+        assert_eq!(sums(&WEEKLY), [349, 698, 1_050]);
         let single = Schedule { count: 1, installment: 1_050, ..WEEKLY };
-        assert!(installments(&single).eq([1_050]));
+        assert_eq!(installments(&single), [1_050]);
         let most = 1_000_000_000_000;
         let (count, amount, rate) = (1_200, most, 10_000);
         let longest = Schedule {
@@ -120,8 +184,79 @@ mod tests {
             rate,
             ..WEEKLY
         };
-        assert_eq!(sums(&longest).last(), Some(2 * most));
-        assert_eq!(installments(&longest).last(), Some(1_666_667_466));
+        assert_eq!(sums(&longest).last(), Some(&(2 * most)));
+        assert_eq!(installments(&longest).last(), Some(&1_666_667_466));
+    }
+
+    /// A falling schedule of these terms, with its installment.
+    fn falling_of(amount: i64, count: u64, rate: u64) -> Schedule {
+        let installment = first_installment(FALLING, amount, count, rate);
+        Schedule { count, installment, amount, rate, kind: FALLING, ..WEEKLY }
+    }
+
+    /// Interest on 1000, 667 and 334 at 500 in three parts: 16.6, 11.1 and 5.5.
+    #[test]
+    fn falling_installments_add_interest_on_what_is_outstanding() {
+        let falling = falling_of(1_000, 3, 500);
+        assert_eq!(falling.installment, 349);
+        assert_eq!(installments(&falling), [333 + 16, 333 + 11, 334 + 5]);
+        assert_eq!(sums(&falling), [349, 693, 1_032]);
+        assert_eq!(installments(&falling_of(1_000, 1, 500)), [1_050]);
+        assert_eq!(installments(&falling_of(3, 2, 5_000)), [1, 2]);
+        assert_eq!(installments(&falling_of(1_200, 1_200, 10_000))[..2], [2, 1]);
+        assert_eq!(installments(&falling_of(1_199, 600, 1)).last(), Some(&600));
+        let most = 1_000_000_000_000;
+        assert_eq!(installments(&falling_of(most, 1, 10_000)), [2 * most]);
+    }
+
+    /// Each is positive, none but the last is more than the one before, the first is the stored one, and
+    /// the principal over all of them is the amount.
+    #[test]
+    fn falling_installments_fall_and_repay_the_amount() {
+        let amounts = [1, 2, 3, 7, 11, 12, 13, 905, 1_199, 1_200, 1_201, 999_999_999_999];
+        for amount in amounts {
+            for count in [1, 2, 3, 11, 12, 600, 1_199, 1_200] {
+                for rate in [1, 3, 500, 9_999, 10_000] {
+                    let row = falling_of(amount, count, rate);
+                    assert_eq!(row.installment == 0, principal(amount, count) == 0);
+                    if row.installment == 0 {
+                        continue;
+                    }
+                    let (list, usual) = (installments(&row), principal(amount, count));
+                    let others = &list[..count as usize - 1];
+                    assert_eq!(list[0], row.installment);
+                    assert!(list.iter().all(|installment| *installment > 0));
+                    assert!(others.windows(2).all(|two| two[1] <= two[0]));
+                    let interests = (0..count as i64)
+                        .map(|before| interest(amount - before * usual, count, rate));
+                    let total = amount + interests.sum::<i64>();
+                    assert_eq!(sums(&row).last(), Some(&total), "{amount} {count} {rate}");
+                }
+            }
+        }
+    }
+
+    #[test]
+    fn a_falling_installment_is_paid_by_its_sum() {
+        let weekly = |now, repaid| due_by_sums(&falling_of(1_000, 3, 500), now, repaid);
+        for (repaid, due) in [
+            (0, [1, 349]),
+            (348, [1, 1]),
+            (349, [2, 344]),
+            (692, [2, 1]),
+            (693, [3, 339]),
+            (698, [3, 334]),
+            (1_031, [3, 1]),
+            (1_032, [0, 0]),
+            (1_047, [0, 0]),
+        ] {
+            assert_eq!(weekly(2_209_600, repaid), due, "{repaid}");
+            assert_eq!(weekly(u64::MAX, repaid), due, "{repaid}");
+        }
+        assert_eq!(weekly(999_999, 0), [0, 0]);
+        assert_eq!(weekly(1_604_799, 349), [0, 0]);
+        assert_eq!(weekly(1_604_800, 349), [2, 344]);
+        assert_eq!(weekly(2_209_599, 693), [0, 0]);
     }
 
     #[test]

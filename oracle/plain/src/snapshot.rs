@@ -7,7 +7,7 @@ mod tests;
 
 use side::{Account, Book, Invoice, Offer, Round, Schedule};
 
-use crate::edition::{is_listed, keeps_terms, most_rounds, OF_OLD_SNAPSHOTS};
+use crate::edition::{has_kinds, is_listed, keeps_terms, most_rounds, OF_OLD_SNAPSHOTS};
 use crate::money::MOST_ROWS;
 use crate::{sound, MALFORMED, UNSOUND};
 use pass::{Pass, Reader, Writer};
@@ -169,6 +169,9 @@ fn schedule(pass: &mut impl Pass, held: &mut Option<Schedule>, edition: u64) -> 
     if keeps_terms(edition) {
         pass.amount(0x9A, &mut row.amount)?;
         pass.half(0x9B, &mut row.rate)?;
+    }
+    if has_kinds(edition) {
+        pass.wide(0x14, &mut row.kind)?;
     }
     pass.require(row.count != 0 || row == Schedule::default());
     *held = (row.count != 0).then_some(row);

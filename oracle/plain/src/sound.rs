@@ -2,9 +2,9 @@
 
 use side::{Account, Book, Invoice, Offer, Schedule};
 
-use crate::edition::{is_listed, keeps_terms, most_rounds};
+use crate::edition::{has_kinds, is_listed, keeps_terms, most_rounds};
 use crate::money::{HELD, MOST_COUNTED, MOST_ROWS, OFFERED};
-use crate::schedule::{installment, period};
+use crate::schedule::{first_installment, is_kind, period, principal, FALLING, FLAT};
 use crate::terms::terms_valid;
 
 pub fn sound(book: &Book) -> bool {
@@ -54,19 +54,28 @@ fn sound_offer(row: &Offer, edition: u64) -> bool {
         && row.schedule.as_ref().is_none_or(|row| sound_schedule(row, edition))
 }
 
-/// Where terms are kept, the stored installment follows from them. What an edition lacks is 0.
+/// Where terms are kept, the stored installment is the first of their list. What an edition lacks is 0.
 fn sound_schedule(row: &Schedule, edition: u64) -> bool {
     (1..=1200).contains(&row.count)
         && period(row.code).is_some()
         && (1..=2_000_000_000_000).contains(&row.installment)
-        && row.kind == 0
+        && sound_kind(row, edition)
         && if keeps_terms(edition) {
             OFFERED.contains(&row.amount)
                 && (1..=10_000).contains(&row.rate)
-                && row.installment == installment(row.amount, row.count, row.rate)
+                && row.installment == first_installment(row.kind, row.amount, row.count, row.rate)
         } else {
             (row.amount, row.rate) == (0, 0)
         }
+}
+
+/// Every installment of a falling schedule repays some of the principal.
+fn sound_kind(row: &Schedule, edition: u64) -> bool {
+    if has_kinds(edition) {
+        is_kind(row.kind) && (row.kind != FALLING || principal(row.amount, row.count) >= 1)
+    } else {
+        row.kind == FLAT
+    }
 }
 
 #[cfg(test)]
@@ -132,7 +141,9 @@ mod tests {
             assert!(!with(edition, Schedule { amount: 1_000, ..bare }), "{edition}");
             assert!(!with(edition, Schedule { rate: 500, ..bare }), "{edition}");
             assert!(!with(edition, Schedule { kind: 1, ..bare }), "{edition}");
-            assert!(!with(edition, Schedule { kind: 1, ..kept }), "{edition}");
+            assert!(!with(edition, Schedule { kind: 2, ..bare }), "{edition}");
+            assert!(!with(edition, Schedule { kind: 2, ..kept }), "{edition}");
+            assert_eq!(with(edition, Schedule { kind: 1, ..kept }), edition >= 5, "{edition}");
         }
         assert!(with(5, Schedule { amount: 1_001, ..kept }));
         let faults = [
@@ -146,9 +157,38 @@ mod tests {
             Schedule { amount: 1_000_000_000_001, rate: 1, installment: 333_366_666_666, ..kept },
             Schedule { rate: 10_001, installment: 333 + 333, ..kept },
             Schedule { rate: 0, installment: 333, ..kept },
+            Schedule { kind: u64::MAX, ..kept },
+            Schedule { kind: 1 << 32, ..kept },
+            Schedule { kind: (1 << 32) + 1, ..kept },
         ];
         for (number, fault) in faults.into_iter().enumerate() {
             assert!(!with(5, fault), "fault {number}");
+        }
+    }
+
+    /// 5 at 7500 in three: 1 each with no interest on 1, and falling 1 with 1 of interest on 5.
+    #[test]
+    fn a_stored_installment_is_the_first_of_its_kind() {
+        let with = |kind, amount, count, installment| {
+            let schedule = Schedule {
+                count,
+                code: 1,
+                installment,
+                amount,
+                rate: 7_500,
+                kind,
+                ..Schedule::default()
+            };
+            let (rate, duration, schedule) = (1, 86_400, Some(schedule));
+            let offer = Offer { amount: 1, rate, duration, schedule, ..Offer::default() };
+            sound(&Book { edition: 5, offers: vec![offer], ..Book::fresh() })
+        };
+        assert!(with(0, 5, 3, 1) && with(1, 5, 3, 2));
+        assert!(!with(0, 5, 3, 2) && !with(1, 5, 3, 1) && !with(1, 5, 3, 3));
+        assert!(with(1, 3, 3, 1) && with(1, 1_200, 1_200, 1) && with(1, 1, 1, 1));
+        for installment in [0, 1, 2] {
+            assert!(!with(1, 2, 3, installment) && !with(1, 1_199, 1_200, installment));
+            assert!(!with(0, 2, 3, installment));
         }
     }
 }

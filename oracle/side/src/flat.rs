@@ -176,7 +176,7 @@ mod test {
         let round = Round { party: 1, amount: 7, rate: 8, duration: 9, time: 10 };
         let (installment, amount, rate) = (349, 1_000, 500);
         let schedule =
-            Schedule { count: 3, code: 2, installment, first: 11, amount, rate, kind: 0 };
+            Schedule { count: 3, code: 2, installment, first: 11, amount, rate, kind: 1 };
         let schedule = Some(schedule);
         let offer = Offer { id: 20, amount: 6, outcome: 3, schedule, ..Offer::default() };
         let rounds = vec![round, Round { party: 0, ..round }];
@@ -196,7 +196,7 @@ mod test {
         assert_eq!(flat.len(), 11 + 1 + 8 + 1 + 4 + 1 + 2 * 20 + 2 * 5);
         assert_eq!(flat[..3], [2, 0, 604_800]);
         let offer = 11 + 1 + 8 + 1 + 4 + 1;
-        assert_eq!(flat[offer + 12..offer + 20], [3, 2, 349, 11, 1_000, 500, 0, 0]);
+        assert_eq!(flat[offer + 12..offer + 20], [3, 2, 349, 11, 1_000, 500, 1, 0]);
         assert_eq!(Book::of_flat(&flat[1..]), None);
     }
 }

@@ -12,7 +12,7 @@
 /// | 5 | all offers | ten for each offer |
 /// | 6 | a page: offset, limit | ten for each offer |
 /// | 7 | one offer (absent gives 4) | ten |
-/// | 8 | its schedule | count, code, installment, first due; nothing if there is none |
+/// | 8 | its schedule | count, code, installment, first due, kind; nothing if there is none |
 /// | 9 | its negotiation | deadline, then each round's party, amount, rate, duration, time |
 /// | 10 | its negotiation's status: id, time | one |
 /// | 11 | its installment due: id, time | its number and what is still owed on it, zeros if none is due |

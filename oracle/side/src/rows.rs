@@ -85,7 +85,7 @@ pub struct Schedule {
     /// The offer's terms when the schedule was made, where the edition keeps them; else 0.
     pub amount: i64,
     pub rate: u64,
-    /// 0 flat. No edition has another one.
+    /// 0 flat, 1 falling, where the edition has kinds; else 0.
     pub kind: u64,
 }
 

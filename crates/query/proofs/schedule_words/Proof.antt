@@ -16,7 +16,7 @@ returns c = c .words-none .ensures ∙ ap (λ (v : List ℕ). twelve (0, v)) (on
 returns-2 : tie.Need-returns-2
 unfolding scheduleValues
 returns-2 c =
-    c .words-four .ensures
+    c .words-five .ensures
     ∙ ap (λ (v : List ℕ). twelve (0, v)) (off _ (sym (c .before .before .before .schedule-zero .ensures) ∙ c .before .before .if1 .left) (ap (λ (n : ScheduleNumbers). scheduleOrder n) (c .before .of .ensures)))
 
 pub schedule-words-spec : {M : Type 1} → statement M

@@ -2,7 +2,7 @@ use mathlib.Core.Path.{_≡_, sym, ap, _∙_}
 use mathlib.Core.Bool.{Bool, true, _&&_, cond}
 use borrow.Author.Tests.{not-true, not-false}
 use Rattle.terms.specs.Schedule.{keepsOk, keepsNone, scheduleIn, scheduleOk}
-use Rattle.terms.specs.Laws.{schedule-in}
+use Rattle.terms.specs.Laws.{count-in}
 use borrow.Author.Needs.{needs}
 use Rattle.terms.proofs.schedule_ok.Statement.{statement}
 use Rattle.terms.proofs.schedule_ok.Tie as tie
@@ -16,7 +16,7 @@ ranged : (c : tie.Else1) → scheduleIn (c .before .before .args .s) ≡ true
 ranged c = sym (c .before .schedule-in .ensures) ∙ not-false _ (c .if1 .left)
 
 keeps-ok-requires : tie.Need-keeps-ok-requires
-keeps-ok-requires c κs = schedule-in (c .before .before .before .args .s) (ranged (c .before)) .count-low
+keeps-ok-requires c κs = count-in (c .before .before .before .args .s) (ranged (c .before))
 
 returns-2 : tie.Need-returns-2
 unfolding scheduleOk

@@ -201,6 +201,9 @@ mod test {
             "never: an installment before the last is partly paid",
             "never: only what the others leave is owed on the last installment",
             "never: an amount is repaid on a schedule of earlier terms",
+            "never: an unknown kind is refused",
+            "never: a falling schedule of less than one an installment is refused",
+            "never: a falling installment is paid by its sum, not by so many first ones",
         ];
         assert!(new.iter().all(|path| owed(5).iter().any(|owed| owed == path)));
         assert!(new.iter().all(|path| owed(4).iter().all(|owed| owed != path)));

@@ -1,8 +1,8 @@
 //! Paths that a comparison of some length must have walked.
 
 use journal::{Command, Numbers};
-use plain::edition::{holds_amount, keeps_terms, most_rounds};
-use plain::schedule::sums;
+use plain::edition::{has_kinds, holds_amount, keeps_terms, most_rounds};
+use plain::schedule::{is_kind, period, principal, sums, FALLING, FLAT};
 use side::{Book, Invoice, Offer, Round, Schedule};
 
 /// An answered command on an offer, with the offer before and after it and the invoice.
@@ -20,6 +20,7 @@ type Terms = (u64, u64, u64);
 
 const AMEND: u8 = 0x35;
 const COUNTER: u8 = 0x36;
+const SCHEDULE: u8 = 0x38;
 
 impl Walk<'_> {
     fn now(&self) -> u64 {
@@ -115,13 +116,61 @@ impl Walk<'_> {
     /// paid as far as this says, by the amount repaid and the sums up to each installment.
     fn repays(&self, paid: fn(i64, &Schedule, &[i64]) -> bool) -> bool {
         let schedule = self.is.schedule.filter(|_| self.accepted(0x42) && self.is.status < 4);
-        schedule.is_some_and(|row| paid(self.is.repaid, &row, &sums(&row).collect::<Vec<_>>()))
+        schedule.is_some_and(|row| paid(self.is.repaid, &row, &sums(&row)))
     }
 
     /// Whether the terms of the offer are others than its schedule has kept.
     fn parts_from_kept(&self) -> bool {
         let terms = (self.is.amount, self.is.rate);
         self.is.schedule.is_some_and(|row| (row.amount, row.rate) != terms)
+    }
+}
+
+impl Walk<'_> {
+    fn kind(&self) -> u64 {
+        self.numbers[0x14]
+    }
+
+    fn count(&self) -> u64 {
+        self.numbers[0x0A]
+    }
+
+    fn makes(&self, kind: u64) -> bool {
+        self.accepted(SCHEDULE) && self.kind() == kind
+    }
+
+    fn replaces(&self, kind: u64, by: u64) -> bool {
+        self.makes(by) && self.was.schedule.is_some_and(|row| row.kind == kind)
+    }
+
+    /// A schedule that its fields alone, but for its kind, do not refuse.
+    fn asks_schedule(&self) -> bool {
+        let listed = period(self.numbers[0x0B]).is_some();
+        let later = self.numbers[0x0C] > self.now();
+        self.tag == SCHEDULE && (1..=1_200).contains(&self.count()) && later && listed
+    }
+
+    /// The offer takes a schedule of its lender or originator.
+    fn takes_schedule(&self) -> bool {
+        let by = |id: u64| id == self.numbers[0x02];
+        let party = by(self.was.lender) || self.invoice.is_some_and(|row| by(row.originator));
+        [0, 1, 3].contains(&self.was.status) && self.invoice.is_some() && party
+    }
+
+    /// Refused for its kind, which there is not.
+    fn refused_kind(&self) -> bool {
+        self.asks_schedule() && !is_kind(self.kind()) && self.answer == 3
+    }
+
+    /// Each installment repays so much principal.
+    fn repays_principal(&self, usual: i64) -> bool {
+        self.kind() == FALLING && principal(self.was.amount, self.count().max(1)) == usual
+    }
+
+    /// An amount repaid on a falling schedule, as `repays` says.
+    fn repays_falling(&self, paid: fn(i64, &Schedule, &[i64]) -> bool) -> bool {
+        let falling = self.is.schedule.is_some_and(|row| row.kind == FALLING);
+        falling && self.repays(paid)
     }
 }
 
@@ -215,6 +264,60 @@ const ON_SUMS: [Path; 7] = [
     }),
 ];
 
+/// Where there are kinds of schedules.
+const ON_KINDS: [Path; 15] = [
+    ("a flat schedule is made", |walk| walk.makes(FLAT)),
+    ("a falling schedule is made", |walk| walk.makes(FALLING)),
+    ("a falling schedule replaces a flat one", |walk| walk.replaces(FLAT, FALLING)),
+    ("a flat schedule replaces a falling one", |walk| walk.replaces(FALLING, FLAT)),
+    ("an unknown kind is refused", |walk| walk.refused_kind() && walk.takes_schedule()),
+    ("an unknown kind that is a listed one in 32 bits is refused", |walk| {
+        let cut = walk.kind() & 0xFFFF_FFFF;
+        walk.refused_kind() && walk.takes_schedule() && is_kind(cut)
+    }),
+    ("an unknown kind is refused for it, not for the offer or the caller", |walk| {
+        walk.refused_kind() && !walk.takes_schedule()
+    }),
+    ("a falling schedule of less than one an installment is refused", |walk| {
+        let asks = walk.asks_schedule() && walk.takes_schedule();
+        asks && walk.repays_principal(0) && walk.answer == 3
+    }),
+    ("a falling schedule of just one an installment is made", |walk| {
+        walk.makes(FALLING) && walk.repays_principal(1)
+    }),
+    ("a falling installment before the last is partly paid", |walk| {
+        walk.repays_falling(|repaid, row, sums| {
+            let others = &sums[..row.count as usize - 1];
+            others.last().is_some_and(|sum| repaid < *sum) && !others.contains(&repaid)
+        })
+    }),
+    ("a falling installment is paid by its sum, not by so many first ones", |walk| {
+        walk.repays_falling(|repaid, row, sums| {
+            let paid = sums.iter().take_while(|sum| repaid >= **sum).count() as i64;
+            repaid < paid * row.installment && paid < row.count as i64
+        })
+    }),
+    ("all but the last falling installment are paid", |walk| {
+        walk.repays_falling(|repaid, row, sums| {
+            row.count > 1 && repaid == sums[row.count as usize - 2]
+        })
+    }),
+    ("one is owed on a falling installment before the last", |walk| {
+        walk.repays_falling(|repaid, row, sums| {
+            sums[..row.count as usize - 1].contains(&(repaid + 1))
+        })
+    }),
+    ("only the rest of the principal is owed on the last falling installment", |walk| {
+        walk.repays_falling(|repaid, row, sums| {
+            let total = sums[row.count as usize - 1];
+            (total - row.amount % row.count as i64..total).contains(&repaid)
+        })
+    }),
+    ("the total of a falling schedule is repaid", |walk| {
+        walk.repays_falling(|repaid, row, sums| repaid == sums[row.count as usize - 1])
+    }),
+];
+
 /// Where the amount is held to the invoice's.
 const ON_AMOUNTS: [Path; 11] = [
     ("an amendment above the invoice's amount is refused", |walk| walk.refused_above(AMEND)),
@@ -257,7 +360,8 @@ fn on_offers(edition: u64) -> impl Iterator<Item = &'static Path> {
     let on_amounts: &[Path] = if holds_amount(edition) { &ON_AMOUNTS } else { &[] };
     let on_rounds: &[Path] = if most_rounds(edition) > 12 { &ON_MORE_ROUNDS } else { &[] };
     let on_sums: &[Path] = if keeps_terms(edition) { &ON_SUMS } else { &[] };
-    ON_OFFERS.iter().chain(on_amounts).chain(on_rounds).chain(on_sums)
+    let on_kinds: &[Path] = if has_kinds(edition) { &ON_KINDS } else { &[] };
+    ON_OFFERS.iter().chain(on_amounts).chain(on_rounds).chain(on_sums).chain(on_kinds)
 }
 
 /// The paths that are to be walked in an edition.

@@ -53,6 +53,8 @@ pub(super) const DAY: u64 = 86_400;
 pub(super) const YEAR: u64 = 31_536_000;
 pub(super) const TRILLION: u64 = 1_000_000_000_000;
 pub(super) const MOST_HELD: u64 = 4_000_000_000_000_000;
+/// Some of them are listed ones in 32 bits.
+pub(super) const UNKNOWN_KINDS: [u64; 5] = [2, 1 << 32, (1 << 32) + 1, 1 << 63, u64::MAX];
 
 impl Generator {
     pub fn new(chance: Chance, plan: Plan) -> Generator {

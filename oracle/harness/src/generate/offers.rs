@@ -1,10 +1,11 @@
 //! Commands on offers: creating, negotiating, settling, scheduling.
 
 use journal::Command;
-use plain::edition::holds_amount;
+use plain::edition::{has_kinds, holds_amount};
+use plain::schedule::{FALLING, FLAT};
 use side::{Book, Offer};
 
-use super::{Generator, DAY, TRILLION, YEAR};
+use super::{Generator, DAY, TRILLION, UNKNOWN_KINDS, YEAR};
 
 /// Amount, rate and duration.
 type Terms = (i64, u32, u64);
@@ -62,8 +63,21 @@ impl Generator {
                     0 => now.saturating_add(1),
                     _ => now.saturating_add(self.chance.within(1, 1_000_000)),
                 };
-                Command::ScheduleRepayment { now, caller: party, id, count, code, first }
+                let kind = self.kind(book);
+                Command::ScheduleRepayment { now, caller: party, id, count, code, first, kind }
             }
+        }
+    }
+
+    /// A schedule's kind, where the edition has kinds; now and then one that there is not.
+    fn kind(&mut self, book: &Book) -> u64 {
+        if !has_kinds(book.edition) {
+            return FLAT;
+        }
+        match self.chance.below(16) {
+            0 => self.chance.pick(&UNKNOWN_KINDS),
+            1..7 => FLAT,
+            _ => FALLING,
         }
     }
 

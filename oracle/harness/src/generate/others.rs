@@ -101,8 +101,7 @@ impl Generator {
             1 => row.count.saturating_sub(1).max(1),
             _ => row.count,
         };
-        let sum = sums(&row).nth(number as usize - 1).unwrap_or(0);
-        self.beside(sum as u64) as i64
+        self.beside(sums(&row)[number as usize - 1] as u64) as i64
     }
 
     /// A difference to a total, mostly up.

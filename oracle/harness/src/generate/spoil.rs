@@ -4,7 +4,7 @@ use journal::{Command, NARROW};
 use plain::edition::most_rounds;
 use side::Book;
 
-use super::{Generator, DAY, MOST_HELD, TRILLION, YEAR};
+use super::{Generator, DAY, MOST_HELD, TRILLION, UNKNOWN_KINDS, YEAR};
 
 impl Generator {
     /// The command with one field replaced by another's value, an edge or anything.
@@ -45,6 +45,7 @@ impl Generator {
             0x0E => self.chance.pick(&[0, 1, 2, 32, 33, u32::MAX.into()]),
             0x11 => self.chance.pick(&[0, 3_599, 3_600, 2_592_000, 2_592_001, u64::MAX]),
             0x12 => self.chance.pick(&[0, 1, 1 << 32, u64::MAX, 0xFFFF_FFFF]),
+            0x14 => self.chance.pick(&UNKNOWN_KINDS),
             _ => self.chance.pick(&[0, 1, u64::MAX, 1 << 31, 1 << 32]),
         }
     }

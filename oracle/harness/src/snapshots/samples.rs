@@ -2,6 +2,7 @@
 //! field that says so, one of edition 4 and one of edition 5.
 
 use plain::edition::{fresh, OF_OLD_SNAPSHOTS};
+use plain::schedule::FALLING;
 use plain::snapshot::write;
 use plain::Plain;
 use side::{Account, Book, Invoice, Offer, Round, Schedule, Side, Totals};
@@ -62,13 +63,15 @@ fn small() -> Book {
 }
 
 /// The small book in edition 5, with the offer as it is after an amendment and the schedule as it was
-/// made before: of 905 in three installments, the last of which is 318. One is owed on that.
+/// made before: of 905 in three falling installments, 301 and 15, 301 and 10, 303 and 5. One is owed on the
+/// last. The first is a flat schedule's too, so that a book with the other kind is sound.
 fn kept() -> Book {
     let mut book = Book { edition: 5, ..small() };
     let offer = &mut book.offers[0];
-    offer.repaid = 2 * 316 + 317;
+    offer.repaid = 316 + 311 + 307;
     let schedule = offer.schedule.as_mut().expect("the small book has a schedule");
     (schedule.amount, schedule.rate, schedule.installment) = (905, 500, 316);
+    schedule.kind = FALLING;
     book
 }
 
@@ -140,7 +143,7 @@ mod test {
     fn the_samples_are_as_long_as_they_should_be() {
         let lengths = samples().map(|sample| sample.bytes.len());
         assert!(lengths[..2] == [660, 847] && lengths[2] <= LONGEST, "{lengths:?}");
-        assert_eq!(lengths[3], 671 + 22);
+        assert_eq!(lengths[3], 671 + 33);
         let book = generated();
         let rounds = book.offers.iter().map(|row| row.rounds.len());
         assert!(book.accounts.len() > 1 && rounds.max() > Some(12), "{book:?}");

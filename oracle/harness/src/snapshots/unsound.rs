@@ -1,8 +1,8 @@
 //! Faults that make a book unsound. A number stays within 32 bits where a book has no more room for
 //! it, so that every side can hold it.
 
-use plain::edition::{keeps_terms, most_rounds};
-use plain::schedule::installment;
+use plain::edition::{has_kinds, keeps_terms, most_rounds};
+use plain::schedule::{first_installment, FALLING};
 use side::{Account, Book, Invoice, Offer, Round, Schedule};
 
 /// Plants the fault, where the book has a row for it.
@@ -41,7 +41,27 @@ fn bare(book: &mut Book, change: fn(&mut Schedule)) -> Option<()> {
 /// Other terms are kept, and their installment is stored.
 fn refit(row: &mut Schedule, amount: i64, rate: u64) {
     (row.amount, row.rate) = (amount, rate);
-    row.installment = installment(amount, row.count, rate);
+    row.installment = first_installment(row.kind, amount, row.count, rate);
+}
+
+/// Of a schedule that becomes a falling one with its own installment.
+fn falling(book: &mut Book, change: fn(&mut Schedule)) -> Option<()> {
+    let row = book.offers.iter_mut().find_map(|row| row.schedule.as_mut());
+    let row = row.filter(|_| has_kinds(book.edition))?;
+    row.kind = FALLING;
+    refit(row, row.amount, row.rate);
+    change(row);
+    Some(())
+}
+
+/// The kept amount is one less than there are installments, and this is the one that is stored.
+fn too_little(row: &mut Schedule, installment: i64) {
+    (row.amount, row.installment) = (row.count as i64 - 1, installment);
+}
+
+/// 5 at 7500 in three, of which a flat schedule's first is 1 and a falling one's 2.
+fn parted(row: &mut Schedule, installment: i64) {
+    (row.count, row.amount, row.rate, row.installment) = (3, 5, 7_500, installment);
 }
 
 fn set(book: &mut Book, change: fn(&mut Book)) -> Option<()> {
@@ -83,7 +103,7 @@ const TOO_MUCH: i64 = 4_000_000_000_000_001;
 
 /// Each with what is wrong.
 #[rustfmt::skip]
-pub const FAULTS: [(&str, Fault); 58] = [
+pub const FAULTS: [(&str, Fault); 65] = [
     ("edition 0", |book| set(book, |book| book.edition = 0)),
     ("the edition after the latest", |book| set(book, |book| book.edition = journal::LATEST + 1)),
     ("window 3599", |book| set(book, |book| book.window = 3_599)),
@@ -141,5 +161,12 @@ pub const FAULTS: [(&str, Fault); 58] = [
     ("a kept rate of 10001", |book| kept(book, |row| refit(row, row.amount, 10_001))),
     ("a kept amount before edition 5", |book| bare(book, |row| row.amount = 1)),
     ("a kept rate before edition 5", |book| bare(book, |row| row.rate = 1)),
-    ("kind 1", |book| schedule(book, |row| row.kind = 1)),
+    ("kind 2", |book| schedule(book, |row| row.kind = 2)),
+    ("kind 1 before edition 5", |book| bare(book, |row| row.kind = 1)),
+    ("a falling installment one above its own", |book| falling(book, |row| row.installment += 1)),
+    ("a falling installment one below its own", |book| falling(book, |row| row.installment -= 1)),
+    ("a flat installment in a falling schedule", |book| falling(book, |row| parted(row, 1))),
+    ("a falling installment in a flat schedule", |book| falling(book, |row| { parted(row, 2); row.kind = 0 })),
+    ("falling installments of less than 1", |book| falling(book, |row| too_little(row, 0))),
+    ("less than 1 a falling installment, and 1 stored", |book| falling(book, |row| too_little(row, 1))),
 ];

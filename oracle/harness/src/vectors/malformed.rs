@@ -40,7 +40,25 @@ pub(super) fn malformed() -> Vec<Sample> {
         let what = format!("a {field} of 2^32-1 is read, and refused by its command");
         samples.push(sample(&format!("fits-{field}"), &what, follow(&record((1 << 32) - 1))));
     }
+    samples.extend(kinds());
     samples
+}
+
+/// The session's first six commands, then a schedule with a kind where its edition has none or without it
+/// where it has one, then the seventh.
+fn kinds() -> [Sample; 2] {
+    let bare = [(0x01, 100), (0x02, 1), (0x03, 20), (0x0A, 3), (0x0B, 1), (0x0C, 200)];
+    let kinded = [bare.as_slice(), &[(0x14, 0)]].concat();
+    let follow = |edition, fields: &[(u8, u64)]| {
+        let mut bytes = journal(edition, &session()[..6]);
+        bytes.extend(record_of(0x38, fields));
+        journal::write(edition, &session()[6], &mut bytes);
+        bytes
+    };
+    [
+        sample("malformed-kind-missing", "edition 5 without a kind", follow(5, &bare)),
+        sample("malformed-kind-early", "edition 4 with a kind", follow(4, &kinded)),
+    ]
 }
 
 fn shortened(record: &[u8]) -> Vec<u8> {

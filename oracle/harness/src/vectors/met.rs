@@ -4,6 +4,7 @@
 use std::collections::BTreeSet;
 
 use plain::edition::keeps_terms;
+use plain::schedule::{sums, FALLING};
 use side::{Book, Offer};
 
 use super::samples::Sample;
@@ -34,7 +35,7 @@ const OWED: [(&str, &[u64]); 20] = [
 ];
 
 /// What only the book and the time asked for tell.
-const EDGES: [(&str, &str); 14] = [
+const EDGES: [(&str, &str); 17] = [
     ("negotiation", "twelve rounds"),
     ("negotiation", "sixteen rounds"),
     ("negotiation-status", "open at the deadline"),
@@ -49,6 +50,9 @@ const EDGES: [(&str, &str); 14] = [
     ("due", "partly paid in an edition before sums"),
     ("due", "more on the last than an installment"),
     ("due", "only what the others leave on the last"),
+    ("schedule", "a falling one"),
+    ("due", "nothing paid of a later falling installment"),
+    ("due", "partly paid of a later falling installment"),
 ];
 
 /// Something that the questions and their answers never meet, if there is such.
@@ -164,6 +168,11 @@ fn is_past_all(offer: &Offer) -> bool {
     offer.schedule.is_some_and(|row| offer.repaid >= row.installment * row.count as i64)
 }
 
+/// The amount repaid is just a sum of installments.
+fn is_at_sum(offer: &Offer) -> bool {
+    offer.schedule.is_some_and(|row| sums(&row).contains(&offer.repaid))
+}
+
 fn edges(book: &Book, kind: &str, asked: &[u64], answered: &[u64]) -> Vec<&'static str> {
     let offer = book.offers.iter().find(|offer| asked.first() == Some(&offer.id));
     let (Some(offer), Some(answer)) = (offer, answered.get(1).copied()) else { return Vec::new() };
@@ -172,6 +181,7 @@ fn edges(book: &Book, kind: &str, asked: &[u64], answered: &[u64]) -> Vec<&'stat
     let late = offer.schedule.is_some() && now >= first;
     let partly = answer > 0 && offer.repaid > 0 && is_part(offer, answered);
     let by_sums = keeps_terms(book.edition);
+    let falling = offer.schedule.is_some_and(|row| row.kind == FALLING);
     let met = [
         kind == "negotiation" && answer == 12,
         kind == "negotiation" && answer == 16,
@@ -187,6 +197,9 @@ fn edges(book: &Book, kind: &str, asked: &[u64], answered: &[u64]) -> Vec<&'stat
         partly && !by_sums,
         late && answer > 0 && by_sums && is_more(offer, answered),
         late && answer > 0 && by_sums && is_past_all(offer),
+        falling && answered.last() == Some(&FALLING),
+        falling && answer > 1 && is_at_sum(offer),
+        falling && answer > 1 && !is_at_sum(offer),
     ];
     let edges = EDGES.iter().zip(met).filter(|((of, _), met)| *met && *of == kind);
     edges.map(|((_, edge), _)| *edge).collect()

@@ -8,6 +8,7 @@ use side::{Book, Offer};
 
 use crate::chance::Chance;
 use crate::pair::wide_quotient;
+use crate::questions::paid;
 
 /// Journals beside the session, the scripts and the generator's that are asked.
 const ASKED_TOO: [&str; 12] = [
@@ -202,7 +203,7 @@ impl Asking<'_> {
     fn dues(&mut self) {
         let offers = self.with_schedule();
         for offer in &offers {
-            let (next, others) = due_times(offer);
+            let (next, others) = due_times(offer, self.book.edition);
             let others = self.some(&others, 2 / offers.len());
             for time in [next].into_iter().chain(others) {
                 self.ask("due", &[offer.id, time.saturating_sub(1)]);
@@ -232,10 +233,10 @@ impl Asking<'_> {
 
 /// The times where an offer's due changes: when the first installment that is not paid falls due;
 /// its first due, the next and the last.
-fn due_times(offer: &Offer) -> (u64, [u64; 3]) {
-    let schedule = offer.schedule.unwrap_or_default();
+fn due_times(offer: &Offer, edition: u64) -> (u64, [u64; 3]) {
+    let Some(schedule) = offer.schedule else { return (0, [0; 3]) };
     let period = [0, 604_800, 1_209_600, 2_592_000][schedule.code as usize];
-    let paid = (offer.repaid / schedule.installment.max(1)) as u64;
+    let paid = paid(&schedule, offer.repaid, edition);
     let falls = |number: u64| schedule.first.saturating_add(period * number);
     let last = schedule.count.saturating_sub(1);
     (falls(paid.min(schedule.count)), [0, 1, last].map(falls))

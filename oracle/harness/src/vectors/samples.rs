@@ -31,6 +31,7 @@ scripts! {
     "31-create" "32-withdraw" "33-accept" "34-reject"
     "35-amend" "35-agreement" "35-held" "36-counter" "36-expiry" "36-held"
     "37-close" "37-deadline" "37-rounds" "37-sixteen" "37-twelve" "38-schedule" "38-leftover"
+    "38-falling"
     "41-status" "41-reopened" "42-repaid" "43-lender-repaid" "44-totals-repaid"
     "51-pause" "53-window" "54-repayment-account" "55-blacklist" "56-seats"
 }

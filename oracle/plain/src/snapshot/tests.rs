@@ -80,11 +80,12 @@ const SAMPLE: [u8; 517] = [
     0x0C, 0, 8, 0, 0, 0, 0, 0, 0, 0, 53,
 ];
 
-/// What follows them in edition 5: the terms that the schedule keeps.
+/// What follows them in edition 5: the terms that the schedule keeps, and its kind.
 #[rustfmt::skip]
-const KEPT: [u8; 22] = [
-    0x9A, 0, 8, 0, 0, 0, 0, 0, 0, 0x0A, 0x5A, // 2,650 in 51 installments: 51 and 1 of interest each
+const KEPT: [u8; 33] = [
+    0x9A, 0, 8, 0, 0, 0, 0, 0, 0, 0x0A, 0x5A, // 2,650 in 51 installments: 51 and 1 of interest on 2,650
     0x9B, 0, 8, 0, 0, 0, 0, 0, 0, 0, 200,
+    0x14, 0, 8, 0, 0, 0, 0, 0, 0, 0, 1,
 ];
 
 fn sample() -> Book {
@@ -134,12 +135,12 @@ fn sample() -> Book {
     }
 }
 
-/// The sample in an edition, with the terms that a schedule keeps there.
+/// The sample in an edition, with the terms and the kind that a schedule has there.
 fn sample_of(edition: u64) -> Book {
     let mut book = Book { edition, ..sample() };
     if edition >= 5 {
         let schedule = book.offers[0].schedule.as_mut().unwrap();
-        (schedule.amount, schedule.rate) = (2_650, 200);
+        (schedule.amount, schedule.rate, schedule.kind) = (2_650, 200, 1);
     }
     book
 }
@@ -223,7 +224,7 @@ fn bytes_without_an_edition_are_of_edition_3() {
     assert_eq!(read(&write(&fresh(5)).unwrap()[11..]), Ok(fresh(3)));
 }
 
-/// The terms of a schedule have fields in edition 5 and nowhere else.
+/// The terms of a schedule and its kind have fields in edition 5 and nowhere else.
 #[test]
 fn kept_terms_are_of_edition_5() {
     let kept = kept_with(&[]);
@@ -237,25 +238,36 @@ fn kept_terms_are_of_edition_5() {
         let wrong = (length / 11 * 11 + 11) as u64;
         assert_eq!(read(&of_edition(5, &kept[..length])), Err((13, wrong)), "{length}");
     }
-    for field in 0..49 {
+    for field in 0..50 {
         let mut bytes = kept.clone();
         bytes[11 * field] ^= 0x40;
         assert_eq!(read(&of_edition(5, &bytes)), Err((13, 11 * field as u64 + 11)), "{field}");
     }
-    assert_eq!(read(&of_edition(5, &[kept.as_slice(), &[0x9C]].concat())), Err((13, 550)));
+    assert_eq!(read(&of_edition(5, &[kept.as_slice(), &[0x9C]].concat())), Err((13, 561)));
+    let swapped = [&kept[..517], &kept[539..], &kept[517..539]].concat();
+    assert_eq!(read(&of_edition(5, &swapped)), Err((13, 528)));
+    assert_eq!(read(&of_edition(5, &kept[..539])), Err((13, 550)));
 }
 
-/// Field 47 is the kept amount and 48 the kept rate; 45 is the installment that follows from them.
+/// Field 47 is the kept amount and 48 the kept rate; 45 is the installment that follows from them. A flat
+/// schedule's interest is on 51, a falling one's on all of the amount: that of 52 has other rates.
 #[test]
 fn kept_terms_are_held_to_the_installment() {
     let read_with = |numbers: &[(usize, u64)]| read(&of_edition(5, &kept_with(numbers)));
     let minus = u64::MAX;
-    for good in [(47, 2_601), (47, 2_651), (48, 197), (48, 392)] {
-        assert!(read_with(&[good]).is_ok(), "{good:?}");
+    let both = [(47, 2_601), (47, 2_651), (48, 197), (48, 384)];
+    for (kind, good) in both.map(|good| [(0, good), (1, good)]).concat() {
+        assert!(read_with(&[good, (49, kind)]).is_ok(), "{kind} {good:?}");
     }
-    let wrong = [(47, 0), (47, 2_600), (47, 2_652), (47, minus), (48, 0), (48, 196), (48, 393)];
+    for (kind, other) in [(0, (48, 392)), (1, (48, 193))] {
+        assert!(read_with(&[other, (49, kind)]).is_ok(), "{kind} {other:?}");
+        assert_eq!(read_with(&[other, (49, 1 - kind)]), Err(UNSOUND), "{kind} {other:?}");
+    }
+    let wrong = [(47, 0), (47, 2_600), (47, 2_652), (47, minus), (48, 0), (48, 192), (48, 393)];
     for wrong in wrong.into_iter().chain([(45, 51), (45, 53), (43, 50), (48, (1 << 32) + 200)]) {
-        assert_eq!(read_with(&[wrong]), Err(UNSOUND), "{wrong:?}");
+        for kind in [0, 1] {
+            assert_eq!(read_with(&[wrong, (49, kind)]), Err(UNSOUND), "{kind} {wrong:?}");
+        }
     }
     assert!(read_with(&[(48, 10_000), (45, 102)]).is_ok());
     assert_eq!(read_with(&[(48, 10_001), (45, 102)]), Err(UNSOUND));
@@ -263,6 +275,27 @@ fn kept_terms_are_held_to_the_installment() {
     assert!(read_with(&most).is_ok());
     let more = [(43, 1), (47, 1_000_000_000_001), (45, 1_000_100_000_001), (48, 1)];
     assert_eq!(read_with(&more), Err(UNSOUND));
+}
+
+/// Field 49 is the kind, of 64 bits: any number is well-formed.
+#[test]
+fn a_kind_is_a_listed_one() {
+    let read_with = |numbers: &[(usize, u64)]| read(&of_edition(5, &kept_with(numbers)));
+    for kind in [0, 1] {
+        let book = read_with(&[(49, kind)]).unwrap();
+        assert_eq!(book.offers[0].schedule.map(|row| row.kind), Some(kind));
+    }
+    for kind in [2, 256, 1 << 32, (1 << 32) + 1, 1 << 63, u64::MAX] {
+        assert_eq!(read_with(&[(49, kind)]), Err(UNSOUND), "{kind}");
+        let mut book = sample_of(5);
+        book.offers[0].schedule.as_mut().unwrap().kind = kind;
+        assert_eq!(write(&book), Err(15), "{kind}");
+    }
+    for installment in [0, 1, 2] {
+        let short = [(47, 50), (45, installment)];
+        assert_eq!(read_with(&short), Err(UNSOUND), "{installment}");
+    }
+    assert!(read_with(&[(47, 51), (45, 1)]).is_ok());
 }
 
 #[test]
@@ -313,10 +346,10 @@ fn the_number_of_rounds_is_held_to_the_edition() {
 }
 
 /// 64 rows in each table, all rounds on each offer: (11 + 3 + 64 × (8 + 4 + 17 + rounds × 5)) × 11, and
-/// in edition 5 two fields more for each offer.
+/// in edition 5 three fields more for each offer.
 #[test]
 fn a_full_book_is_the_longest() {
-    for (edition, rounds, longest) in [(3, 12, 62_810), (4, 16, 76_890), (5, 16, 78_298)] {
+    for (edition, rounds, longest) in [(3, 12, 62_810), (4, 16, 76_890), (5, 16, 79_002)] {
         let book = with_rounds(edition, rounds);
         let (account, invoice, offer) = (book.accounts[0], book.invoices[0], &book.offers[0]);
         let full = Book {
@@ -475,10 +508,10 @@ fn an_absent_schedule_is_all_zeros() {
         bytes[11 * field + 10] = 1;
         assert_eq!(examine(&bytes), Err(Refusal::Unsound), "{field}");
     }
-    let zeros = [43, 44, 45, 46, 47, 48].map(|field| (field, 0));
+    let zeros = [43, 44, 45, 46, 47, 48, 49].map(|field| (field, 0));
     let none = of_edition(5, &kept_with(&zeros));
     assert_eq!(read(&none).unwrap().offers[0].schedule, None);
-    for field in 44..49 {
+    for field in 44..50 {
         let mut bytes = none.clone();
         bytes[11 * field + 21] = 1;
         assert_eq!(examine(&bytes), Err(Refusal::Unsound), "{field}");

@@ -1,5 +1,6 @@
-use mathlib.Core.Path.{_≡_, sym, ap}
+use mathlib.Core.Path.{_≡_, sym, ap, _∙_}
 use Prim.Native.Nat.{ℕ}
+use borrow.Author.Needs.{needs}
 use Rattle.refusal.specs.Choice.{pick}
 use Rattle.journal.specs.Table.{fieldsOf, fieldsIn, padded, rowFields}
 use Rattle.journal.specs.TableLaws.{no-fields}
@@ -19,6 +20,7 @@ unfolding fieldsOf fieldsIn padded pick
 fields-spec =
     tie.close
     (tie.spec
+    (λ c κs. search needs)
     (λ c. at 0x21 (c .before) (c .match .keys1))
     (λ c. at 0x22 (c .before) (c .match .keys2))
     (λ c. at 0x23 (c .before) (c .match .keys3))
@@ -32,7 +34,7 @@ fields-spec =
     (λ c. at 0x35 (c .before) (c .match .keys11))
     (λ c. at 0x36 (c .before) (c .match .keys12))
     (λ c. at 0x37 (c .before) (c .match .keys13))
-    (λ c. at 0x38 (c .before) (c .match .keys14))
+    (λ c. c .schedule .ensures ∙ at 0x38 (c .before .before) (c .before .match .keys14))
     (λ c. at 0x41 (c .before) (c .match .keys15))
     (λ c. at 0x42 (c .before) (c .match .keys16))
     (λ c. at 0x43 (c .before) (c .match .keys17))

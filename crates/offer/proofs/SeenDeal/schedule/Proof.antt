@@ -1,3 +1,4 @@
+use native.Mathlib.Omega.{arith}
 use mathlib.Core.Path.{_≡_, refl, sym, ap, _∙_}
 use mathlib.Core.List.{List}
 use borrow.Author.Tests.{eqb-true, eqb-false, not-true, not-false}
@@ -5,8 +6,11 @@ use Rattle.money.specs.Range.{isZero}
 use Rattle.money.specs.Facts.{back}
 use Rattle.refusal.specs.Refusal.{Check, invalidInput, first}
 use Rattle.refusal.specs.RefusalLaws.{refusal-not-0, fails, passes, none-left}
-use Rattle.refusal.specs.RuleLaws.{refused, accepted, first-pass, first-stop}
-use Rattle.terms.specs.Installment.{installmentOf}
+use Rattle.refusal.specs.RuleLaws.{refused, accepted, passed, first-pass, first-stop}
+use Rattle.edition.specs.Edition.{keepsTerms}
+use Rattle.terms.specs.Kind.{kindListed}
+use Rattle.terms.specs.Installment.{installmentOf, noneToPay}
+use Rattle.terms.specs.Laws.{listed-le, none-is}
 use Rattle.offer.specs.Offer.{posted}
 use Rattle.offer.specs.Rules.{scheduleChecks}
 use borrow.Author.Needs.{needs}
@@ -14,17 +18,24 @@ use Rattle.offer.proofs.SeenDeal.schedule.Statement.{statement}
 use Rattle.offer.proofs.SeenDeal.schedule.Tie as tie
 
 abbrev checked : tie.Start → List Check
-checked c = scheduleChecks (c .args .self) (c .args .now) (c .args .caller) (c .args .count) (c .args .code) (c .args .first) (c .args .paper)
+checked c = scheduleChecks (c .args .edition) (c .args .self) (c .args .now) (c .args .caller) (c .args .count) (c .args .code) (c .args .first) (c .args .kind) (c .args .paper)
 
 -- the checks before the installment pass
 clear : (c : tie.Else1) → first (checked (c .before .before .before .before)) ≡ 0
 clear c = sym (c .before .schedule-refusal .ensures) ∙ eqb-true _ _ (not-false _ (c .if1 .left))
 
+-- the kind is a listed one, so that it fits
+cast-listed : tie.Need-cast-listed
+cast-listed c =
+    let s = c .before .before .before .before .before .args in
+    let q = passed _ _ _ (passed _ _ _ (clear (c .before)) .1) in
+    record { fits = omega (arith, listed-le (keepsTerms (s .edition)) (s .kind) (not-false (kindListed (keepsTerms (s .edition)) (s .kind)) (q .0))) }
+
 -- the installment that is tested is the one of the offer's terms
-tested : (c : tie.After-is-zero) → isZero (installmentOf (c .before .before .before .before .before .before .before .args .self .row .offer .terms) (c .before .before .before .before .before .before .before .args .count) .1) ≡ c .is-zero .result
+tested : (c : tie.After-is-zero) → noneToPay (c .before .before .before .before .before .before .before .args .self .row .offer .terms) (c .before .before .before .before .before .before .before .args .kind) (c .before .before .before .before .before .before .before .args .count) ≡ c .is-zero .result
 tested c =
     let told = simp (back (c .before .installment-of .result) (search needs)) at (c .is-zero .ensures) in
-    sym (told ∙ ap isZero (c .before .installment-of .ensures))
+    none-is _ _ _ ∙ sym (told ∙ ap isZero (c .before .installment-of .ensures))
 
 returns : tie.Need-returns
 returns c =
@@ -50,6 +61,7 @@ schedule-spec =
     (λ c κs. search needs)
     (λ c κs. search needs)
     returns
+    cast-listed
     (λ c κs. search needs)
     (λ c κs. search needs)
     (λ c κs. search needs)

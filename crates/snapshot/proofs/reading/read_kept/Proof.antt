@@ -12,7 +12,9 @@ returns c = takes-lacking _ _ _ (sym (c .before .keeps-terms .ensures) ∙ not-t
 
 returns-2 : tie.Need-returns-2
 unfolding kept
-returns-2 c = takes-given _ _ _ (sym (c .before .before .before .before .before .keeps-terms .ensures) ∙ not-false _ (c .before .before .before .before .if1 .left)) (takes-then (takes-signed 0x9a (c .before .before .before .next .ensures) (c .before .of-bits .ensures)) (c .before .before .next2 .ensures .takes))
+returns-2 c =
+    takes-given _ _ _ (sym (c .before .before .before .before .before .before .before .keeps-terms .ensures) ∙ not-false _ (c .before .before .before .before .before .before .if1 .left))
+    (takes-then (takes-signed 0x9a (c .before .before .before .before .before .next .ensures) (c .before .before .of-bits .ensures)) (takes-then (c .before .before .before .before .next2 .ensures .takes) (c .before .before .before .next3 .ensures .takes)))
 
 pub read-kept-spec : {M : Type 1} → statement M
 read-kept-spec =
@@ -23,5 +25,7 @@ read-kept-spec =
     (λ c κs. search needs)
     (λ c κs. search needs)
     (λ c κs. search needs)
+    (λ c κs. search needs)
+    (λ c. search needs)
     (λ c. search needs)
     returns-2)

@@ -18,8 +18,9 @@ returns c =
 returns-2 : tie.Need-returns-2
 unfolding kept
 returns-2 c =
-    puts-given _ _ _ (sym (c .before .before .before .before .before .before .before .before .before .before .keeps-terms .ensures) ∙ not-false _ (c .before .before .before .before .before .before .before .before .before .if1 .left))
-    (puts-then (as-signed 0x9a (back (c .before .before .before .before .before .before .before .before .before .before .before .before .args .row .amount) (c .before .before .before .before .before .before .before .struct-told .given .1 .1 .1 .1 .0 .1)) (c .before .before .before .before .before .before .put-signed .ensures)) (c .before .before .put-half .ensures))
+    puts-given _ _ _ (sym (c .before .before .before .before .before .before .before .before .before .before .before .before .before .before .keeps-terms .ensures) ∙ not-false _ (c .before .before .before .before .before .before .before .before .before .before .before .before .before .if1 .left))
+    (puts-then (as-signed 0x9a (back (c .before .before .before .before .before .before .before .before .before .before .before .before .before .before .before .before .args .row .amount) (c .before .before .before .before .before .before .before .before .before .before .before .struct-told .given .1 .1 .1 .1 .0 .1)) (c .before .before .before .before .before .before .before .before .before .before .put-signed .ensures))
+    (puts-then (c .before .before .before .before .before .before .put-half .ensures) (c .before .before .put-half2 .ensures)))
 
 pub put-kept-spec : {M : Type 1} → statement M
 put-kept-spec =
@@ -27,6 +28,7 @@ put-kept-spec =
     (tie.spec
     (λ c κs. search needs)
     returns
+    (λ c κs. search needs)
     (λ c κs. search needs)
     (λ c κs. search needs)
     (λ c. puts-kept (returns-2 c))
