@@ -42,7 +42,7 @@ Replays a journal, from a fresh book or on that of a snapshot, and answers quest
   account ID                    0 balance allowance offered accepted
   lender ID                     0 offered accepted pending repaid
   active ID                     0 SUM
-  schedule ID                   0 count code installment first-due, or 0 none
+  schedule ID                   0 count code installment first-due kind, or 0 none
   negotiation ID                0 ROUNDS DEADLINE OUTCOME, then party amount rate duration time each
   negotiation-status ID NOW     0 CODE
   due ID NOW                    0 NUMBER OWED
@@ -52,7 +52,7 @@ Replays a journal, from a fresh book or on that of a snapshot, and answers quest
 The ten numbers: id invoice lender amount rate duration expires status funded repaid.
 4 says that there is no such offer. An offer's status: 0 Pending, 1 Accepted, 2 Rejected, 3 Financed, 4 Repaid, 5 Defaulted; a
 negotiation's status and outcome: 0 none, 1 Open, 2 Closed, 3 Accepted, 4 Expired; a party: 0 lender, 1 originator; a schedule's code:
-1 weekly, 2 fortnightly, 3 thirty days. Seats are a bit each.
+1 weekly, 2 fortnightly, 3 thirty days, its kind: 0 flat, 1 falling. Seats are a bit each.
 ",
     );
 }

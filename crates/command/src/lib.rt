@@ -1,4 +1,4 @@
-// The 24 commands of document 01's journal, each with its fields in the order of their tags; one that an edition's records lack is 0.
+// The 24 commands of document 01's journal, each with its fields in the order of their tags. What an edition's records lack is read as 0.
 use table::Named;
 use terms::Terms;
 ghost use mathlib.Core.Path.{_≡_};

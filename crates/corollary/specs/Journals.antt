@@ -35,7 +35,7 @@ recordsOf e (c ∷ cs) = bytesFor e c ++ recordsOf e cs
 unfoldable pub journalOf : ℕ → List Command → List ℕ
 journalOf e cs = headerOf e ++ recordsOf e cs
 
--- each of them fits its type, as every command of the code does
+-- each of them fits its type, as every command of the code does, and has no number that the edition's records lack
 unfoldable pub AllHeld : ℕ → List Command → Type 0
 AllHeld e [] = Unit {0}
 AllHeld e (c ∷ cs) = Held e c × AllHeld e cs

@@ -17,7 +17,8 @@ use Rattle.wire.specs.FieldLaws.{and-left, and-right, begins-room}
 use Rattle.wire.specs.FieldTrip.{bytes-drop, field-bytes, number-whole, number-small}
 use Rattle.journal.specs.Answers.{Opening, goodHeader, badHeader, found, ended, malformed}
 use Rattle.journal.specs.Table.{topOf, named, fieldsOf, made, partsOf}
-use Rattle.journal.specs.Format.{headerOf, editionIn, openingOf, fieldIn, wellIn, numbersIn, zeros, byTag, recordAt, readAt, fieldsOut, bytesFor}
+use Rattle.journal.specs.Format.{headerOf, editionIn, openingOf, fieldIn, wellIn, numbersIn, zeros, recordAt, readAt, fieldsOut, bytesFor}
+use Rattle.journal.specs.Held.{byTag}
 use Rattle.journal.specs.WriteLaws.{length-for}
 use Rattle.journal.specs.HeldLaws.{Tops}
 use Rattle.journal.specs.Faithful.{made-of}

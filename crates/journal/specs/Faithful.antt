@@ -14,7 +14,8 @@ use Rattle.money.specs.Facts.{bits-of-bits}
 use Rattle.command.specs.declared.Command.{Command}
 use Rattle.journal.specs.Answers.{found, malformed}
 use Rattle.journal.specs.Table.{Row, rowsIn, rows, named, fieldsIn, fieldsOf, madeIn, made, partsIn, partsOf}
-use Rattle.journal.specs.Format.{zeros, byTag}
+use Rattle.journal.specs.Format.{zeros}
+use Rattle.journal.specs.Held.{byTag}
 use Rattle.journal.specs.declared.reading.Values.{Values}
 
 -- the first n numbers

@@ -39,11 +39,6 @@ numbersIn v (f ∷ fs) b = numbersIn (set v f (numberAt 8 (drop 3 b))) fs (drop 
 abbrev pub zeros : List ℕ
 zeros = replicate 32 0
 
--- and with numbers that stand in the order of their fields
-unfoldable pub byTag : List ℕ → List ℕ → List ℕ → List ℕ
-byTag v [] xs = v
-byTag v (f ∷ fs) xs = byTag (set v f (getD xs 0 0)) fs (drop 1 xs)
-
 -- both, as the code takes them
 unfoldable pub gatheredIn : List ℕ → List ℕ → Gathered
 gatheredIn fs b = pick (wellIn fs b) (true, numbersIn zeros fs b) (false, zeros)

@@ -23,8 +23,8 @@ use Rattle.command.specs.declared.Command.{Command}
 use Rattle.command.specs.declared.Command.the-variants.{OpenAccount, Deposit, Payout, Approve, RegisterInvoice, CancelInvoice, CreateOffer, WithdrawOffer, AcceptOffer, RejectOffer, AmendOffer, CounterOffer, CloseNegotiation, ScheduleRepayment, UpdateStatus, UpdateRepaid, UpdateLenderRepaid, UpdateTotalsRepaid, Pause, Unpause, SetWindow, SetRepaymentAccount, SetBlacklisted, SetSeats}
 use Rattle.journal.specs.Answers.{found}
 use Rattle.journal.specs.Table.{topOf, named, rowsIn, fieldsIn, fieldsOf, madeIn, made, partsIn, partsOf}
-use Rattle.journal.specs.Format.{zeros, byTag}
-use Rattle.journal.specs.Held.{InTypes, valuesOf, Held}
+use Rattle.journal.specs.Format.{zeros}
+use Rattle.journal.specs.Held.{byTag, InTypes, valuesOf, Held}
 
 -- each number is at most its field's largest
 abbrev pub Tops : List ℕ → List ℕ → Type 0

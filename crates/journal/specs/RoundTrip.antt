@@ -21,10 +21,10 @@ use Rattle.wire.specs.FieldTrip.{body-past, begins-field, number-past}
 use Rattle.journal.specs.Answers.{goodHeader, found}
 use Rattle.journal.specs.Table.{isNarrow, topOf, named, fieldsOf, made, partsOf}
 use Rattle.journal.specs.TableLaws.{few}
-use Rattle.journal.specs.Format.{headerOf, editionIn, openingOf, fieldIn, wellIn, numbersIn, zeros, byTag, recordAt, readAt, fieldsOut, recordOf, bytesFor}
+use Rattle.journal.specs.Format.{headerOf, editionIn, openingOf, fieldIn, wellIn, numbersIn, zeros, recordAt, readAt, fieldsOut, recordOf, bytesFor}
 use Rattle.journal.specs.ReadLaws.{at-record}
 use Rattle.journal.specs.WriteLaws.{length-fields, length-record}
-use Rattle.journal.specs.Held.{Held}
+use Rattle.journal.specs.Held.{byTag, Held}
 use Rattle.journal.specs.HeldLaws.{Tops, in-range, made-back}
 
 -- an edition that there is fits the header's two bytes

@@ -13,7 +13,7 @@ ghost use Rattle.journal.specs.Format.{fieldsOut};
 pub struct Parts(pub u8, pub [u64; 9]);
 
 // The number of a field that only some editions' records have, or the 0 that follows a record's numbers.
-fn kept(has: bool, x: u64) -> u64
+fn also(has: bool, x: u64) -> u64
     ensures { λ r. ⌜ r ≡ pick has x 0 ⌝ }
 {
     if has {
@@ -147,7 +147,7 @@ pub fn split(edition: u32, c: Command) -> Parts
                 count as u64,
                 code as u64,
                 first,
-                kept(edition::keeps_terms(edition), kind),
+                also(edition::keeps_terms(edition), kind),
                 0,
                 0,
             ],

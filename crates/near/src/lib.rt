@@ -206,21 +206,22 @@ impl Near {
         self.deal_posted(posted)
     }
 
-    fn scheduled(
-        self,
-        now: u64,
-        caller: u64,
-        count: u32,
-        code: u32,
-        start: u64,
-        kind: u64,
-    ) -> Turn
+    fn scheduled(self, now: u64, caller: u64, count: u32, code: u32, start: u64, kind: u64) -> Turn
         ensures { λ r. ⌜ AtDeal self r (λ o m. onOffer m o (scheduleOf (m .settings .edition) (offerIn m o) now caller count code start kind (paperOf m o))) ⌝ }
     {
         let deal = self.deal;
         let paper = self.paper;
         let settings = self.settings;
-        let posted = deal.schedule(settings.edition, now, caller, count, code, start, kind, paper);
+        let posted = deal.schedule(
+            settings.edition,
+            now,
+            caller,
+            count,
+            code,
+            start,
+            kind,
+            paper,
+        );
         self.deal_posted(posted)
     }
 

@@ -77,7 +77,7 @@ pub no-deal-zero : dealZero noDeal ≡ true
 unfolding dealZero offerZero scheduleZero scheduleNone keepsNone
 no-deal-zero = rw none-zero
 
--- a schedule of an edition that keeps no terms has none, and no other kind than the first
+-- a schedule of an edition that keeps no terms has none, and is flat
 module _ (kept : Bool) (s : Schedule) (h : scheduleZero s || scheduleOk kept s ≡ true) where
   by-case : {P : Type 0} → (s ≡ noSchedule → P) → (scheduleOk kept s ≡ true → P) → P
   by-case {P} f g = go (scheduleZero s) refl h

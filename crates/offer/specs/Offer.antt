@@ -74,7 +74,7 @@ unfoldable pub counteredDeal : ℕ → ℕ → Terms → Deal → Deal
 counteredDeal now window t d = record { offer = d .offer; negotiation = addedOf roundSlots (d .negotiation) (roundOf now t 1) window; schedule = d .schedule }
 
 -- ── What a sound book holds of it ─────────────────────────────────
--- its rounds are at most as many as the book's edition has, and its schedule keeps terms where the edition does
+-- its rounds are at most as many as the book's edition has, and its schedule keeps its terms and has a kind where the edition has both
 unfoldable pub dealSound : ℕ → Deal → Bool
 dealSound e d =
     (((termsOk (d .offer .terms) && inTotal (d .offer .repaid)) && statusListed (d .offer .status)) && negotiationSound roundSlots (roundLimit e) (d .negotiation))

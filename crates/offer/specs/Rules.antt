@@ -136,7 +136,7 @@ closeOf s now caller paper = record {
   done = withNegotiation (closedAs (outcomeAt (standing s now)) (s .row .negotiation)) (s .row);
 }
 
--- Schedule: count 3; kind 3 (02 j); first_due ≤ now 3; code 3; 4; Rejected, Repaid or Defaulted 7; invoice 4; not lender or originator 6; no installment 3
+-- Schedule: count 3; kind 3 (02 j); first_due ≤ now 3; code 3; 4; Rejected, Repaid or Defaulted 7; invoice 4; not lender or originator 6
 abbrev pub scheduleChecks : ℕ → SeenDeal → ℕ → ℕ → ℕ → ℕ → ℕ → ℕ → SeenInvoice → List Check
 scheduleChecks e s now caller count code first kind paper =
     (not (countOk count) gives invalidInput)
@@ -149,7 +149,7 @@ scheduleChecks e s now caller count code first kind paper =
     ∷ (not (eqb (s .row .offer .lender) caller || eqb (paper .row .originator) caller) gives unauthorized)
     ∷ []
 
--- the schedule keeps the offer's terms where the edition does (02 i)
+-- then installment 0, or falling with floor(amount/count) = 0, gives 3. The schedule keeps the offer's terms where the edition does (02 i)
 abbrev pub scheduleOf : ℕ → SeenDeal → ℕ → ℕ → ℕ → ℕ → ℕ → ℕ → SeenInvoice → Rule Deal
 scheduleOf e s now caller count code first kind paper = record {
   checks = scheduleChecks e s now caller count code first kind paper ++ ((noneToPay (s .row .offer .terms) kind count gives invalidInput) ∷ []);

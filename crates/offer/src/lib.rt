@@ -673,7 +673,7 @@ pub fn create_refusal(
     0
 }
 
-// The installment, 0 where the terms or the count are out of range.
+// The first installment, 0 where the terms, the count or the kind are out of range.
 fn installment_of(t: Terms, kind: u32, count: u32) -> i64
     ensures { λ r. ⌜ r ≡ installmentOf t kind count .1 ⌝ }
 {

@@ -5,13 +5,15 @@ use mathlib.Core.Path.{_≡_, refl, sym, ap, _∙_}
 use mathlib.Core.Bool.{Bool, true, false, _&&_, _||_}
 use mathlib.Core.List.{List, [], _∷_, map}
 use lib.ListN.{length, getD}
-use lib.Dec.{leb}
+use lib.Dec.{leb, eqb, ltb}
 use Rattle.refusal.specs.ChoiceLaws.{pick-on, pick-off}
 use Rattle.money.specs.Range.{inAmount, inTotal, magnitudeOf}
 use Rattle.money.specs.Facts.{both}
 use Rattle.terms.specs.Terms.{termsOk}
 use Rattle.edition.specs.Edition.{keepsTerms}
+use Rattle.installments.specs.Sums as Sums
 use Rattle.installments.specs.SumLaws.{Promises}
+use Rattle.terms.specs.Status.{statusRepaid, statusDefaulted}
 use Rattle.terms.specs.Laws.{schedule-promises, elapsed-le}
 use Rattle.terms.specs.Schedule.{secondsOf, scheduleOk, scheduleZero, installmentsOf}
 use Rattle.terms.specs.Due.{elapsedOf, owedAt, dueOf, dueArguments}
@@ -101,7 +103,14 @@ due-number {e} d now h z =
     let a : (scheduleOk (keepsTerms e) (d .schedule) && leb (d .offer .status) 5) && inTotal (d .offer .repaid) ≡ true = rw (s, r .status-in, r .repaid-in) in
     pick-off _ _ z ∙ ap (λ (x : ℕ × (ℕ × ℕ)). x .1) (pick-on _ _ a)
 
--- and what is promised of a due holds of it: of the schedule's installments, those elapsed, and the amount repaid
+-- which is, where the offer is neither Repaid nor Defaulted and its first installment has fallen due, what is due of its list
+pub due-listed : {e : ℕ} (d : Deal) (now : ℕ) → DealKept e d → scheduleZero (d .schedule) ≡ false
+    → eqb (d .offer .status) statusRepaid ≡ false → eqb (d .offer .status) statusDefaulted ≡ false → ltb now (d .schedule .first) ≡ false
+    → dueIn e d now ≡ Sums.dueOf (installmentsOf (keepsTerms e) (d .schedule)) (elapsedOf (now - d .schedule .first) (secondsOf (d .schedule .code)) (d .schedule .count)) (magnitudeOf (d .offer .repaid))
+unfolding owedAt
+due-listed d now h z a b c = due-number d now h z ∙ (pick-off _ _ a ∙ (pick-off _ _ b ∙ pick-off _ _ c))
+
+-- and what is promised of a due holds of that: of the schedule's installments, those elapsed, and the amount repaid
 pub due-promised : {e : ℕ} (d : Deal) (now : ℕ) → DealKept e d → scheduleZero (d .schedule) ≡ false
     → Promises (installmentsOf (keepsTerms e) (d .schedule)) (elapsedOf (now - d .schedule .first) (secondsOf (d .schedule .code)) (d .schedule .count)) (magnitudeOf (d .offer .repaid))
 due-promised {e} d now h z =

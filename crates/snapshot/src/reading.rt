@@ -308,7 +308,7 @@ fn read_negotiation(s: &[u8], c: Cursor, edition: u32) -> ReadNegotiation
     ReadNegotiation { row, c: d }
 }
 
-// The terms that a schedule keeps; zeros where the edition keeps none.
+// The terms that a schedule keeps and its kind; zeros where the edition has neither.
 struct ReadKept {
     amount: i64,
     rate: u32,

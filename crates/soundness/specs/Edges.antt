@@ -35,18 +35,12 @@ use Rattle.rules.specs.Rules.{accountRule, offerRule, settingsRule, ruled}
 use Rattle.soundness.specs.Played.{answersOf}
 
 pub data Edge : Type 0 where
-  -- amount, rate and count, with the installment; the same of a falling schedule
-  installs : ℕ → ℕ → ℕ → ℕ → Edge
-  firsts : ℕ → ℕ → ℕ → ℕ → Edge
-  -- the same of an offer, with what command 38 answers
-  schedules : ℕ → ℕ → ℕ → ℕ → Edge
-  -- an edition and a kind, with what command 38 answers for 1000 at 500 in 3
-  kinds : ℕ → ℕ → ℕ → Edge
-  -- now and amount repaid, with the number due of the schedule below and what is owed on it: without kept terms, and with them
-  dues : ℕ → ℕ → ℕ → ℕ → Edge
-  owes : ℕ → ℕ → ℕ → ℕ → Edge
-  -- the same of a falling one
-  falls : ℕ → ℕ → ℕ → ℕ → Edge
+  -- kind, amount, rate and count, with the installment
+  installs : ℕ → ℕ → ℕ → ℕ → ℕ → Edge
+  -- the same of an offer in an edition, with what command 38 answers
+  schedules : ℕ → ℕ → ℕ → ℕ → ℕ → ℕ → Edge
+  -- now and amount repaid, with the number due of the schedule below and what is owed on it: without kept terms or with them, by kind
+  dues : Bool → ℕ → ℕ → ℕ → ℕ → ℕ → Edge
   -- the deadline of a negotiation on a Pending offer and now, with its status
   stands : ℕ → ℕ → ℕ → Edge
   -- now and the window, with the deadline that the first round sets
@@ -62,9 +56,6 @@ weekly kept kind = madeOf kept (day 1000 500) kind 3 1 1000000 (pos 349)
 abbrev sameDue : ℕ × (ℕ × ℕ) → ℕ → ℕ → Bool
 sameDue d n x = (eqb (d .0) 0 && eqb (d .1 .0) n) && eqb (d .1 .1) x
 
-abbrev isDue : Bool → ℕ → ℕ → ℕ → ℕ → ℕ → Bool
-isDue kept kind now repaid n x = sameDue (dueOf kept (weekly kept kind) statusFinanced (pos repaid) now) n x
-
 abbrev oneRound : ℕ → Negotiation
 oneRound deadline = record { rounds = replicate roundSlots noRound; deadline = deadline; len = 1; outcome = 0 }
 
@@ -78,9 +69,6 @@ asking t count kind =
     ∷ ScheduleRepayment 100 1 20 count 1 200 kind
     ∷ []
 
-abbrev isFirst : ℕ → ℕ → ℕ → ℕ → ℕ → Bool
-isFirst kind amount rate count x = eqb (installmentOf (day amount rate) kind count .0) 0 && sameAmount (installmentOf (day amount rate) kind count .1) (pos x)
-
 unfoldable pub sameList : List ℕ → List ℕ → Bool
 sameList [] [] = true
 sameList [] (b ∷ m) = false
@@ -88,13 +76,9 @@ sameList (a ∷ l) [] = false
 sameList (a ∷ l) (b ∷ m) = eqb a b && sameList l m
 
 unfoldable pub holds : Edge → Bool
-holds (installs amount rate count x) = isFirst flatKind amount rate count x
-holds (firsts amount rate count x) = isFirst fallingKind amount rate count x
-holds (schedules amount rate count n) = sameList (answersOf (freshModel 1) (asking (day amount rate) count flatKind)) (0 ∷ 0 ∷ 0 ∷ 0 ∷ n ∷ [])
-holds (kinds e kind n) = sameList (answersOf (freshModel e) (asking (day 1000 500) 3 kind)) (0 ∷ 0 ∷ 0 ∷ 0 ∷ n ∷ [])
-holds (dues now repaid n x) = isDue false flatKind now repaid n x
-holds (owes now repaid n x) = isDue true flatKind now repaid n x
-holds (falls now repaid n x) = isDue true fallingKind now repaid n x
+holds (installs kind amount rate count x) = eqb (installmentOf (day amount rate) kind count .0) 0 && sameAmount (installmentOf (day amount rate) kind count .1) (pos x)
+holds (schedules e kind amount rate count n) = sameList (answersOf (freshModel e) (asking (day amount rate) count kind)) (0 ∷ 0 ∷ 0 ∷ 0 ∷ n ∷ [])
+holds (dues kept kind now repaid n x) = sameDue (dueOf kept (weekly kept kind) statusFinanced (pos repaid) now) n x
 holds (stands deadline now status) = eqb (statusOf (oneRound deadline) true now) status
 holds (ends now window deadline) = eqb (deadlineOf 0 now window 0) deadline
 
@@ -104,44 +88,47 @@ all (e ∷ l) = holds e && all l
 
 unfoldable pub edges : List Edge
 edges =
-    installs 1000 500 3 349
-    ∷ installs 1200 10000 1200 2
-    ∷ installs 1199 500 1200 0
-    ∷ firsts 1000 500 3 349
-    ∷ firsts 5 7500 3 2
-    ∷ firsts 1199 10000 1200 0
-    ∷ firsts 1200 10000 1200 2
-    ∷ schedules 1199 500 1200 3
-    ∷ schedules 1200 500 1200 0
-    ∷ kinds 4 0 0
-    ∷ kinds 4 1 3
-    ∷ kinds 5 1 0
-    ∷ kinds 5 2 3
-    ∷ kinds 5 4294967297 3
-    ∷ kinds 5 18446744073709551615 3
-    ∷ dues 999999 0 0 0
-    ∷ dues 1000000 0 1 349
-    ∷ dues 1604799 349 0 0
-    ∷ dues 1604800 349 2 349
-    ∷ dues 1604800 697 2 1
-    ∷ dues 1604800 698 0 0
-    ∷ dues 18446744073709551615 698 3 349
-    ∷ dues 18446744073709551615 1047 0 0
-    ∷ owes 999999 0 0 0
-    ∷ owes 18446744073709551615 348 1 1
-    ∷ owes 18446744073709551615 349 2 349
-    ∷ owes 18446744073709551615 697 2 1
-    ∷ owes 18446744073709551615 698 3 352
-    ∷ owes 18446744073709551615 1047 3 3
-    ∷ owes 18446744073709551615 1049 3 1
-    ∷ owes 18446744073709551615 1050 0 0
-    ∷ falls 999999 0 0 0
-    ∷ falls 18446744073709551615 348 1 1
-    ∷ falls 18446744073709551615 349 2 344
-    ∷ falls 18446744073709551615 692 2 1
-    ∷ falls 18446744073709551615 693 3 339
-    ∷ falls 18446744073709551615 1031 3 1
-    ∷ falls 18446744073709551615 1032 0 0
+    installs flatKind 1000 500 3 349
+    ∷ installs flatKind 1200 10000 1200 2
+    ∷ installs flatKind 1199 500 1200 0
+    ∷ installs fallingKind 1000 500 3 349
+    ∷ installs fallingKind 5 7500 3 2
+    ∷ installs fallingKind 1199 10000 1200 0
+    ∷ installs fallingKind 1200 10000 1200 2
+    ∷ schedules 1 flatKind 1199 500 1200 3
+    ∷ schedules 1 flatKind 1200 500 1200 0
+    ∷ schedules 4 0 1000 500 3 0
+    ∷ schedules 4 1 1000 500 3 3
+    ∷ schedules 5 0 1000 500 3 0
+    ∷ schedules 5 1 1000 500 3 0
+    ∷ schedules 5 1 1199 10000 1200 3
+    ∷ schedules 5 1 1200 10000 1200 0
+    ∷ schedules 5 2 1000 500 3 3
+    ∷ schedules 5 4294967297 1000 500 3 3
+    ∷ schedules 5 18446744073709551615 1000 500 3 3
+    ∷ dues false flatKind 999999 0 0 0
+    ∷ dues false flatKind 1000000 0 1 349
+    ∷ dues false flatKind 1604799 349 0 0
+    ∷ dues false flatKind 1604800 349 2 349
+    ∷ dues false flatKind 1604800 697 2 1
+    ∷ dues false flatKind 1604800 698 0 0
+    ∷ dues false flatKind 18446744073709551615 698 3 349
+    ∷ dues false flatKind 18446744073709551615 1047 0 0
+    ∷ dues true flatKind 999999 0 0 0
+    ∷ dues true flatKind 18446744073709551615 348 1 1
+    ∷ dues true flatKind 18446744073709551615 349 2 349
+    ∷ dues true flatKind 18446744073709551615 697 2 1
+    ∷ dues true flatKind 18446744073709551615 698 3 352
+    ∷ dues true flatKind 18446744073709551615 1047 3 3
+    ∷ dues true flatKind 18446744073709551615 1049 3 1
+    ∷ dues true flatKind 18446744073709551615 1050 0 0
+    ∷ dues true fallingKind 999999 0 0 0
+    ∷ dues true fallingKind 18446744073709551615 348 1 1
+    ∷ dues true fallingKind 18446744073709551615 349 2 344
+    ∷ dues true fallingKind 18446744073709551615 692 2 1
+    ∷ dues true fallingKind 18446744073709551615 693 3 339
+    ∷ dues true fallingKind 18446744073709551615 1031 3 1
+    ∷ dues true fallingKind 18446744073709551615 1032 0 0
     ∷ stands 604900 604900 1
     ∷ stands 604900 604901 4
     ∷ stands 18446744073709551615 18446744073709551615 1

@@ -12,7 +12,7 @@ use Rattle.terms.specs.declared.InstallmentAnswer.the-variants.{Of, Inva
 use Rattle.terms.specs.Terms.{termsOk, countOk}
 use Rattle.terms.specs.Kind.{fallingKind, kindListed, firstOf}
 
--- p + y, where p = floor(amount/count) and y = floor(p×rate/10,000); of a falling schedule the first of its list
+-- the first of the kind's, which a schedule stores
 unfoldable pub installmentAmount : Terms → ℕ → ℕ → ℕ
 installmentAmount t kind count = firstOf kind (magnitudeOf (t .amount)) (t .rate) count
 

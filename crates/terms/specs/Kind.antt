@@ -17,6 +17,6 @@ fallingKind = 1
 unfoldable pub kindListed : Bool → ℕ → Bool
 kindListed kept kind = eqb kind flatKind || (kept && eqb kind fallingKind)
 
--- of a falling schedule the first of its installments, of a flat one document 01's p + y
+-- of a falling schedule the first of its installments; of a flat one document 01's p + y, where p = floor(amount/count) and y = floor(p×rate/10,000)
 unfoldable pub firstOf : ℕ → ℕ → ℕ → ℕ → ℕ
 firstOf kind amount rate count = pick (eqb kind fallingKind) (getD (falling amount rate count) 0 0) (partOf amount rate count)

@@ -77,14 +77,18 @@ amount-le x h =
     omega arith
 
 -- an amount, a rate and a number of installments in range, as the lists' code has them
-pub price-in : (x : ℤ) (rate count : ℕ) → inAmount x ≡ true → 1 ≤ rate → rate ≤ 10000 → countOk count ≡ true → fallingOk (magnitudeOf x) rate count 0 0 ≡ true
-unfolding fallingOk Arguments.termsOk dueOk
-price-in x rate count h l m k =
+terms-are-in : (x : ℤ) (rate : ℕ) → inAmount x ≡ true → 1 ≤ rate → rate ≤ 10000 → Arguments.termsOk (magnitudeOf x) rate ≡ true
+unfolding Arguments.termsOk
+terms-are-in x rate h l m =
     let b = between 1 1000000000000 x h in
     let e = magnitude-is 1 1000000000000 x h in
-    simp (k, le-leb 0 count (omega arith), le-leb 0 4000000000000000 (omega arith), le-leb 1 (magnitudeOf x) (omega arith), le-leb (magnitudeOf x) 1000000000000 (amount-le x h), le-leb 1 rate l, le-leb rate 10000 m)
+    simp (le-leb 1 (magnitudeOf x) (omega arith), le-leb (magnitudeOf x) 1000000000000 (amount-le x h), le-leb 1 rate l, le-leb rate 10000 m)
 
--- the first installment of either kind is at most twice the amount
+pub price-in : (x : ℤ) (rate count : ℕ) → inAmount x ≡ true → 1 ≤ rate → rate ≤ 10000 → countOk count ≡ true → fallingOk (magnitudeOf x) rate count 0 0 ≡ true
+unfolding fallingOk dueOk
+price-in x rate count h l m k = simp (k, le-leb 0 count (omega arith), le-leb 0 4000000000000000 (omega arith), terms-are-in x rate h l m)
+
+-- the first installment of either kind can be stored, if it is not 0
 pub first-le : (kind amount rate count : ℕ) → fallingOk amount rate count 0 0 ≡ true → firstOf kind amount rate count ≤ 2000000000000
 unfolding firstOf
 first-le kind amount rate count h =
@@ -271,11 +275,7 @@ none-kept s h =
     all-three p q r = rw (p, q, r)
 
 pub total-ok : (s : Schedule) → KeptIn s → Arguments.termsOk (magnitudeOf (s .amount)) (s .rate) ≡ true
-unfolding Arguments.termsOk
-total-ok s k =
-    let l = between 1 1000000000000 (s .amount) (k .amount) in
-    let m = magnitude-is 1 1000000000000 (s .amount) (k .amount) in
-    simp (le-leb 1 (magnitudeOf (s .amount)) (omega arith), le-leb (magnitudeOf (s .amount)) 1000000000000 (amount-le (s .amount) (k .amount)), le-leb 1 (s .rate) (k .rate-low), le-leb (s .rate) 10000 (k .rate-high))
+total-ok s k = terms-are-in (s .amount) (s .rate) (k .amount) (k .rate-low) (k .rate-high)
 
 -- the installment that it stores, by its kind
 module _ (s : Schedule) (k : KeptIn s) where

@@ -11,7 +11,8 @@ use Rattle.command.specs.declared.Command.the-variants.{OpenAccount, Deposit, P
 use Rattle.wire.specs.NumberLaws.{Bytes}
 use Rattle.journal.specs.Answers.{Reading, found, refused, ended}
 use Rattle.journal.specs.Table.{isNarrow, topOf, named, fieldsOf, madeIn, made, partsIn as partsWith, partsOf}
-use Rattle.journal.specs.Format.{zeros, byTag, readAt, bytesFor}
+use Rattle.journal.specs.Format.{zeros, readAt, bytesFor}
+use Rattle.journal.specs.Held.{byTag}
 use Rattle.journal.specs.HeldLaws.{Tops}
 use Rattle.journal.specs.Faithful.{made-of}
 use Rattle.journal.specs.Canonical.{canonical}

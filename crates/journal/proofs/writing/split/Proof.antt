@@ -30,7 +30,7 @@ returns-14 c =
     let g = d .c14 .given .0 in
     let e = d .before .before .args .edition in
     let l = g .0 ∷ g .1 .0 ∷ g .1 .1 .0 ∷ g .1 .1 .1 .0 ∷ g .1 .1 .1 .1 .0 ∷ g .1 .1 .1 .1 .1 .0 ∷ [] in
-    rw (c .kept .ensures, c .before .keeps-terms .ensures) (ap (λ (x : List ℕ). (0x38, x)) (padded-also (keepsTerms e) l (g .1 .1 .1 .1 .1 .1 .0) (omega arith)) ∙ of e (d .c14 .given .1))
+    rw (c .also .ensures, c .before .keeps-terms .ensures) (ap (λ (x : List ℕ). (0x38, x)) (padded-also (keepsTerms e) l (g .1 .1 .1 .1 .1 .1 .0) (omega arith)) ∙ of e (d .c14 .given .1))
 
 pub split-spec : {M : Type 1} → statement M
 unfolding partsOf partsIn padded
