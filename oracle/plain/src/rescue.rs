@@ -184,7 +184,7 @@ mod tests {
             for wrong in 0..good.len() {
                 let at = joined(edition, &good[..wrong]).len() as u64;
                 let kept = [&good[..wrong], &good[wrong + 1..]].concat();
-                for (place, byte) in [(0, 0x27), (3, 0x02), (4, 1), (5, 7), (5, 9), (14, 0x0D)] {
+                for (place, byte) in [(0, 0x28), (3, 0x02), (4, 1), (5, 7), (5, 9), (14, 0x0D)] {
                     let mut damaged = good.clone();
                     damaged[wrong][place] = byte;
                     let expected = rescued(&joined(edition, &kept), &[at], 0);
