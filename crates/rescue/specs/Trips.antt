@@ -17,7 +17,8 @@ use Rattle.wire.specs.FieldLaws.{and-left, and-right}
 use Rattle.wire.specs.NumberLaws.{Bytes}
 use Rattle.journal.specs.Answers.{Opening, goodHeader, Reading, found, refused, ended}
 use Rattle.journal.specs.Table.{rows, fieldsOf, made, partsOf}
-use Rattle.journal.specs.Format.{headerOf, openingOf, zeros, byTag, readAt, bytesFor}
+use Rattle.journal.specs.Format.{headerOf, openingOf, zeros, readAt, bytesFor}
+use Rattle.journal.specs.Held.{byTag}
 use Rattle.journal.specs.ReadLaws.{at-end}
 use Rattle.journal.specs.RoundTrip.{header-long, header-back, parts-back}
 use Rattle.journal.specs.WriteLaws.{length-for}
