@@ -1,11 +1,12 @@
 // Serves the proved book over standard input and output, so that a program of another language can hold it beside its own. A
 // request is a frame of 128 bytes: numbers of eight bytes, of which the first says what is asked, and the record of a command from
 // byte 32 on. A book or a journal follows its frame in 65,536 bytes, a snapshot of at most 4,096 in so many, a longer one in 81,920. An
-// answer is its length in bytes, its own eight included, and then its numbers; a text or a snapshot follows it.
+// answer is its length in bytes, its own eight included, and then its numbers; a text, a snapshot or a rescue's bytes follow it.
 use book::Book;
 use book::Step;
 use journal::Decoded;
 use replay::Listed;
+use rescue::Rescued;
 use snapshot::Loaded;
 use snapshot::Written;
 ghost use mathlib.Core.Path.{_≡_};
@@ -33,6 +34,8 @@ const WRITE: u64 = 8;
 const READ: u64 = 9;
 
 const LISTING_FROM: u64 = 10;
+
+const RESCUE: u64 = 11;
 
 // A snapshot of so many bytes follows its frame in so many.
 const SMALL: u64 = 4096;
@@ -299,6 +302,95 @@ fn restored(book: Book, frame: [u8; 128]) -> Book {
     next
 }
 
+fn send_four(one: u64, two: u64, three: u64, four: u64) {
+    let mut out: [u8; 65536] = io::large_buffer();
+    let second = bridge_words::put(&mut out, 8, one);
+    let third = bridge_words::put(&mut out, second, two);
+    let fourth = bridge_words::put(&mut out, third, three);
+    let at = bridge_words::put(&mut out, fourth, four);
+    bridge_words::put(&mut out, 0, at as u64);
+    send(&out, at);
+}
+
+// Rescues the first n bytes into the first bytes of a buffer, with the report in the first numbers of another.
+fn rescue_part(
+    data: &[u8],
+    n: usize,
+    out: &mut [u8],
+    room: usize,
+    report: &mut [u64],
+    most: usize,
+) -> Rescued {
+    if data.len() < n {
+        return Rescued::Short;
+    }
+    if out.len() < room {
+        return Rescued::Short;
+    }
+    if report.len() < most {
+        return Rescued::Short;
+    }
+    rescue::rescue(&data[..n], &mut out[..room], &mut report[..most])
+}
+
+fn rescue_in(
+    data: &[u8; 65536],
+    n: usize,
+    out: &mut [u8; 65536],
+    room: usize,
+    report: &mut [u64; 8192],
+    most: usize,
+) -> Rescued {
+    rescue_part(data, n, out, room, report, most)
+}
+
+// Sends the first n offsets of a report.
+fn send_offsets(report: &[u64; 8192], n: usize) {
+    let mut out: [u8; 65536] = io::large_buffer();
+    let mut at: usize = 0;
+    let mut i: usize = 0;
+    while i < 8192 {
+        if i < n {
+            at = bridge_words::put(&mut out, at, report[i]);
+        }
+        i += 1;
+    }
+    send(&out, at);
+}
+
+// A rescue: its number, the clean journal's size, how many records were dropped and how many bytes are left, then the bytes and the
+// offsets.
+fn rescued(frame: [u8; 128]) {
+    let n = wire::number(&frame, 8);
+    let room = wire::number(&frame, 16);
+    let most = wire::number(&frame, 24);
+    let mut data: [u8; 65536] = io::large_buffer();
+    io::read_full(0, &mut data);
+    let mut out: [u8; 65536] = io::large_buffer();
+    let mut report: [u64; 8192] = [0; 8192];
+    let r = rescue_in(
+        &data,
+        n as usize,
+        &mut out,
+        room as usize,
+        &mut report,
+        most as usize,
+    );
+    match r {
+        Rescued::Clean(size, dropped, left) => {
+            send_four(0, size as u64, dropped as u64, left as u64);
+            send(&out, size);
+            send_offsets(&report, dropped);
+        }
+        Rescued::Malformed => {
+            send_four(refusal::JOURNAL_MALFORMED, 0, 0, 0);
+        }
+        Rescued::Short => {
+            send_four(refusal::BUFFER_SHORT, 0, 0, 0);
+        }
+    }
+}
+
 fn fresh(edition: u64) -> Book {
     let opened = Book::fresh(bridge_words::half(edition));
     opened.book
@@ -335,6 +427,9 @@ fn served(book: Book, frame: [u8; 128]) -> Book {
     }
     if what == LISTING_FROM {
         return continued(book, frame);
+    }
+    if what == RESCUE {
+        rescued(frame);
     }
     book
 }

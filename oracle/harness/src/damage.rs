@@ -73,7 +73,12 @@ fn wrong_fields(chance: &mut Chance, edition: u64, commands: &[Command]) -> Vec<
     bytes
 }
 
-fn wrong_record(chance: &mut Chance, edition: u64, command: &Command, out: &mut Vec<u8>) {
+pub(crate) fn wrong_record(
+    chance: &mut Chance,
+    edition: u64,
+    command: &Command,
+    out: &mut Vec<u8>,
+) {
     let (mut tag, numbers) = command.numbers();
     let listed = command.kind().fields(edition).into_iter();
     let mut fields: Vec<_> = listed.map(|tag| (tag, numbers[tag as usize])).collect();

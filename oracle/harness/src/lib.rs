@@ -9,6 +9,7 @@ pub mod given;
 pub mod pair;
 pub mod questions;
 pub mod reference;
+pub mod rescue;
 pub mod script;
 pub mod shrink;
 pub mod snapshots;

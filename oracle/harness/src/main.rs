@@ -5,11 +5,12 @@ use std::time::Instant;
 
 use harness::compare::{compare, Found, Report, Snapshots};
 use harness::reference::Reference;
+use harness::rescue::compare_rescues;
 use harness::shrink::show;
 use harness::snapshots::compare_samples;
-use plain::{Plain, Slip, SLIPS};
+use plain::{rescue, Plain, Slip, SLIPS};
 use port::Port;
-use side::Side;
+use side::{Rescue, Side};
 
 const USAGE: &str = "usage:
   harness compare [--edition E] [--side plain] [--seed S] [--commands N] [--slip K]
@@ -21,6 +22,10 @@ const USAGE: &str = "usage:
   harness snapshots [--side plain] [--one-in N]
       damages four snapshots at every byte, one damage in N (1), and compares what the plain reader
       and the proved one make of each; with --side plain by the plain reader alone
+  harness rescue [--side plain] [--seed S] [--count N] [--slip K]
+      damages N journals (10000) of all editions from seed S (1) and compares what the plain rescue
+      and the proved one save of each; with --side plain by the plain rescue alone. K from 1 to 3
+      plants a slip in a second plain one, which must then be found
   harness editions
       prints the editions, a line each
   harness replay [--side plain] FILE
@@ -36,6 +41,7 @@ fn main() -> ExitCode {
     let done = match words.as_slice() {
         ["compare", options @ ..] => compare_command(options),
         ["snapshots", options @ ..] => snapshots_command(options),
+        ["rescue", options @ ..] => rescue_command(options),
         ["editions"] => editions(),
         ["replay", "--side", "plain", file] => replay(file, true),
         ["replay", file] => replay(file, false),
@@ -132,8 +138,12 @@ fn other_side(plain: bool, slip: Option<Slip>) -> Result<Box<dyn Side>, String> 
     if plain || slip.is_some() {
         return Ok(Box::new(Plain::with_slip(slip)));
     }
+    Ok(Box::new(port()?))
+}
+
+fn port() -> Result<Port, String> {
     match std::env::var(port::COMMAND) {
-        Ok(command) => Ok(Box::new(Port::start(&command)?)),
+        Ok(command) => Port::start(&command),
         Err(_) => Err(format!(
             "{} does not name the command of the proved book; oracle/run does, and --side plain \
              compares with the plain model",
@@ -178,6 +188,60 @@ fn snapshots_command(options: &[&str]) -> Result<(), String> {
     let time = time.as_secs_f64();
     println!("{sum} damaged snapshots, the plain reader {who}: no difference, {time:.1} s");
     Ok(())
+}
+
+/// What `rescue` is asked to do.
+struct Damages {
+    plain: bool,
+    seed: u64,
+    count: u64,
+    slip: Option<rescue::Slip>,
+}
+
+fn damages(options: &[&str]) -> Result<Damages, String> {
+    let mut asked = Damages { plain: false, seed: 1, count: 10_000, slip: None };
+    for option in options.chunks(2) {
+        let [name, value] = option else { return Err(USAGE.to_string()) };
+        let number = || value.parse::<u64>().map_err(|_| USAGE.to_string());
+        match *name {
+            "--side" if *value == "plain" => asked.plain = true,
+            "--seed" => asked.seed = number()?,
+            "--count" => asked.count = number()?,
+            "--slip" => {
+                let index = (number()? as usize).wrapping_sub(1);
+                asked.slip = Some(*rescue::SLIPS.get(index).ok_or(USAGE)?);
+            }
+            _ => return Err(USAGE.to_string()),
+        }
+    }
+    Ok(asked)
+}
+
+fn rescue_command(options: &[&str]) -> Result<(), String> {
+    let Damages { plain, seed, count, slip } = damages(options)?;
+    let start = || -> Result<Box<dyn Rescue>, String> {
+        if plain || slip.is_some() {
+            Ok(Box::new(rescue::Rescuer::with_slip(slip)))
+        } else {
+            Ok(Box::new(port()?))
+        }
+    };
+    let began = Instant::now();
+    match (compare_rescues(&start, seed, count), slip) {
+        (Ok(counts), None) => {
+            let who = if plain { "alone" } else { "and the proved one" };
+            let (sum, time) = (counts.sum(), began.elapsed().as_secs_f64());
+            print!("{counts}{sum} journals, seed {seed}, the plain rescue {who}: ");
+            println!("no difference, {time:.1} s");
+            Ok(())
+        }
+        (Err(found), None) => Err(found),
+        (Err(found), Some(slip)) => {
+            println!("{found}\nthe planted slip {slip:?} is found");
+            Ok(())
+        }
+        (Ok(_), Some(slip)) => Err(format!("the planted slip {slip:?} is not found")),
+    }
 }
 
 fn told(other: &mut dyn Side, found: Found) -> String {

@@ -14,6 +14,7 @@ mod port;
 mod queries;
 mod reading;
 mod repayment;
+pub mod rescue;
 pub mod schedule;
 mod settlement;
 pub mod snapshot;
@@ -27,6 +28,7 @@ pub use sound::sound;
 
 const UNSOUND: u64 = 15;
 const MALFORMED: u64 = 13;
+const SHORT: u64 = 14;
 
 /// A test of document 01's lists: passes, or gives its number.
 type Test<T = ()> = Result<T, u64>;

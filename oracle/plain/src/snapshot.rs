@@ -9,10 +9,8 @@ use side::{Account, Book, Invoice, Offer, Round, Schedule};
 
 use crate::edition::{has_kinds, is_listed, keeps_terms, most_rounds, OF_OLD_SNAPSHOTS};
 use crate::money::MOST_ROWS;
-use crate::{sound, MALFORMED, UNSOUND};
+use crate::{sound, MALFORMED, SHORT, UNSOUND};
 use pass::{Pass, Reader, Writer};
-
-const SHORT: u64 = 14;
 
 /// The tag of the first field.
 const EDITION: u8 = 0x10;

@@ -1,12 +1,14 @@
-//! The proved book behind the trait `Side`: the program `bridge` of this repository, which serves
-//! it over its standard input and output. crates/bridge/src/main.rt says what goes over them.
+//! The proved book behind the trait `Side` and the proved rescue behind `Rescue`: the program `bridge`
+//! of this repository, which serves them over its standard input and output. crates/bridge/src/main.rt
+//! says what goes over them.
 
 mod pipe;
 
 use std::cell::RefCell;
 
 use pipe::{Pipe, Request, SMALL, WIDE};
-use side::{Query, Reading, Refused, Reply, Restored, Side, PROGRAM_HOLDS, TOO_LONG};
+use side::{Query, Reading, Refused, Reply, Rescue, Rescued, Restored, Room, Side};
+use side::{PROGRAM_HOLDS, TOO_LONG};
 
 /// Names the command that starts the program, its words parted by spaces.
 pub const COMMAND: &str = "SOLGAVERNA_BRIDGE";
@@ -179,5 +181,22 @@ impl Side for Port {
 
     fn one_in(&self) -> usize {
         8
+    }
+}
+
+impl Rescue for Port {
+    fn rescue(&mut self, journal: &[u8], room: Room) -> Result<Rescued, u64> {
+        let pipe = self.pipe.get_mut();
+        let room = [room.output, room.report].map(|room| room as u64);
+        pipe.send(Request::Rescue, &[journal.len() as u64, room[0], room[1]], &[]);
+        pipe.send_large(journal);
+        let answer = pipe.answer();
+        let [number, size, dropped, left] = answer[..] else { panic!("no answer: {answer:?}") };
+        if number != 0 {
+            return Err(number);
+        }
+        let clean = pipe.bytes(size as usize);
+        let dropped = pipe.numbers(dropped as usize);
+        Ok(Rescued { clean, dropped, left })
     }
 }

@@ -23,6 +23,7 @@ pub enum Request {
     Write = 8,
     Read = 9,
     ListingFrom = 10,
+    Rescue = 11,
 }
 
 pub struct Pipe {
@@ -75,8 +76,11 @@ impl Pipe {
     /// The numbers of an answer.
     pub fn answer(&mut self) -> Vec<u64> {
         let length = self.bytes(8);
-        let length = number(&length) as usize - 8;
-        self.bytes(length).chunks(8).map(number).collect()
+        self.numbers(number(&length) as usize / 8 - 1)
+    }
+
+    pub fn numbers(&mut self, count: usize) -> Vec<u64> {
+        self.bytes(8 * count).chunks(8).map(number).collect()
     }
 
     pub fn bytes(&mut self, length: usize) -> Vec<u8> {

@@ -4,12 +4,14 @@ mod asking;
 mod flat;
 mod listing;
 mod query;
+mod rescue;
 mod rows;
 mod snapshot;
 
 pub use asking::answered;
 pub use listing::{answer_line, edition_line, malformed_line, tables, PROGRAM_HOLDS, TOO_LONG};
 pub use query::{Query, Reply};
+pub use rescue::{Rescue, Rescued, Room};
 pub use rows::{Account, Book, Invoice, Offer, Round, Schedule, Totals};
 pub use snapshot::{Reading, Refused, Restored};
 
