@@ -1,4 +1,4 @@
--- Document 02, k, as theorems: the bytes are accounted for, an undamaged journal comes out unchanged, and what comes out is undamaged. Assumes nothing.
+-- The bytes are accounted for, reading stops where no field fits, and a record that is read is a field that fits. Assumes nothing.
 use mathlib.Core.Path.{_≡_, refl, sym, ap, _∙_}
 use mathlib.Core.Bool.{Bool, true, false, _&&_}
 use mathlib.Core.List.{List, [], _∷_, _++_}

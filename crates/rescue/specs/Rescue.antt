@@ -39,7 +39,7 @@ pub record Piece : Type 0 where
 abbrev pub pieceAt : ℕ → List ℕ → ℕ → Piece
 pieceAt e s at = record { at = at; good = stands e s at; bytes = take (outer (drop at s)) (drop at s) }
 
--- the pieces from a place on, up to the first that does not fit; at most n. A journal has fewer pieces than bytes (`enough`)
+-- the pieces from a place on, up to the first that does not fit; at most n. Any n that reaches the end gives the same (`enough`, rescue/Walk)
 unfoldable pub piecesBy : ℕ → ℕ → List ℕ → ℕ → List Piece
 piecesBy zero e s at = []
 piecesBy (suc n) e s at = pick (fits (drop at s)) (pieceAt e s at ∷ piecesBy n e s (at + outer (drop at s))) []

@@ -15,37 +15,48 @@ fn help() {
         1,
         b"./run rescue IN OUT
   Writes the journal IN to OUT without its malformed records, each of the others as it is, and says on standard output
-  what OUT lacks: a line `dropped OFFSET` for each malformed record, then `left N` where the last N bytes are no record.
+  what OUT lacks: a line `dropped OFFSET` for each malformed record, then `left N` where the last N bytes were not read.
   An undamaged journal comes out unchanged, and nothing is said. OUT may be IN.
-OUT is written beside itself, as OUT.new, and takes its name when it is whole. Where anything is wrong a message says what,
-the status is 1 and OUT stays as it was; a bad header is 13. docs/RESCUE.md says which records are malformed.
+OUT is written beside itself, as OUT.new, and takes its name when it is whole. Where anything is wrong a message says what
+and the status is 1; OUT stays as it was unless only the report could not be written. A bad header is 13. docs/RESCUE.md says which records are malformed.
 ",
     );
 }
 
-// A line of the report.
-fn tell(word: &[u8], n: u64) {
+// A line of the report, and whether it could be written.
+fn tell(word: &[u8], n: u64) -> bool {
     io::write_all(1, word);
     io::print_decimal(1, n);
-    io::write_all(1, b"\n");
+    io::write_all(1, b"\n")
 }
 
-// The offset of each dropped record, then how many bytes are left.
-fn report_all(report: &[u64], left: usize) {
+// The offset of each dropped record, then how many bytes are left; and whether all of it could be written.
+fn report_all(report: &[u64], left: usize) -> bool {
     let mut i: usize = 0;
     while i < report.len() {
-        tell(b"dropped ", report[i]);
+        if !tell(b"dropped ", report[i]) {
+            return false;
+        }
         i += 1;
     }
-    if left != 0 {
-        tell(b"left ", left as u64);
+    if left == 0 {
+        return true;
     }
+    tell(b"left ", left as u64)
+}
+
+fn unreported(path: &[u8]) {
+    os::fail(b"standard output");
+    files::complain(path, b"it is written; its report is not");
 }
 
 // The clean journal into its file, and the report where that went well.
 fn put(path: &[u8], clean: &[u8], report: &[u64], left: usize) {
-    if files::replace(path, clean) {
-        report_all(report, left);
+    if !files::replace(path, clean) {
+        return;
+    }
+    if !report_all(report, left) {
+        unreported(path);
     }
 }
 
