@@ -1,4 +1,5 @@
 // An account's row and what each command does to it. A refusal gives its number and the row as it was.
+#![tactic(auto)]
 ghost use Rattle.std.specs.Prelude.{cond, ◌≡◌, ◌-ℤ◌};
 ghost use Rattle.table.specs.Spots.{at_spot};
 ghost use Rattle.account.specs.Seen.{seen_account, put_account};
@@ -13,7 +14,7 @@ ghost use Rattle.account.specs.Rules.{posted, repursed, deposit_of, payout_of, a
 use terms::Terms;
 
 // What an account holds in money: what it has, what it lets the desk take, and its totals as a lender.
-#[derive(Drop)]
+#[derive(Clone, Copy)]
 pub struct Purse {
     pub balance: i64,
     pub allowance: i64,
@@ -58,7 +59,7 @@ impl Purse {
 }
 
 // What the book holds of one account.
-#[derive(Drop)]
+#[derive(Clone, Copy)]
 pub struct Account {
     pub purse: Purse,
     pub pending: u32,
@@ -223,7 +224,7 @@ impl Account {
 }
 
 // A row looked up: whether it is there, and the row, which is zero where it is not.
-#[derive(Drop)]
+#[derive(Clone, Copy)]
 pub struct SeenAccount {
     pub here: bool,
     pub row: Account,
@@ -307,14 +308,14 @@ impl SeenAccount {
 }
 
 // An answer's number, 0 where the row was changed, and the row.
-#[derive(Drop)]
+#[derive(Clone, Copy)]
 pub struct AccountPosted {
     pub answer: u64,
     pub row: Account,
 }
 
 // What comes of posting to a purse: the purse with its new total, or as it was where the posting is refused.
-#[derive(Drop)]
+#[derive(Clone, Copy)]
 struct MovedPurse {
     pub ok: bool,
     pub purse: Purse,

@@ -1,5 +1,6 @@
 // Replays the journal that its argument names, from a fresh book or on a snapshot's, and answers the questions on standard input, each line
 // as it comes.
+#![tactic(auto)]
 ghost use Rattle.std.specs.Prelude.{◌≡◌, true, ℕ, ◌≤◌, length};
 ghost use Rattle.text.specs.declared.Answer.TheVariants.{Done};
 ghost use Rattle.book.specs.Stored.{book_test, Shelved};
@@ -55,7 +56,7 @@ negotiation's status and outcome: 0 none, 1 Open, 2 Closed, 3 Accepted, 4 Expire
 }
 
 // What was read of standard input and not yet answered, the number of the next line, and whether to go on.
-#[derive(Drop)]
+#[derive(Clone, Copy)]
 struct Session {
     waiting: [u8; 1024],
     size: usize,
@@ -153,7 +154,7 @@ fn answer(book: Book, line: &[u8], number: u64) -> bool
 }
 
 // What waits with more behind it, and how many bytes came.
-#[derive(Drop)]
+#[derive(Clone, Copy)]
 struct Filled {
     waiting: [u8; 1024],
     came: usize,

@@ -1,4 +1,5 @@
 // Questions, one a line, answered of a book in lines of numbers.
+#![tactic(auto)]
 mod rows;
 
 ghost use Rattle.std.specs.Prelude.{◌≡◌, true, false, ◌-◌};
@@ -18,7 +19,7 @@ use sheet::Pen;
 use text::Answer;
 
 // How many bytes the answers are; the number of the first line that is no question; that the buffer is too short, or the book unsound.
-#[derive(Drop)]
+#[derive(Clone, Copy)]
 pub enum Told {
     Answers(usize),
     NoQuestion(usize),
@@ -102,7 +103,7 @@ fn put_answer(out: &mut [u8], pen: Pen, ink: bool, book: Book, tag: u8, a: u64, 
 }
 
 // Where a walk over questions stopped, whether at a line that is none, and the pen then.
-#[derive(Drop)]
+#[derive(Clone, Copy)]
 struct Walked {
     pen: Pen,
     bad: bool,

@@ -1,4 +1,5 @@
 // The whole book: three tables, the totals and the settings; any command on any book.
+#![tactic(auto)]
 ghost use Rattle.std.specs.Prelude.{◌≡◌, true};
 ghost use Rattle.refusal.specs.Rule.{answered};
 ghost use Rattle.command.specs.declared.Command.TheVariants.{OpenAccount, Deposit, Payout, Approve, RegisterInvoice, CancelInvoice, CreateOffer, WithdrawOffer, AcceptOffer, RejectOffer, AmendOffer, CounterOffer, CloseNegotiation, ScheduleRepayment, UpdateStatus, UpdateRepaid, UpdateLenderRepaid, UpdateTotalsRepaid, Pause, Unpause, SetWindow, SetRepaymentAccount, SetBlacklisted, SetSeats};
@@ -15,7 +16,7 @@ use terms::Terms;
 use totals::Totals;
 
 // The whole book: it goes into a command by value and comes back with the answer.
-#[derive(Drop)]
+#[derive(Clone, Copy)]
 pub struct Book {
     pub accounts: Accounts,
     pub invoices: Invoices,
@@ -25,7 +26,7 @@ pub struct Book {
 }
 
 // A command's answer, 0 where it is accepted, and the next book.
-#[derive(Drop)]
+#[derive(Clone, Copy)]
 pub struct Step {
     pub answer: u64,
     pub book: Book,

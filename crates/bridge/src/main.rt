@@ -2,6 +2,7 @@
 // request is a frame of 128 bytes: numbers of eight bytes, of which the first says what is asked, and the record of a command from
 // byte 32 on. A book or a journal follows its frame in 65,536 bytes, a snapshot of at most 4,096 in so many, a longer one in 81,920. An
 // answer is its length in bytes, its own eight included, and then its numbers; a text, a snapshot or a rescue's bytes follow it.
+#![tactic(auto)]
 ghost use Rattle.std.specs.Prelude.{◌≡◌, length};
 ghost use Rattle.journal.specs.Format.{read_at};
 ghost use Rattle.bridge.specs.Whole.{refused_by, whole_record};
@@ -39,7 +40,7 @@ const RESCUE: u64 = 11;
 const SMALL: u64 = 4096;
 
 // The book after a request, and whether another may follow.
-#[derive(Drop)]
+#[derive(Clone, Copy)]
 struct Turn {
     pub book: Book,
     pub more: bool,

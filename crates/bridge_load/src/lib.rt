@@ -1,4 +1,5 @@
 // A book of given rows, from a list of numbers in the order of crate bridge_show. Rows past the tables' room are left out.
+#![tactic(auto)]
 use account::{Account, Purse};
 use book::Book;
 use invoice::Invoice;
@@ -10,19 +11,19 @@ use shelves::{Accounts, Invoices, Offers};
 use terms::{Schedule, Terms};
 use totals::Totals;
 
-#[derive(Drop)]
+#[derive(Clone, Copy)]
 struct AccountsRead {
     pub table: Accounts,
     pub at: usize,
 }
 
-#[derive(Drop)]
+#[derive(Clone, Copy)]
 struct InvoicesRead {
     pub table: Invoices,
     pub at: usize,
 }
 
-#[derive(Drop)]
+#[derive(Clone, Copy)]
 struct NegotiationRead {
     pub row: Negotiation,
     pub at: usize,

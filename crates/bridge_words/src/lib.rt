@@ -1,4 +1,5 @@
 // Numbers of eight bytes, the highest first, in a buffer; the rounds of a negotiation so.
+#![tactic(auto)]
 ghost use Rattle.std.specs.Prelude.{◌≤◌};
 
 use negotiation::Round;

@@ -1,4 +1,5 @@
 // Fields of one number, read by a cursor and written by a pen.
+#![tactic(auto)]
 ghost use Rattle.std.specs.Prelude.{◌≡◌, true, ◌-◌, ◌^◌};
 ghost use Rattle.codec.specs.Cursor.{cursor};
 ghost use Rattle.codec.specs.Cursors.{Next, Count};
@@ -15,7 +16,7 @@ pub const HALF: u64 = 4294967295;
 pub const FLAG: u64 = 1;
 
 // The refusal's number or 0, the place, whether every number so far fitted its column's type, and the last number.
-#[derive(Drop)]
+#[derive(Clone, Copy)]
 pub struct Cursor {
     pub code: u64,
     pub at: usize,

@@ -1,11 +1,12 @@
 // The 24 commands of document 01's journal, each with its fields in the order of their tags. What an edition's records lack is read as 0.
+#![tactic(auto)]
 ghost use Rattle.std.specs.Prelude.{◌≡◌};
 ghost use Rattle.command.specs.Names.{called, uncalled, names_of, paper_key, other_key};
 
 use table::Named;
 use terms::Terms;
 
-#[derive(Drop)]
+#[derive(Clone, Copy)]
 pub enum Command {
     OpenAccount {
         now: u64,
@@ -145,7 +146,7 @@ pub enum Command {
 }
 
 // The invoice that a command sees: one that it names, or its offer's.
-#[derive(Drop)]
+#[derive(Clone, Copy)]
 pub enum Paper {
     Nothing,
     Id(u64),
@@ -153,7 +154,7 @@ pub enum Paper {
 }
 
 // The account that a command sees beside the first: one that it names, or a party of its offer.
-#[derive(Drop)]
+#[derive(Clone, Copy)]
 pub enum Other {
     Nobody,
     Account(u64),
@@ -163,7 +164,7 @@ pub enum Other {
 
 // What a command names. `called`: the first account is its caller's, and must be there. `pausable`: a paused book stops it. The
 // others are the rows that it sees.
-#[derive(Drop)]
+#[derive(Clone, Copy)]
 pub struct Names {
     pub called: bool,
     pub pausable: bool,

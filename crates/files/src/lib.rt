@@ -1,4 +1,5 @@
 // What the programs share: files read and written whole, words on standard error, and the status of one that failed.
+#![tactic(auto)]
 ghost use Rattle.std.specs.Prelude.{◌≡◌, ◌≤◌, length};
 
 // Where a program that cannot end with a status says that it failed: ./run listens there.
@@ -68,7 +69,7 @@ fn begun(path: &[u8]) -> [u8; 4096]
 {
     let mut name = io::buffer();
     if path.len() <= LONGEST {
-        bytes::copy(path, &mut name);
+        copying::copy(path, &mut name);
     }
     name
 }

@@ -1,4 +1,5 @@
 // The due rule over a list of installments. Nothing here knows of the book, of an edition or of a schedule.
+#![tactic(auto)]
 ghost use Rattle.std.specs.Prelude.{◌≡◌, ◌<◌, ◌≤◌};
 ghost use Rattle.installments.specs.Sums.{due_of};
 ghost use Rattle.installments.specs.Even.{even};
@@ -8,7 +9,7 @@ ghost use Rattle.installments.specs.Arguments.{due_ok, even_ok, flat_ok, terms_o
 ghost use Rattle.installments.specs.ArgumentLaws.{FallingIn};
 
 // The number of the installment that is due and the sum still owed on it; 0 and 0 where none is.
-#[derive(Drop)]
+#[derive(Clone, Copy)]
 pub struct Due {
     pub number: u64,
     pub owed: u64,

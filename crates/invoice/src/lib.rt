@@ -1,4 +1,5 @@
 // An invoice's row: who put it up, for how much, and where it stands.
+#![tactic(auto)]
 ghost use Rattle.std.specs.Prelude.{cond, ◌≡◌};
 ghost use Rattle.table.specs.Spots.{at_spot};
 ghost use Rattle.invoice.specs.Seen.{seen_invoice, put_invoice};
@@ -15,7 +16,7 @@ pub const FINANCED: u32 = 1;
 
 pub const CANCELLED: u32 = 2;
 
-#[derive(Drop)]
+#[derive(Clone, Copy)]
 pub struct Invoice {
     pub originator: u64,
     pub amount: i64,
@@ -91,7 +92,7 @@ impl Invoice {
 }
 
 // A row looked up: whether it is there, and the row, which is zero where it is not.
-#[derive(Drop)]
+#[derive(Clone, Copy)]
 pub struct SeenInvoice {
     pub here: bool,
     pub row: Invoice,
@@ -155,7 +156,7 @@ impl SeenInvoice {
 }
 
 // An answer's number, 0 where the row was changed, and the row.
-#[derive(Drop)]
+#[derive(Clone, Copy)]
 pub struct InvoicePosted {
     pub answer: u64,
     pub row: Invoice,

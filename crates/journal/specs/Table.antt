@@ -6,7 +6,7 @@ use Rattle.money.specs.Range.{of_bits, bits_of}
 use Rattle.terms.specs.declared.Terms.{Terms}
 use Rattle.command.specs.declared.Command.{Command}
 use Rattle.command.specs.declared.Command.TheVariants.{OpenAccount, Deposit, Payout, Approve, RegisterInvoice, CancelInvoice, CreateOffer, WithdrawOffer, AcceptOffer, RejectOffer, AmendOffer, CounterOffer, CloseNegotiation, ScheduleRepayment, UpdateStatus, UpdateRepaid, UpdateLenderRepaid, UpdateTotalsRepaid, Pause, Unpause, SetWindow, SetRepaymentAccount, SetBlacklisted, SetSeats}
-use Rattle.journal.specs.declared.table.Listed.{Listed}
+use Rattle.journal.specs.declared.tables.Listed.{Listed}
 use Rattle.journal.specs.declared.reading.Values.{Values}
 use Rattle.journal.specs.declared.writing.Parts.{Parts}
 use Rattle.journal.specs.Answers.{Reading, found, malformed}

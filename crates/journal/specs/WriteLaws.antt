@@ -12,7 +12,7 @@ use Rattle.refusal.specs.Placed.{placed, laid}
 use Rattle.wire.specs.FieldLaws.{length_field}
 use Rattle.refusal.specs.PlacedLaws.{laid_out, laid_in, placed_twice}
 use Rattle.journal.specs.Table.{fields_of, parts_of, padded, row_fields, sent}
-use Rattle.journal.specs.declared.table.Listed.{Listed}
+use Rattle.journal.specs.declared.tables.Listed.{Listed}
 use Rattle.journal.specs.declared.writing.Parts.{Parts}
 use Rattle.journal.specs.TableLaws.{take_padded}
 use Rattle.journal.specs.Format.{fields_out, record_of, bytes_for, writing}

@@ -1,6 +1,7 @@
 // The journal: each command is a field that holds the fields that the table lists for its tag.
+#![tactic(auto)]
 mod reading;
-pub mod table;
+pub mod tables;
 pub mod writing;
 
 ghost use Rattle.std.specs.Prelude.{◌≡◌, ◌%◌};
@@ -11,14 +12,14 @@ ghost use Rattle.journal.specs.Format.{header_of, opening_of, read_at, record_of
 use command::Command;
 
 // The edition and the first record's place, or that of a fault in the header.
-#[derive(Drop)]
+#[derive(Clone, Copy)]
 pub enum Opened {
     Records(u32, usize),
     Malformed(usize),
 }
 
 // What stands at a place: a command and the place past it, a malformed record and its place, or nothing.
-#[derive(Drop)]
+#[derive(Clone, Copy)]
 pub enum Decoded {
     Command(Command, usize),
     Malformed(usize),
@@ -26,7 +27,7 @@ pub enum Decoded {
 }
 
 // How many bytes were written, or that the buffer is too short.
-#[derive(Drop)]
+#[derive(Clone, Copy)]
 pub enum Encoded {
     Bytes(usize),
     Short,
@@ -40,7 +41,7 @@ pub fn decode(edition: u32, s: &[u8], at: usize) -> Decoded
         return Decoded::End;
     }
     let tag = s[at];
-    let row = table::fields(edition, tag);
+    let row = tables::fields(edition, tag);
     let n = row.0;
     let tags = row.1;
     if !wire::begins(s, at, tag, 11 * n) {
@@ -81,7 +82,7 @@ pub fn encode(edition: u32, c: Command, out: &mut [u8], at: usize) -> Encoded
 pub fn encode_parts(edition: u32, tag: u8, values: [u64; 9], out: &mut [u8], at: usize) -> Encoded
     ensures { (written result ≡ writing at (record_of edition tag values) out.old) × (out.new ≡ laid at (record_of edition tag values) out.old) }
 {
-    let row = table::fields(edition, tag);
+    let row = tables::fields(edition, tag);
     let n = row.0;
     let tags = row.1;
     let size = 3 + 11 * n;
@@ -110,6 +111,6 @@ pub fn write_header(out: &mut [u8], edition: u32) -> Encoded
         return Encoded::Short;
     }
     let w = [0x10u8, 0, 2, byte(edition / 256), byte(edition)];
-    bytes::copy(&w, out);
+    copying::copy(&w, out);
     Encoded::Bytes(5)
 }

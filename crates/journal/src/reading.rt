@@ -4,7 +4,7 @@ ghost use Rattle.journal.specs.Answers.{reading};
 ghost use Rattle.journal.specs.Table.{top_of, named, made};
 ghost use Rattle.journal.specs.Format.{gathered_in};
 
-use crate::{Decoded, table};
+use crate::{Decoded, tables};
 use command::Command;
 use money::of_bits;
 use terms::Terms;
@@ -16,7 +16,7 @@ fn place(f: u8) -> usize
 }
 
 // Whether the fields stand there, and their numbers, each at the place of its tag.
-#[derive(Drop)]
+#[derive(Clone, Copy)]
 pub(crate) struct Gathered(pub(crate) bool, pub(crate) [u64; 32]);
 
 pub(crate) fn gather(s: &[u8], p: usize, n: usize, tags: [u8; 9]) -> Gathered
@@ -32,7 +32,7 @@ pub(crate) fn gather(s: &[u8], p: usize, n: usize, tags: [u8; 9]) -> Gathered
             return Gathered(false, [0u64; 32]);
         }
         let x = wire::number(s, q + 3);
-        if table::top(f) < x {
+        if tables::top(f) < x {
             return Gathered(false, [0u64; 32]);
         }
         v[place(f)] = x;
@@ -43,7 +43,7 @@ pub(crate) fn gather(s: &[u8], p: usize, n: usize, tags: [u8; 9]) -> Gathered
 }
 
 // The numbers of a record by the names of their fields; 0 for a field that the record has not.
-#[derive(Drop)]
+#[derive(Clone, Copy)]
 pub(crate) struct Values {
     pub(crate) now: u64,
     pub(crate) caller: u64,

@@ -9,7 +9,7 @@ use command::Command;
 use money::bits;
 
 // A command's tag and the numbers of its fields in order.
-#[derive(Drop)]
+#[derive(Clone, Copy)]
 pub struct Parts(pub u8, pub [u64; 9]);
 
 // The number of a field that only some editions' records have, or the 0 that follows a record's numbers.

@@ -1,4 +1,5 @@
 // Offers listed: which ones a list query asks for, their numbers in the buffer, and a lender's active total.
+#![tactic(auto)]
 ghost use Rattle.std.specs.Prelude.{◌≡◌, [], ◌+◌, ◌*◌, ◌≤◌, length};
 ghost use Rattle.refusal.specs.Rule.{answered};
 ghost use Rattle.refusal.specs.Placed.{placed};
@@ -9,7 +10,7 @@ ghost use Rattle.lists.specs.Active.{active_in, active_of, InRange};
 use offer::Offer;
 
 // The offers alone, without their negotiations and schedules.
-#[derive(Drop)]
+#[derive(Clone, Copy)]
 pub struct OfferRows {
     pub ids: [u64; 64],
     pub rows: [Offer; 64],
@@ -17,7 +18,7 @@ pub struct OfferRows {
 }
 
 // An offer as ten 64-bit numbers, amounts in two's complement.
-#[derive(Drop)]
+#[derive(Clone, Copy)]
 pub struct OfferNumbers {
     pub id: u64,
     pub invoice: u64,
@@ -32,7 +33,7 @@ pub struct OfferNumbers {
 }
 
 // Which offers are asked for. A page has an offset and a limit, both counted in offers.
-#[derive(Drop)]
+#[derive(Clone, Copy)]
 pub enum Wanted {
     Invoice(u64),
     Lender(u64),
@@ -43,14 +44,14 @@ pub enum Wanted {
 }
 
 // Which offers are asked for, or that the number is not listed.
-#[derive(Drop)]
+#[derive(Clone, Copy)]
 pub enum Asked {
     For(Wanted),
     Unlisted,
 }
 
 // How many offers were written to the buffer, or why none was.
-#[derive(Drop)]
+#[derive(Clone, Copy)]
 pub enum Listed {
     Offers(usize),
     Unlisted,

@@ -1,11 +1,12 @@
 // A snapshot from a file, with a complaint where it is none.
+#![tactic(auto)]
 ghost use Rattle.std.specs.Prelude.{◌≡◌, true};
 ghost use Rattle.book.specs.Stored.{book_test};
 
 use book::Book;
 
 // Whether there is a book to start from, and that book; a fresh one where there is none.
-#[derive(Drop)]
+#[derive(Clone, Copy)]
 pub struct Given {
     pub here: bool,
     pub book: Book,

@@ -1,4 +1,5 @@
 // What one command sees of a book, and its turn on that: rows, not tables.
+#![tactic(auto)]
 ghost use Rattle.std.specs.Prelude.{◌≡◌, ℕ};
 ghost use Rattle.refusal.specs.Choice.{pick};
 ghost use Rattle.refusal.specs.Refusal.{first};
@@ -32,7 +33,7 @@ use terms::Terms;
 use totals::Totals;
 
 // The rows at a command's keys, the totals and the settings.
-#[derive(Drop)]
+#[derive(Clone, Copy)]
 pub struct Near {
     pub parties: Parties,
     pub paper: SeenInvoice,
@@ -42,7 +43,7 @@ pub struct Near {
 }
 
 // How many rows each table has.
-#[derive(Drop)]
+#[derive(Clone, Copy)]
 pub struct Counts {
     pub accounts: usize,
     pub invoices: usize,
@@ -50,7 +51,7 @@ pub struct Counts {
 }
 
 // A command's answer, 0 where it is accepted, and what it leaves of what it saw.
-#[derive(Drop)]
+#[derive(Clone, Copy)]
 pub struct Turn {
     pub answer: u64,
     pub near: Near,

@@ -1,4 +1,5 @@
 // The rounds of an offer: who put down which terms and when, and where the negotiation stands.
+#![tactic(auto)]
 ghost use Rattle.std.specs.Prelude.{◌≡◌, cond};
 ghost use Rattle.refusal.specs.Refusal.{first};
 ghost use Rattle.negotiation.specs.Rounds.{terms_of, round_of, deadline_of, status_of, negotiable, added_of, accepted_of, closed_as, agrees_of, round_slots, round_sound, round_zero, no_negotiation, negotiation_sound, negotiation_zero};
@@ -7,7 +8,7 @@ ghost use Rattle.negotiation.specs.Whole.{Whole};
 use terms::Terms;
 
 // 32 bytes, so that a book of sixteen rounds an offer stays small.
-#[derive(Drop)]
+#[derive(Clone, Copy)]
 pub struct Round {
     pub amount: i64,
     pub duration: u64,
@@ -24,7 +25,7 @@ pub const ORIGINATOR: u32 = 1;
 // An offer has places for this many rounds; how many of them it gets is its edition's.
 pub const ROUND_SLOTS: u32 = 16;
 
-#[derive(Drop)]
+#[derive(Clone, Copy)]
 pub struct Negotiation {
     pub rounds: [Round; 16],
     pub deadline: u64,

@@ -1,4 +1,5 @@
 // An offer's row with its negotiation and its schedule, and what each command asks of it and does to it.
+#![tactic(auto)]
 ghost use Rattle.std.specs.Prelude.{cond, ◌≡◌};
 ghost use Rattle.table.specs.Spots.{at_spot};
 ghost use Rattle.table.specs.Tables.{absent};
@@ -17,7 +18,7 @@ use invoice::SeenInvoice;
 use negotiation::{Negotiation, Round};
 use terms::{InstallmentAnswer, Schedule, Terms};
 
-#[derive(Drop)]
+#[derive(Clone, Copy)]
 pub struct Offer {
     pub terms: Terms,
     pub invoice: u64,
@@ -82,7 +83,7 @@ impl Offer {
 }
 
 // An offer with its negotiation and its schedule: one row of the offers' table.
-#[derive(Drop)]
+#[derive(Clone, Copy)]
 pub struct Deal {
     pub offer: Offer,
     pub negotiation: Negotiation,
@@ -264,7 +265,7 @@ impl Deal {
 }
 
 // A row looked up: whether it is there, and the row, which is zero where it is not.
-#[derive(Drop)]
+#[derive(Clone, Copy)]
 pub struct SeenDeal {
     pub here: bool,
     pub row: Deal,
@@ -625,7 +626,7 @@ impl SeenDeal {
 }
 
 // An answer's number, 0 where the row was changed, and the row.
-#[derive(Drop)]
+#[derive(Clone, Copy)]
 pub struct DealPosted {
     pub answer: u64,
     pub row: Deal,

@@ -1,4 +1,5 @@
 // The two accounts that a command sees. Where both are one row, what is put in one place is put in the other too.
+#![tactic(auto)]
 ghost use Rattle.std.specs.Prelude.{◌≡◌, ℕ, true, false};
 ghost use Rattle.refusal.specs.Rule.{answered};
 ghost use Rattle.table.specs.Tables.{Table};
@@ -10,7 +11,7 @@ use account::{Account, SeenAccount};
 use terms::Terms;
 
 // The first and the second row; `one`: both are the same.
-#[derive(Drop)]
+#[derive(Clone, Copy)]
 pub struct Parties {
     pub first: SeenAccount,
     pub second: SeenAccount,
@@ -142,7 +143,7 @@ impl Parties {
 }
 
 // An answer's number, 0 where rows were changed, and the rows.
-#[derive(Drop)]
+#[derive(Clone, Copy)]
 pub struct PartiesPosted {
     pub answer: u64,
     pub parties: Parties,

@@ -1,4 +1,5 @@
 // What can be asked of a book. Every query tests the book first and leaves it as it is.
+#![tactic(auto)]
 ghost use Rattle.std.specs.Prelude.{◌≡◌, true, [], ◌∷◌, ◌*◌, ◌≤◌, length};
 ghost use Rattle.refusal.specs.Rule.{answered};
 ghost use Rattle.negotiation.specs.Rounds.{no_negotiation};
@@ -27,7 +28,7 @@ use terms::{DueAnswer, Schedule};
 use totals::Totals;
 
 // The book's totals.
-#[derive(Drop)]
+#[derive(Clone, Copy)]
 pub struct TotalsNumbers {
     pub offers: u64,
     pub financed: u64,
@@ -35,19 +36,19 @@ pub struct TotalsNumbers {
     pub fees: u64,
 }
 
-#[derive(Drop)]
+#[derive(Clone, Copy)]
 pub enum TotalsAnswer {
     Totals(TotalsNumbers),
     Unsound,
 }
 
-#[derive(Drop)]
+#[derive(Clone, Copy)]
 pub enum NumberAnswer {
     Number(u64),
     Unsound,
 }
 
-#[derive(Drop)]
+#[derive(Clone, Copy)]
 pub enum OfferAnswer {
     Offer(OfferNumbers),
     Absent,
@@ -55,7 +56,7 @@ pub enum OfferAnswer {
 }
 
 // The numbers of a schedule: how many installments, the code of their period, the amount of the first, when it is due, their kind.
-#[derive(Drop)]
+#[derive(Clone, Copy)]
 pub struct ScheduleNumbers {
     pub count: u64,
     pub code: u64,
@@ -65,14 +66,14 @@ pub struct ScheduleNumbers {
 }
 
 // The number of the installment that is due and the sum still owed on it, 0 and 0 where none is.
-#[derive(Drop)]
+#[derive(Clone, Copy)]
 pub enum InstallmentDue {
     Due(u64, u64),
     Unsound,
 }
 
 // An absent schedule is no refusal.
-#[derive(Drop)]
+#[derive(Clone, Copy)]
 pub enum ScheduleAnswer {
     Schedule(ScheduleNumbers),
     Absent,
@@ -80,7 +81,7 @@ pub enum ScheduleAnswer {
 }
 
 // A lender's figures.
-#[derive(Drop)]
+#[derive(Clone, Copy)]
 pub struct LenderNumbers {
     pub offered: u64,
     pub accepted: u64,
@@ -88,14 +89,14 @@ pub struct LenderNumbers {
     pub repaid: u64,
 }
 
-#[derive(Drop)]
+#[derive(Clone, Copy)]
 pub enum LenderAnswer {
     Lender(LenderNumbers),
     Unsound,
 }
 
 // The answer's number, and the negotiation, which has no rounds and deadline 0 where there is none.
-#[derive(Drop)]
+#[derive(Clone, Copy)]
 pub struct NegotiationAnswer {
     pub answer: u64,
     pub negotiation: Negotiation,
@@ -676,7 +677,7 @@ fn write(book: Book, questions: &[u64], out: &mut [u64])
 }
 
 // How many questions were answered, or why none was.
-#[derive(Drop)]
+#[derive(Clone, Copy)]
 pub enum Answered {
     Answers(usize),
     Short,

@@ -1,4 +1,5 @@
 // The reader walks the caller's journal bytes where they are.
+#![tactic(auto)]
 ghost use Rattle.std.specs.Prelude.{◌≡◌};
 ghost use Rattle.journal.specs.Answers.{reading};
 ghost use Rattle.journal.specs.Format.{read_at};
@@ -6,7 +7,7 @@ ghost use Rattle.journal.specs.Format.{read_at};
 use journal::Decoded;
 
 // A journal, a place in it, and its edition.
-#[derive(Drop)]
+#[derive(Clone, Copy)]
 pub struct Reader<'a> {
     pub src: &'a [u8],
     pub at: usize,

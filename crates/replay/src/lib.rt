@@ -1,4 +1,5 @@
 // Replay of a journal, from a given book or from a fresh one of its edition, and its listing.
+#![tactic(auto)]
 ghost use Rattle.std.specs.Prelude.{◌≡◌, false, ◌≤◌, length};
 ghost use Rattle.sheet.specs.Sheet.{Wrote, pen_at};
 ghost use Rattle.book.specs.Stored.{model_of, stored, Shelved};
@@ -18,7 +19,7 @@ use parties::Parties;
 use sheet::Pen;
 
 // How many bytes were written, or that the buffer is too short, or that the given book is not sound.
-#[derive(Drop)]
+#[derive(Clone, Copy)]
 pub enum Listed {
     Done(usize),
     Short,
@@ -26,7 +27,7 @@ pub enum Listed {
 }
 
 // How a replay ended: the book, how many records were answered, 0, 13 or 15, and the offset.
-#[derive(Drop)]
+#[derive(Clone, Copy)]
 pub struct Outcome {
     pub book: Book,
     pub count: usize,
@@ -47,7 +48,7 @@ fn put_book(out: &mut [u8], pen: Pen, ink: bool, book: Book) -> Pen
 }
 
 // What a walk over a journal leaves: the replay's outcome, and the pen behind its text.
-#[derive(Drop)]
+#[derive(Clone, Copy)]
 struct Told {
     outcome: Outcome,
     pen: Pen,

@@ -1,4 +1,5 @@
 // Rescue of a damaged journal: its well-formed records make a clean one, and the others are reported.
+#![tactic(auto)]
 ghost use Rattle.std.specs.Prelude.{◌≡◌, false, [], ◌∷◌, ◌+◌, ◌≤◌, ◌<◌, length, take, drop};
 ghost use Rattle.refusal.specs.Choice.{pick};
 ghost use Rattle.refusal.specs.Placed.{placed};
@@ -8,7 +9,7 @@ ghost use Rattle.rescue.specs.Swept.{Swept};
 use journal::{Decoded, Opened};
 
 // How many bytes the clean journal has, how many records were dropped and how many bytes are left; or what is wrong.
-#[derive(Drop)]
+#[derive(Clone, Copy)]
 pub enum Rescued {
     Clean(usize, usize, usize),
     Malformed,
@@ -77,7 +78,7 @@ fn keep(s: &[u8], at: usize, size: usize, good: bool, out: &mut [u8], p: usize) 
         return p;
     }
     let end = at + size;
-    bytes::copy(&s[at..end], &mut out[p..]);
+    copying::copy(&s[at..end], &mut out[p..]);
     p + size
 }
 
@@ -127,6 +128,6 @@ pub fn rescue(s: &[u8], out: &mut [u8], report: &mut [u64]) -> Rescued
     if report.len() < count(edition, s, first) {
         return Rescued::Short;
     }
-    bytes::copy(&s[..first], &mut *out);
+    copying::copy(&s[..first], &mut *out);
     sweep(edition, s, first, out, report)
 }

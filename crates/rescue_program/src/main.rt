@@ -1,4 +1,5 @@
 // Writes a clean journal from a damaged one, and says what was dropped and what was left.
+#![tactic(auto)]
 use rescue::Rescued;
 
 fn usage() {

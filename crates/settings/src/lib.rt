@@ -1,4 +1,5 @@
 // What the desk's admins set: the window of a negotiation, the repayment account, the seats, the pause.
+#![tactic(auto)]
 ghost use Rattle.std.specs.Prelude.{◌≡◌};
 ghost use Rattle.refusal.specs.Rule.{answered};
 ghost use Rattle.settings.specs.Settings.{fresh_settings, settings_sound, admin_passes, is_repayer, posted, pause_of, window_of, repayer_of, seats_of};
@@ -8,7 +9,7 @@ pub const SHORTEST_WINDOW: u64 = 3600;
 pub const LONGEST_WINDOW: u64 = 2592000;
 
 // What the book's admins set, and the edition of its rules, which nothing changes. The repayment account counts only once it is appointed.
-#[derive(Drop)]
+#[derive(Clone, Copy)]
 pub struct Settings {
     pub window: u64,
     pub repayer: u64,
@@ -138,7 +139,7 @@ impl Settings {
 }
 
 // An answer's number, 0 where the settings were changed, and the settings.
-#[derive(Drop)]
+#[derive(Clone, Copy)]
 pub struct SettingsPosted {
     pub answer: u64,
     pub row: Settings,

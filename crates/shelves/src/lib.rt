@@ -1,4 +1,5 @@
 // The three tables of the book, each in arrays: rows are seen and stored by their keys.
+#![tactic(auto)]
 ghost use Rattle.std.specs.Prelude.{◌≡◌, []};
 ghost use Rattle.table.specs.Tables.{insert, Room};
 ghost use Rattle.table.specs.Named.{find_by};
@@ -18,7 +19,7 @@ use offer::{Deal, Offer, SeenDeal};
 use table::{Found, Named};
 use terms::Schedule;
 
-#[derive(Drop)]
+#[derive(Clone, Copy)]
 pub struct Accounts {
     pub ids: [u64; 64],
     pub rows: [Account; 64],
@@ -120,7 +121,7 @@ impl Accounts {
     }
 }
 
-#[derive(Drop)]
+#[derive(Clone, Copy)]
 pub struct Invoices {
     pub ids: [u64; 64],
     pub rows: [Invoice; 64],
@@ -218,7 +219,7 @@ impl Invoices {
 }
 
 // An offer, its negotiation and its schedule stand at one place of the three columns.
-#[derive(Drop)]
+#[derive(Clone, Copy)]
 pub struct Offers {
     pub ids: [u64; 64],
     pub rows: [Offer; 64],

@@ -1,4 +1,5 @@
 // A book as a snapshot: flat fields of one number, in the order of one table (specs/Layout.antt).
+#![tactic(auto)]
 mod reading;
 mod tags;
 mod writing;
@@ -10,7 +11,7 @@ ghost use Rattle.snapshot.specs.Snapshot.{Saved, reading, loaded_as};
 use book::Book;
 
 // The number of a refusal and its offset, with the first edition's fresh book; or 0 and the book.
-#[derive(Drop)]
+#[derive(Clone, Copy)]
 pub struct Loaded {
     pub number: u64,
     pub at: usize,
@@ -18,7 +19,7 @@ pub struct Loaded {
 }
 
 // The number of a refusal, or 0 and how many bytes were written.
-#[derive(Drop)]
+#[derive(Clone, Copy)]
 pub struct Written {
     pub number: u64,
     pub size: usize,

@@ -24,7 +24,7 @@ use terms::{Schedule, Terms};
 use totals::Totals;
 
 // The edition that the bytes name, and where its fields begin.
-#[derive(Drop)]
+#[derive(Clone, Copy)]
 pub(crate) struct ReadEdition {
     pub(crate) edition: u32,
     pub(crate) c: Cursor,
@@ -65,7 +65,7 @@ pub(crate) fn read_edition(s: &[u8]) -> ReadEdition
     ReadEdition { edition, c }
 }
 
-#[derive(Drop)]
+#[derive(Clone, Copy)]
 pub(crate) struct ReadSettings {
     pub(crate) row: Settings,
     pub(crate) c: Cursor,
@@ -92,7 +92,7 @@ pub(crate) fn read_settings(s: &[u8], c: Cursor, edition: u32) -> ReadSettings
     ReadSettings { row, c: repayer }
 }
 
-#[derive(Drop)]
+#[derive(Clone, Copy)]
 pub(crate) struct ReadTotals {
     pub(crate) row: Totals,
     pub(crate) c: Cursor,
@@ -114,7 +114,7 @@ pub(crate) fn read_totals(s: &[u8], c: Cursor) -> ReadTotals
     ReadTotals { row, c: fees }
 }
 
-#[derive(Drop)]
+#[derive(Clone, Copy)]
 struct ReadPurse {
     row: Purse,
     c: Cursor,
@@ -136,7 +136,7 @@ fn read_purse(s: &[u8], c: Cursor) -> ReadPurse
     ReadPurse { row, c: accepted }
 }
 
-#[derive(Drop)]
+#[derive(Clone, Copy)]
 struct ReadAccount {
     id: u64,
     row: Account,
@@ -165,7 +165,7 @@ fn read_account(s: &[u8], c: Cursor) -> ReadAccount
     }
 }
 
-#[derive(Drop)]
+#[derive(Clone, Copy)]
 struct ReadInvoice {
     id: u64,
     row: Invoice,
@@ -191,7 +191,7 @@ fn read_invoice(s: &[u8], c: Cursor) -> ReadInvoice
     }
 }
 
-#[derive(Drop)]
+#[derive(Clone, Copy)]
 struct ReadTerms {
     row: Terms,
     c: Cursor,
@@ -211,7 +211,7 @@ fn read_terms(s: &[u8], c: Cursor) -> ReadTerms
     ReadTerms { row, c: duration }
 }
 
-#[derive(Drop)]
+#[derive(Clone, Copy)]
 struct ReadOffer {
     row: Offer,
     c: Cursor,
@@ -240,7 +240,7 @@ fn read_offer(s: &[u8], c: Cursor) -> ReadOffer
     ReadOffer { row, c: repaid }
 }
 
-#[derive(Drop)]
+#[derive(Clone, Copy)]
 struct ReadRound {
     row: Round,
     c: Cursor,
@@ -258,7 +258,7 @@ fn read_round(s: &[u8], c: Cursor) -> ReadRound
 }
 
 // The rounds that were read, and how many they are.
-#[derive(Drop)]
+#[derive(Clone, Copy)]
 struct ReadRounds {
     rows: [Round; 16],
     n: u32,
@@ -290,7 +290,7 @@ fn read_rounds(s: &[u8], c: Cursor, edition: u32) -> ReadRounds
     }
 }
 
-#[derive(Drop)]
+#[derive(Clone, Copy)]
 struct ReadNegotiation {
     row: Negotiation,
     c: Cursor,
@@ -314,7 +314,7 @@ fn read_negotiation(s: &[u8], c: Cursor, edition: u32) -> ReadNegotiation
 }
 
 // The terms that a schedule keeps and its kind; zeros where the edition has neither.
-#[derive(Drop)]
+#[derive(Clone, Copy)]
 struct ReadKept {
     amount: i64,
     rate: u32,
@@ -344,7 +344,7 @@ fn read_kept(s: &[u8], c: Cursor, edition: u32) -> ReadKept
     }
 }
 
-#[derive(Drop)]
+#[derive(Clone, Copy)]
 struct ReadSchedule {
     row: Schedule,
     c: Cursor,
@@ -371,7 +371,7 @@ fn read_schedule(s: &[u8], c: Cursor, edition: u32) -> ReadSchedule
     ReadSchedule { row, c: d }
 }
 
-#[derive(Drop)]
+#[derive(Clone, Copy)]
 struct ReadDeal {
     id: u64,
     row: Deal,
@@ -401,7 +401,7 @@ fn read_deal(s: &[u8], c: Cursor, edition: u32) -> ReadDeal
     }
 }
 
-#[derive(Drop)]
+#[derive(Clone, Copy)]
 pub(crate) struct ReadAccounts {
     pub(crate) table: Accounts,
     pub(crate) c: Cursor,
@@ -434,7 +434,7 @@ pub(crate) fn read_accounts(s: &[u8], c: Cursor) -> ReadAccounts
     ReadAccounts { table, c: d }
 }
 
-#[derive(Drop)]
+#[derive(Clone, Copy)]
 pub(crate) struct ReadInvoices {
     pub(crate) table: Invoices,
     pub(crate) c: Cursor,
@@ -467,7 +467,7 @@ pub(crate) fn read_invoices(s: &[u8], c: Cursor) -> ReadInvoices
     ReadInvoices { table, c: d }
 }
 
-#[derive(Drop)]
+#[derive(Clone, Copy)]
 pub(crate) struct ReadOffers {
     pub(crate) table: Offers,
     pub(crate) c: Cursor,

@@ -1,4 +1,5 @@
 // Replays a journal from a fresh book of its edition, or on a snapshot's, and writes the snapshot of what it leaves.
+#![tactic(auto)]
 ghost use Rattle.std.specs.Prelude.{◌≡◌};
 ghost use Rattle.refusal.specs.Choice.{pick};
 ghost use Rattle.replay.specs.Replay.{replay_of, outcome_of, replayed_from};
@@ -32,7 +33,7 @@ the status is 1 and OUT stays as it was. docs/SNAPSHOT.md says what a snapshot h
 }
 
 // How many records were answered, and the number and the offset of what stopped a replay.
-#[derive(Drop)]
+#[derive(Clone, Copy)]
 struct Stop {
     count: usize,
     number: u64,

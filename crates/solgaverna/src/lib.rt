@@ -1,5 +1,6 @@
 // The library for C and Rust: the bytes of a journal go in, of a snapshot before it or not, and its listing, its offers, its figures, answers
 // to questions or a snapshot come out in lent buffers.
+#![tactic(auto)]
 mod questions;
 mod snapshots;
 
@@ -134,7 +135,7 @@ pub extern "C" fn solgaverna_offers(
 }
 
 // Four numbers of a read, or the number of its refusal.
-#[derive(Drop)]
+#[derive(Clone, Copy)]
 struct Four {
     pub number: u64,
     pub a: u64,

@@ -1,1 +1,2 @@
 // That every command leaves a sound book sound: specs/Keeps.antt.
+#![tactic(auto)]

@@ -1,4 +1,5 @@
 // Ids in ascending order: where one stands, where a new one would, and whether they are in order.
+#![tactic(auto)]
 ghost use Rattle.std.specs.Prelude.{◌≡◌, min, take};
 ghost use Rattle.table.specs.Find.{find_in};
 ghost use Rattle.table.specs.Test.{ids_test};
@@ -9,21 +10,21 @@ ghost use Rattle.table.specs.Spots.{spot_of, spot_by};
 pub const ROOM: usize = 64;
 
 /// Where an id stands, or the place at which it would be let in.
-#[derive(Drop)]
+#[derive(Clone, Copy)]
 pub enum Found {
     At(usize),
     Absent(usize),
 }
 
 /// The id of a row, where one is named.
-#[derive(Drop)]
+#[derive(Clone, Copy)]
 pub enum Named {
     Nothing,
     Id(u64),
 }
 
 /// Where a row is read and written: the place of its id, 0 where it has none, and the place at which it would be let in.
-#[derive(Drop)]
+#[derive(Clone, Copy)]
 pub struct Spot {
     pub here: bool,
     pub at: usize,

@@ -1,4 +1,5 @@
 // The terms of an offer and the arithmetic of its schedule. Nothing here knows of the book.
+#![tactic(auto)]
 ghost use Rattle.std.specs.Prelude.{◌≡◌, true, ◌<◌, ◌≤◌};
 ghost use Rattle.terms.specs.Terms.{terms_ok, same_terms, count_ok};
 ghost use Rattle.terms.specs.Kind.{kind_listed, first_of};
@@ -12,7 +13,7 @@ ghost use Rattle.terms.specs.Due.{elapsed_of, due_of, due_says, due_arguments};
 use installments::Due;
 
 // An amount in minor units, a rate in basis points and a duration in seconds.
-#[derive(Drop)]
+#[derive(Clone, Copy)]
 pub struct Terms {
     pub amount: i64,
     pub rate: u32,
@@ -21,7 +22,7 @@ pub struct Terms {
 
 // How many installments, the code of their period, the first one's amount, and when it is due; the amount and the rate of the terms
 // that it was made of, where the edition keeps them, and its kind.
-#[derive(Drop)]
+#[derive(Clone, Copy)]
 pub struct Schedule {
     pub count: u32,
     pub code: u32,
@@ -199,7 +200,7 @@ fn first_of(kind: u32, amount: u64, rate: u32, count: u32) -> u64
     part_of(amount, rate, count)
 }
 
-#[derive(Drop)]
+#[derive(Clone, Copy)]
 pub enum InstallmentAnswer {
     Of(i64),
     Invalid,
@@ -232,7 +233,7 @@ fn seconds(code: u32) -> u64
     0
 }
 
-#[derive(Drop)]
+#[derive(Clone, Copy)]
 pub enum PeriodAnswer {
     Seconds(u64),
     Unlisted,
@@ -302,7 +303,7 @@ pub const REPAID: u32 = 4;
 pub const DEFAULTED: u32 = 5;
 
 // The number of the installment and the sum still owed on it.
-#[derive(Drop)]
+#[derive(Clone, Copy)]
 pub enum DueAnswer {
     Number(u64, u64),
     Invalid,

@@ -4,7 +4,7 @@ ghost use Rattle.journal.specs.Table.{row_fields};
 ghost use Rattle.text.specs.Fields.{asked_of, fields_for};
 
 use crate::names;
-use journal::table::Listed;
+use journal::tables::Listed;
 
 fn asked(tag: u8) -> Listed
     ensures { result ≡ row_fields (asked_of tag) }
@@ -26,7 +26,7 @@ pub(crate) fn listed(edition: u32, tag: u8) -> Listed
     ensures { result ≡ row_fields (fields_for edition tag) }
 {
     if names::is_command(tag) {
-        return journal::table::fields(edition, tag);
+        return journal::tables::fields(edition, tag);
     }
     asked(tag)
 }

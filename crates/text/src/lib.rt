@@ -1,4 +1,5 @@
 // Journals as text, one command a line, and back.
+#![tactic(auto)]
 mod fields;
 mod names;
 pub mod reading;
@@ -16,7 +17,7 @@ use journal::{Decoded, Encoded, Opened};
 use sheet::Pen;
 
 // How many bytes were written; the offset of a malformed record or the number of a line that is none; or that the buffer is too short.
-#[derive(Drop)]
+#[derive(Clone, Copy)]
 pub enum Answer {
     Done(usize),
     Malformed(usize),
@@ -24,7 +25,7 @@ pub enum Answer {
 }
 
 // Where a walk stopped, whether at a fault, and the pen then.
-#[derive(Drop)]
+#[derive(Clone, Copy)]
 pub(crate) struct Told {
     pub(crate) pen: Pen,
     pub(crate) bad: bool,

@@ -3,7 +3,7 @@ ghost use Rattle.std.specs.Prelude.{◌≡◌};
 ghost use Rattle.text.specs.Names.{commands, others, word_in, word_of, is_command, spelt};
 
 // How long a name is, and its bytes with spaces after them.
-#[derive(Drop)]
+#[derive(Clone, Copy)]
 pub(crate) struct Spelling(pub(crate) usize, pub(crate) [u8; 18]);
 
 fn command(tag: u8) -> Spelling

@@ -7,7 +7,7 @@ ghost use Rattle.text.specs.Reading.{leads, is_named, tag_in, is_digit, no_numer
 use crate::{fields, names, writing};
 
 // A number and how many bytes it takes; or that none stands there.
-#[derive(Drop)]
+#[derive(Clone, Copy)]
 pub(crate) struct Numeral {
     pub(crate) ok: bool,
     pub(crate) value: u64,
@@ -15,7 +15,7 @@ pub(crate) struct Numeral {
 }
 
 // The numbers of fields in order, and the place past them.
-#[derive(Drop)]
+#[derive(Clone, Copy)]
 pub(crate) struct Numbers {
     pub(crate) ok: bool,
     pub(crate) values: [u64; 9],
@@ -23,7 +23,7 @@ pub(crate) struct Numbers {
 }
 
 // The tag of a line, its numbers, and the place past it; or that none stands there.
-#[derive(Drop)]
+#[derive(Clone, Copy)]
 pub struct Line {
     pub ok: bool,
     pub tag: u8,
@@ -142,7 +142,7 @@ fn numeral_at(s: &[u8], at: usize, f: u8) -> Numeral
     ensures { result ≡ numeral_in f (drop at s.now) }
 {
     if !writing::signed(f) {
-        return natural(s, at, journal::table::top(f));
+        return natural(s, at, journal::tables::top(f));
     }
     if byte(s, at) != 45 {
         return natural(s, at, 9223372036854775807);
@@ -236,7 +236,7 @@ pub fn line_at(edition: u32, s: &[u8], at: usize, first: u8, past: u8) -> Line
 }
 
 // The edition of a text, how many lines name it, and the place past them.
-#[derive(Drop)]
+#[derive(Clone, Copy)]
 pub(crate) struct Title {
     pub(crate) edition: u32,
     pub(crate) lines: usize,

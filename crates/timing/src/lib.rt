@@ -1,4 +1,5 @@
 // What the benchmark runs: one call repeated on the book of a journal. What comes back only keeps the calls from being left out.
+#![tactic(auto)]
 use query::{Answered, LenderAnswer, OfferAnswer};
 
 // Replays a journal again and again.

@@ -1,11 +1,12 @@
 // The book's own totals: what was financed, repaid and taken in fees, and how many offers there are.
+#![tactic(auto)]
 ghost use Rattle.std.specs.Prelude.{◌≡◌};
 ghost use Rattle.refusal.specs.Rule.{answered};
 ghost use Rattle.totals.specs.Totals.{no_totals, totals_sound, counted, count_of, finance_of, repay_of};
 
 use terms::Terms;
 
-#[derive(Drop)]
+#[derive(Clone, Copy)]
 pub struct Totals {
     pub financed: i64,
     pub repaid: i64,
@@ -98,7 +99,7 @@ fn refused(row: Totals, answer: u64) -> TotalsPosted
 }
 
 // An answer's number, 0 where the totals were changed, and the totals.
-#[derive(Drop)]
+#[derive(Clone, Copy)]
 pub struct TotalsPosted {
     pub answer: u64,
     pub row: Totals,

@@ -1,4 +1,5 @@
 // Tagged fields: a one-byte tag, a two-byte big-endian length and the field's bytes.
+#![tactic(auto)]
 ghost use Rattle.std.specs.Prelude.{◌≡◌, ◌+◌, ◌≤◌, ◌<◌, ◌%◌, length, drop};
 ghost use Rattle.wire.specs.Field.{number_in, bytes_of, field_of, head_of, begins, number_at};
 ghost use Rattle.refusal.specs.Placed.{laid};
@@ -109,7 +110,7 @@ pub fn put_field(out: &mut [u8], p: usize, tag: u8, v: u64)
 {
     if room(out.len(), p, 11) {
         let w = field(tag, v);
-        bytes::copy(&w, &mut out[p..]);
+        copying::copy(&w, &mut out[p..]);
     }
 }
 

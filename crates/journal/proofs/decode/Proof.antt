@@ -12,7 +12,7 @@ use Rattle.journal.specs.Table.{fields_of, row_fields, made, named}
 use Rattle.journal.specs.TableLaws.{few, low, take_padded}
 use Rattle.journal.specs.Format.{gathered_in}
 use Rattle.journal.specs.ReadLaws.{at-end, at_record_lem, no_head, not_well, whole, all_tops}
-use Rattle.journal.specs.declared.table.Listed.{Listed}
+use Rattle.journal.specs.declared.tables.Listed.{Listed}
 use Rattle.journal.specs.declared.reading.Gathered.{Gathered}
 use Rattle.journal.specs.declared.reading.Values.{Values}
 use Rattle.journal.proofs.decode.Statement.{statement}

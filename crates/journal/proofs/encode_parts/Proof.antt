@@ -11,7 +11,7 @@ use Rattle.journal.specs.Table.{fields_of}
 use Rattle.journal.specs.TableLaws.{few}
 use Rattle.journal.specs.Format.{record_of}
 use Rattle.journal.specs.WriteLaws.{stored, parts_placed, length_record, short, fitting}
-use Rattle.journal.specs.declared.table.Listed.{Listed}
+use Rattle.journal.specs.declared.tables.Listed.{Listed}
 use Rattle.journal.proofs.encode_parts.Statement.{statement}
 use Rattle.journal.proofs.encode_parts.Tie as tie
 

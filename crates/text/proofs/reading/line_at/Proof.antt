@@ -8,7 +8,7 @@ use borrow.Author.Rules.{rules}
 use borrow.Author.Tests.{not-true, not-false}
 use Rattle.journal.specs.Table.{padded}
 use Rattle.journal.specs.TableLaws.{take_padded}
-use Rattle.journal.specs.declared.table.Listed.{Listed}
+use Rattle.journal.specs.declared.tables.Listed.{Listed}
 use Rattle.text.specs.Names.{word_of}
 use Rattle.text.specs.Fields.{fields_for}
 use Rattle.text.specs.FieldLaws.{few_fields}

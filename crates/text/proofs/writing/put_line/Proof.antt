@@ -7,7 +7,7 @@ use lib.Seq.{length-take-le}
 use borrow.Author.Rules.{rules}
 use Rattle.sheet.specs.SheetLaws.{next, retext}
 use Rattle.journal.specs.TableLaws.{take_padded}
-use Rattle.journal.specs.declared.table.Listed.{Listed}
+use Rattle.journal.specs.declared.tables.Listed.{Listed}
 use Rattle.text.specs.Names.{word_of}
 use Rattle.text.specs.Fields.{fields_for}
 use Rattle.text.specs.FieldLaws.{few_fields}

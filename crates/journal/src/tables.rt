@@ -3,7 +3,7 @@ ghost use Rattle.std.specs.Prelude.{◌≡◌};
 ghost use Rattle.journal.specs.Table.{fields_of, top_of, row_fields};
 
 // The number of fields of a record, and their tags in ascending order.
-#[derive(Drop)]
+#[derive(Clone, Copy)]
 pub struct Listed(pub usize, pub [u8; 9]);
 
 // The fields of command 38, with the kind where schedules are of one.

@@ -4,8 +4,8 @@ use borrow.Author.Rules.{rules}
 use Rattle.refusal.specs.Choice.{pick}
 use Rattle.journal.specs.Table.{fields_of, fields_in, padded, row_fields}
 use Rattle.journal.specs.TableLaws.{no_fields}
-use Rattle.journal.proofs.table.fields.Statement.{statement}
-use Rattle.journal.proofs.table.fields.Tie as tie
+use Rattle.journal.proofs.tables.fields.Statement.{statement}
+use Rattle.journal.proofs.tables.fields.Tie as tie
 
 -- in the arm of a tag
 at : (k : ℕ) (s : tie.Start) → s.args.tag ≡ k → row_fields (fields_of s.args.edition k) ≡ row_fields (fields_of s.args.edition s.args.tag)

@@ -1,8 +1,8 @@
 use mathlib.Core.Path.{refl}
 use Rattle.refusal.specs.ChoiceLaws.{on, off}
 use Rattle.journal.specs.Table.{top_of}
-use Rattle.journal.proofs.table.top.Statement.{statement}
-use Rattle.journal.proofs.table.top.Tie as tie
+use Rattle.journal.proofs.tables.top.Statement.{statement}
+use Rattle.journal.proofs.tables.top.Tie as tie
 
 pub top-spec : {M : Type 1} → statement M
 unfolding top_of

@@ -5,8 +5,8 @@ use borrow.Author.Rules.{rules}
 use Rattle.refusal.specs.Choice.{pick}
 use Rattle.edition.specs.Edition.{keeps_terms}
 use Rattle.journal.specs.Table.{rows_in, fields_of, fields_in, padded, row_fields}
-use Rattle.journal.proofs.table.schedule.Statement.{statement}
-use Rattle.journal.proofs.table.schedule.Tie as tie
+use Rattle.journal.proofs.tables.schedule.Statement.{statement}
+use Rattle.journal.proofs.tables.schedule.Tie as tie
 
 -- by what the edition has
 at : (e : ℕ) {b : Bool} → keeps_terms e ≡ b → row_fields (fields_in (rows_in b) 0x38) ≡ row_fields (fields_of e 0x38)
