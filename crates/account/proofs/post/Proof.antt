@@ -98,7 +98,7 @@ module _ {M : Type 1} {𝓤 : Ura M} (𝓛 : Logic 𝓤) (at_mem : Memory → SP
   abbrev to-change : (Change 𝓛 at_mem run).Ghost
   to-change = ((tt, tt, tt, given_to, passed), tt)
 
-  goes-change : ent 𝓤 (sep 𝓤 (sem 𝓛 ftrue) (sem 𝓛 (owns (i64 ∷ i64 ∷ i64 ∷ []) given_to passed))) ((Change 𝓛 at_mem run).pre to-change)
+  goes-change : ent 𝓤 (sep 𝓤 (sem 𝓛 ftrue) (sem 𝓛 (owns (i64 ∷ i64 ∷ i64 ∷ []) given_to passed))) ((Change 𝓛 at_mem run).requires to-change)
   goes-change = qed 𝓛 (‵ ftrue ∷ ‵ (owns (i64 ∷ i64 ∷ i64 ∷ []) given_to passed) ∷ []) ∵ join ! $ frame ! $ done !
 
   -- of its `ensured`, the clause alone: it has no `&mut`
@@ -118,7 +118,7 @@ module _ {M : Type 1} {𝓤 : Ura M} (𝓛 : Logic 𝓤) (at_mem : Memory → SP
         -- [the purse's cell; what a Purse owns; the open borrow; obs; auth; _5; …; _4; …; _3; …; _2; …; _1; …; room for _0; …]
         assigns ! (of_opd ! (load ! (from ! (hop ! (look ! 13 refl) (fld ! refl (stop !)))) (look_in ! 0 (sub ! 2 refl (whole !))))) (from ! (stop !)) (init ! 5 refl (tt, Fits-of_z {z = h.offered} (record { sfits = offered_fits h was }))) $
         use0 𝓛 (‵ (Amounts old new)) (amounts 𝓛 old new old-fits new-fits) $
-        owned ! i64 (Is i64) (sint_Makes 𝓛 w64) h.offered _ (refl, offered_fits h was) $ fjoin ! $ nothing ! $ use2 𝓛 (raw ((Change 𝓛 at_mem run).pre to-change)) goes-change $
+        owned ! i64 (Is i64) (sint_Makes 𝓛 w64) h.offered _ (refl, offered_fits h was) $ fjoin ! $ nothing ! $ use2 𝓛 (raw ((Change 𝓛 at_mem run).requires to-change)) goes-change $
         calls_at ! fm (Change 𝓛 at_mem run) known to-change (and_then ! (load ! (from ! (stop !)) (look ! 6 refl)) (and_then ! (load ! (from ! (stop !)) (look ! 12 refl)) (and_then ! (load ! (from ! (stop !)) (look ! 10 refl)) (no_more !)))) (λ v.
         use1 𝓛 (later (some (λ (r : Moved). (‵ ftrue ⊛ ‵ ((Mv.the_row).own_val r (v ∷ []))) ⊛ raw (ensured 𝓛 change.ended (change.clauses 𝓛 at_mem run) tt given_to tt r)))) (id⊢ 𝓤 _) $ await ! tt $ pick ! (λ r.
         split ! $ move ! (1 ∷ []) $ use1 𝓛 (raw (fact 𝓤 (r ≡ moved_of h.offered (new -ℤ old)))) (said r) $ heard ! (r ≡ moved_of h.offered (new -ℤ old)) (λ e. split ! $ drop ! $
@@ -143,9 +143,9 @@ post-meets {𝓤 = 𝓤} 𝓛 at_mem run 𝓣 known =
     (λ κs qs bounds a g are. via 𝓤 _ (fst∗ 𝓤 _ (emp 𝓤))
     (walk 𝓛 at_mem run κs.0 qs.0 a.0.ptr.0 a.0.ptr.1 a.0.name a.0.now a.1.0 a.1.1.0 are.1.0.1 are.1.1.0.1 𝓣.C 𝓣.Λ (fm_of 𝓤 𝓛.H 𝓛.laws 𝓣) known)))
 
-pub post-spec : {M : Type 1} → stated.statement M
+pub post_spec : {M : Type 1} → stated.statement M
 unfolding code.routine tables_of
-post-spec 𝓤 𝓛 𝓜 𝓡 =
+post_spec 𝓤 𝓛 𝓜 𝓡 =
     entered 𝓤 𝓛.H (triple_of 𝓛 f.signature (f.spec 𝓛 𝓜.mem 𝓡.run))
     (tables 𝓤 𝓛.H 𝓜 𝓡 code.env).C (tables 𝓤 𝓛.H 𝓜 𝓡 code.env).Λ #account·post code.function (code.unfolded 𝓤 𝓛.H 𝓜 𝓡)
     (post-meets 𝓛 𝓜.mem 𝓡.run (tables_of 𝓤 𝓛.H 𝓜 (tables 𝓤 𝓛.H 𝓜 𝓡 code.env))

@@ -70,7 +70,7 @@ module _ {M : Type 1} {𝓤 : Ura M} (𝓛 : Logic 𝓤) (at_mem : Memory → SP
   at = (val h ∷ [], (num old ∷ [], (num new ∷ [], tt)))
 
   abbrev Post : Val → SProp 𝓤
-  Post = (walk_of 𝓛 f.ended stayed (f.clauses 𝓛 at_mem run)).post ((tt, tt, tt, x, at), tt)
+  Post = (walk_of 𝓛 f.ended stayed (f.clauses 𝓛 at_mem run)).post-ok ((tt, tt, tt, x, at), tt)
 
   abbrev res : Bool → Purse → MovedPurse
   res ok z = record { ok = ok; purse = z }
@@ -95,7 +95,7 @@ module _ {M : Type 1} {𝓤 : Ura M} (𝓛 : Logic 𝓤) (at_mem : Memory → SP
         -- the local is lent for α
         move ! (6 ∷ []) $ use1 𝓛 (‵ ((mem T.the_row).own_at h l₄ 0)) (lies_in 𝓛 h l₄ good) $ lft_new ! tt (λ α. move ! (1 ∷ []) $
         use1 𝓛 (later (some (λ (γ : GName). ‵ (own_ref h α l₄ γ) ⊛ ‵ (flent (α ∷ []) (Body (mem T.the_row) l₄ 0 γ))))) (lends_ref 𝓛 T.the_row (named 0) (α ∷ []) h l₄ 0) $ await ! tt $ pick ! (λ γ. split ! $
-        move ! (2 ∷ 0 ∷ []) $ use2 𝓛 (raw ((Posts 𝓛 at_mem run).pre (to-post 𝓛 at_mem run h old new α l₄ γ))) (goes_post 𝓛 at_mem run h old new old-fits new-fits α l₄ γ) $
+        move ! (2 ∷ 0 ∷ []) $ use2 𝓛 (raw ((Posts 𝓛 at_mem run).requires (to-post 𝓛 at_mem run h old new α l₄ γ))) (goes_post 𝓛 at_mem run h old new old-fits new-fits α l₄ γ) $
         -- [what `post` asks; the lender's part; _7; …; _6; …; _5; …; …; _3; …; _2; …; _1; …; room for _0; …]
         calls_at ! fm (Posts 𝓛 at_mem run) known (to-post 𝓛 at_mem run h old new α l₄ γ) (and_then ! (load ! (from ! (stop !)) (look ! 4 refl)) (and_then ! (load ! (from ! (stop !)) (look ! 11 refl)) (and_then ! (load ! (from ! (stop !)) (look ! 9 refl)) (no_more !)))) (λ w.
         use1 𝓛 (later (some (λ (ok : Bool). ((‵ (flft (α ∷ []) full_share) ⊛ ‵ ftrue) ⊛ ‵ (bool.own_val ok (w ∷ []))) ⊛ raw (ensured 𝓛 post.ended (post.clauses 𝓛 at_mem run) (α ∷ [], tt) (passed h old new l₄ γ) tt ok)))) (id⊢ 𝓤 _) $ await ! tt $ pick ! (λ ok.
@@ -122,9 +122,9 @@ posted-to-meets {𝓤 = 𝓤} 𝓛 at_mem run 𝓣 known =
     (walked 𝓛 f.ended stayed (f.clauses 𝓛 at_mem run) (WpFn 𝓤 𝓛.H 𝓣.C 𝓣.Λ code.function) (λ κs. (LL.vals T.the_type T'.the_laws, (sint_vals w64, (sint_vals w64, tt)))) (λ κs. (LL.tells T.the_type T'.the_laws, (sint_Tells w64, (sint_Tells w64, tt))))
     (λ κs qs bounds a g are. via 𝓤 _ (fst∗ 𝓤 _ (emp 𝓤)) (walk 𝓛 at_mem run a.0 a.1.0 a.1.1.0 are.0 are.1.0.1 are.1.1.0.1 𝓣.C 𝓣.Λ (fm_of 𝓤 𝓛.H 𝓛.laws 𝓣) known)))
 
-pub posted-to-spec : {M : Type 1} → stated.statement M
+pub posted_to_spec : {M : Type 1} → stated.statement M
 unfolding code.routine tables_of
-posted-to-spec 𝓤 𝓛 𝓜 𝓡 =
+posted_to_spec 𝓤 𝓛 𝓜 𝓡 =
     entered 𝓤 𝓛.H (triple_of 𝓛 f.signature (f.spec 𝓛 𝓜.mem 𝓡.run))
     (tables 𝓤 𝓛.H 𝓜 𝓡 code.env).C (tables 𝓤 𝓛.H 𝓜 𝓡 code.env).Λ #account·posted-to code.function (code.unfolded 𝓤 𝓛.H 𝓜 𝓡)
     (posted-to-meets 𝓛 𝓜.mem 𝓡.run (tables_of 𝓤 𝓛.H 𝓜 (tables 𝓤 𝓛.H 𝓜 𝓡 code.env))

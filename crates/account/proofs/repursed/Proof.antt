@@ -5,11 +5,11 @@ use Rattle.refusal.specs.ChoiceLaws.{on, off}
 use Rattle.account.proofs.repursed.Statement.{statement}
 use Rattle.account.proofs.repursed.Tie as tie
 
-returns : tie.Need-returns
-returns c = off _ (not-true _ c.before.if1.true) c.refused.ensures
+returns : tie.Need-returns-then-not-ok
+returns c = off _ (not-true _ c.before.if-not-ok.true-raw) c.refused.ensures
 
-returns-2 : tie.Need-returns-2
-returns-2 c = on _ (not-false _ c.if1.false) refl
+returns-2 : tie.Need-returns
+returns-2 c = on _ (not-false _ c.if-not-ok.false-raw) refl
 
-pub repursed-spec : {M : Type 1} → statement M
-repursed-spec = tie.close (tie.spec (λ c κs. search rules) returns returns-2)
+pub repursed_spec : {M : Type 1} → statement M
+repursed_spec = tie.close (tie.spec (λ c κs. search rules) returns returns-2)

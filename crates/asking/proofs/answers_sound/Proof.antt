@@ -6,17 +6,17 @@ use Rattle.asking.specs.QuestionLaws.{answers_faulty, answers_whole}
 use Rattle.asking.proofs.answers_sound.Statement.{statement}
 use Rattle.asking.proofs.answers_sound.Tie as tie
 
-returns : tie.Need-returns
-returns c = let t = c.before.before.before.tell.ensures in at_fault t.0 (answers_faulty _ _ (sym t.1.0 ∙ c.if1.true) ∙ ap faulty (sym t.1.1))
+returns : tie.Need-returns-then-dry
+returns c = let t = c.before.before.before.tell-dry.ensures in at_fault t.0 (answers_faulty _ _ (sym t.1.0 ∙ c.if-dry.true) ∙ ap faulty (sym t.1.1))
 
-returns-2 : tie.Need-returns-2
-returns-2 c = let t = c.before.before.before.before.before.tell.ensures in no_space t.0 (answers_whole _ _ (sym t.1.0 ∙ c.before.before.if1.false)) c.if2.true
+returns-2 : tie.Need-returns-then-pen
+returns-2 c = let t = c.before.before.before.before.before.tell-dry.ensures in no_space t.0 (answers_whole _ _ (sym t.1.0 ∙ c.before.before.if-dry.false)) c.if-pen.true
 
-returns-3 : tie.Need-returns-3
-returns-3 c = let t = c.before.before.before.before.before.before.before.before.before.before.tell.ensures in in_space t.0 (answers_whole _ _ (sym t.1.0 ∙ c.before.before.before.before.before.before.before.if1.false)) c.before.before.before.before.before.if2.false c.before.before.before.tell2.ensures.0
+returns-3 : tie.Need-returns
+returns-3 c = let t = c.before.before.before.before.before.before.before.before.before.before.tell-dry.ensures in in_space t.0 (answers_whole _ _ (sym t.1.0 ∙ c.before.before.before.before.before.before.before.if-dry.false)) c.before.before.before.before.before.if-pen.false c.before.before.before.tell-wet.ensures.0
 
-pub answers-sound-spec : {M : Type 1} → statement M
-answers-sound-spec =
+pub answers_sound_spec : {M : Type 1} → statement M
+answers_sound_spec =
     tie.close
     (tie.spec
     (λ c κs. search rules)

@@ -19,46 +19,46 @@ use Rattle.asking.specs.ReplyLaws.{reply_in_lem, reply_short}
 use Rattle.asking.proofs.put_answer.Statement.{statement}
 use Rattle.asking.proofs.put_answer.Tie as tie
 
-returns : tie.Need-returns
+returns : tie.Need-returns-then-tag-lt112
 returns c =
     let s = c.before.before.before.before.before.before.before.before.before.before.args in
-    retext c.before.before.put-list.ensures
-    (ap (λ (x : Asked). list_text x (offers_of c.before.before.before.before.before.before.offers-only.result)) c.before.before.before.before.of.ensures
-    ∙ ap (λ (k : ℕ). list_text (wanted_of k s.a s.b) (offers_of c.before.before.before.before.before.before.offers-only.result)) c.before.before.before.before.before.past.ensures
-    ∙ ap (list_text (wanted_of (s.tag - 0x60) s.a s.b)) (ap offers_of c.before.before.before.before.before.before.offers-only.ensures ∙ offers_held c.before.before.before.before.before.before.before.before.before.before.requires.0)
-    ∙ by_list (model_of s.book) s.a s.b c.before.before.before.before.before.before.before.before.if1.true)
+    retext c.before.before.put_list.ensures
+    (ap (λ (x : Asked). list_text x (offers_of c.before.before.before.before.before.before.offers_only-offers.result)) c.before.before.before.before.of-asked.ensures
+    ∙ ap (λ (k : ℕ). list_text (wanted_of k s.a s.b) (offers_of c.before.before.before.before.before.before.offers_only-offers.result)) c.before.before.before.before.before.past.ensures
+    ∙ ap (list_text (wanted_of (s.tag - 0x60) s.a s.b)) (ap offers_of c.before.before.before.before.before.before.offers_only-offers.ensures ∙ offers_held c.before.before.before.before.before.before.before.before.before.before.requires.shelved)
+    ∙ by_list (model_of s.book) s.a s.b c.before.before.before.before.before.before.before.before.if-tag-lt112.true)
 
-returns-2 : tie.Need-returns-2
+returns-2 : tie.Need-returns-then-tag-eq116
 returns-2 c =
     let s = c.before.before.before.before.before.before.before.before.args in
     let m = model_of s.book in
-    retext c.before.before.put-schedule.ensures
-    (ap (λ (w : List ℕ). schedule_text (reply_in w)) c.before.before.before.before.lookup.ensures ∙ ap schedule_text (reply_in_lem _ (reply_short 4 s.a s.b m))
-    ∙ by_schedule m s.a s.b c.before.before.before.before.before.before.if1.false c.before.before.before.before.before.if2.true)
+    retext c.before.before.put_schedule.ensures
+    (ap (λ (w : List ℕ). schedule_text (reply_in w)) c.before.before.before.before.lookup-words.ensures ∙ ap schedule_text (reply_in_lem _ (reply_short 4 s.a s.b m))
+    ∙ by_schedule m s.a s.b c.before.before.before.before.before.before.if-tag-lt112.false c.before.before.before.before.before.if-tag-eq116.true)
 
-returns-3 : tie.Need-returns-3
+returns-3 : tie.Need-returns-then-tag-eq126
 returns-3 c =
     let s = c.before.before.before.before.before.before.before.before.before.before.args in
-    retext c.before.before.put-row.ensures
-    (ap (λ (n : ℕ). row_of (0 ∷ n ∷ [])) c.before.before.before.before.before.active-of.ensures ∙ by_active (model_of s.book) s.a s.b c.before.before.before.before.before.before.before.before.if1.false c.before.before.before.before.before.before.before.if2.false c.before.before.before.before.before.before.if3.true)
+    retext c.before.before.put_row.ensures
+    (ap (λ (n : ℕ). row_of (0 ∷ n ∷ [])) c.before.before.before.before.before.active_of.ensures ∙ by_active (model_of s.book) s.a s.b c.before.before.before.before.before.before.before.before.if-tag-lt112.false c.before.before.before.before.before.before.before.if-tag-eq116.false c.before.before.before.before.before.before.if-tag-eq126.true)
 
-returns-4 : tie.Need-returns-4
+returns-4 : tie.Need-returns-then-tag-eq127
 returns-4 c =
     let s = c.before.before.before.before.before.before.before.before.before.before.args in
-    retext c.before.before.put-negotiation.ensures
-    (ap negotiation_text c.before.before.before.before.negotiation-of.ensures ∙ by_negotiation (model_of s.book) s.a s.b c.before.before.before.before.before.before.before.before.if1.false c.before.before.before.before.before.before.before.if2.false c.before.before.before.before.before.before.if3.false c.before.before.before.before.before.if4.true)
+    retext c.before.before.put_negotiation.ensures
+    (ap negotiation_text c.before.before.before.before.negotiation_of-g.ensures ∙ by_negotiation (model_of s.book) s.a s.b c.before.before.before.before.before.before.before.before.if-tag-lt112.false c.before.before.before.before.before.before.before.if-tag-eq116.false c.before.before.before.before.before.before.if-tag-eq126.false c.before.before.before.before.before.if-tag-eq127.true)
 
-returns-5 : tie.Need-returns-5
+returns-5 : tie.Need-returns
 returns-5 c =
     let s = c.before.before.before.before.before.before.before.before.before.before.before.args in
     let m = model_of s.book in
-    retext c.before.before.put-reply.ensures
-    (ap (λ (w : List ℕ). reply_line (reply_in w)) c.before.before.before.before.lookup2.ensures ∙ ap reply_line (reply_in_lem _ (reply_short c.before.before.before.before.before.past2.result s.a s.b m))
-    ∙ ap (λ (k : ℕ). reply_line (reply_to k s.a s.b m)) c.before.before.before.before.before.past2.ensures
-    ∙ by_lookup m s.a s.b c.before.before.before.before.before.before.before.before.before.if1.false c.before.before.before.before.before.before.before.before.if2.false c.before.before.before.before.before.before.before.if3.false c.before.before.before.before.before.before.if4.false)
+    retext c.before.before.put_reply.ensures
+    (ap (λ (w : List ℕ). reply_line (reply_in w)) c.before.before.before.before.lookup-words-2.ensures ∙ ap reply_line (reply_in_lem _ (reply_short c.before.before.before.before.before.past-2.result s.a s.b m))
+    ∙ ap (λ (k : ℕ). reply_line (reply_to k s.a s.b m)) c.before.before.before.before.before.past-2.ensures
+    ∙ by_lookup m s.a s.b c.before.before.before.before.before.before.before.before.before.if-tag-lt112.false c.before.before.before.before.before.before.before.before.if-tag-eq116.false c.before.before.before.before.before.before.before.if-tag-eq126.false c.before.before.before.before.before.before.if-tag-eq127.false)
 
-pub put-answer-spec : {M : Type 1} → statement M
-put-answer-spec =
+pub put_answer_spec : {M : Type 1} → statement M
+put_answer_spec =
     tie.close
     (tie.spec
     (λ c κs. search rules)
@@ -67,7 +67,7 @@ put-answer-spec =
     (λ c κs. search rules)
     (λ c. search rules)
     returns
-    (λ c κs. c.before.before.before.requires.0)
+    (λ c κs. c.before.before.before.requires.shelved)
     (λ c κs. search rules)
     (λ c. search rules)
     returns-2
@@ -76,12 +76,12 @@ put-answer-spec =
     (λ c κs. search rules)
     (λ c. search rules)
     returns-3
-    (λ c κs. c.before.before.before.before.before.requires.0)
+    (λ c κs. c.before.before.before.before.before.requires.shelved)
     (λ c κs. search rules)
     (λ c. search rules)
     returns-4
     (λ c κs. search rules)
-    (λ c κs. c.before.before.before.before.before.before.requires.0)
+    (λ c κs. c.before.before.before.before.before.before.requires.shelved)
     (λ c κs. search rules)
     (λ c. search rules)
     returns-5)

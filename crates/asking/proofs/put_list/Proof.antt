@@ -9,20 +9,20 @@ use Rattle.asking.specs.QuestionLaws.{list_known, list_unknown}
 use Rattle.asking.proofs.put_list.Statement.{statement}
 use Rattle.asking.proofs.put_list.Tie as tie
 
-returns : tie.Need-returns
+returns : tie.Need-returns-in_default
 unfolding list_text
-returns c = retext c.before.before.put-row.ensures (sym (ap (λ (x : Asked). list_text x (offers_of c.before.before.before.before.before.before.before.before.args.offers)) c.before.before.before.before.before.enum_told.given.1))
+returns c = retext c.before.before.put_row.ensures (sym (ap (λ (x : Asked). list_text x (offers_of c.before.before.before.before.before.before.before.before.args.offers)) c.before.before.before.before.before.in_default.is))
 
-returns-2 : tie.Need-returns-2
-returns-2 c = retext c.before.before.put-row2.ensures (list_unknown _ c.before.before.before.before.before.before.before.before.asked.given.1 (sym c.before.before.before.before.before.before.is_Known.ensures ∙ not-true _ c.before.before.before.before.before.if1.true))
+returns-2 : tie.Need-returns-then-not-is_known
+returns-2 c = retext c.before.before.put_row-then-not-is_known.ensures (list_unknown _ c.before.before.before.before.before.before.before.before.in-For.is (sym c.before.before.before.before.before.before.is_known.ensures ∙ not-true _ c.before.before.before.before.before.if-not-is_known.true-raw))
 
-returns-3 : tie.Need-returns-3
+returns-3 : tie.Need-returns
 returns-3 c =
-    retext (next c.before.before.before.before.before.before.put-row3.ensures c.before.before.put-offers.ensures)
-    (list_known _ c.before.before.before.before.before.before.before.before.before.before.before.before.before.asked.given.1 (sym c.before.before.before.before.before.before.before.before.before.before.before.is_Known.ensures ∙ not-false _ c.before.before.before.before.before.before.before.before.before.before.if1.false) c.before.before.before.before.before.before.before.before.before.count_of.ensures.0)
+    retext (next c.before.before.before.before.before.before.put_row-p.ensures c.before.before.put_offers.ensures)
+    (list_known _ c.before.before.before.before.before.before.before.before.before.before.before.before.before.in-For.is (sym c.before.before.before.before.before.before.before.before.before.before.before.is_known.ensures ∙ not-false _ c.before.before.before.before.before.before.before.before.before.before.if-not-is_known.false-raw) c.before.before.before.before.before.before.before.before.before.count_of-n.ensures.counted)
 
-pub put-list-spec : {M : Type 1} → statement M
-put-list-spec =
+pub put_list_spec : {M : Type 1} → statement M
+put_list_spec =
     tie.close
     (tie.spec
     (λ c. search rules)

@@ -6,14 +6,14 @@ use Rattle.asking.specs.QuestionLaws.{schedule_none_lem, schedule_some}
 use Rattle.asking.proofs.put_schedule.Statement.{statement}
 use Rattle.asking.proofs.put_schedule.Tie as tie
 
-returns : tie.Need-returns
-returns c = retext c.before.before.put.ensures (schedule_none_lem c.before.before.before.before.before.before.before.args.t4 c.before.before.before.before.before.if1.true)
+returns : tie.Need-returns-then-words-eq0
+returns c = retext c.before.before.put.ensures (schedule_none_lem c.before.before.before.before.before.before.before.args.words c.before.before.before.before.before.if-words-eq0.true)
 
-returns-2 : tie.Need-returns-2
-returns-2 c = retext c.before.before.put-reply.ensures (schedule_some c.before.before.before.before.before.before.args.t4 c.before.before.before.before.if1.false (omega (arith, length-drop 2 c.before.before.before.before.before.before.args.t4, c.before.before.before.before.before.before.well-formed.1.1.1.0.1)))
+returns-2 : tie.Need-returns
+returns-2 c = retext c.before.before.put_reply.ensures (schedule_some c.before.before.before.before.before.before.args.words c.before.before.before.before.if-words-eq0.false (omega (arith, length-drop 2 c.before.before.before.before.before.before.args.words, c.before.before.before.before.before.before.well-formed.1.1.1.0.1)))
 
-pub put-schedule-spec : {M : Type 1} → statement M
-put-schedule-spec =
+pub put_schedule_spec : {M : Type 1} → statement M
+put_schedule_spec =
     tie.close
     (tie.spec
     (λ c. search rules)

@@ -4,13 +4,13 @@ use Rattle.text.specs.Answers.{answered}
 use Rattle.asking.proofs.said.Statement.{statement}
 use Rattle.asking.proofs.said.Tie as tie
 
-returns : tie.Need-returns
-returns c = sym (ap answered c.before.r.given.1)
+returns : tie.Need-returns-in-Done
+returns c = sym (ap answered c.before.in-Done.is)
 
-returns-2 : tie.Need-returns-2
-returns-2 c = sym (ap answered c.before.r2.given.1)
+returns-2 : tie.Need-returns-in-Malformed
+returns-2 c = sym (ap answered c.before.in-Malformed.is)
 
-pub said-spec : {M : Type 1} → statement M
-said-spec =
+pub said_spec : {M : Type 1} → statement M
+said_spec =
     tie.close
     (tie.spec (λ c. search rules) (λ c. search rules) (λ c. search rules) returns returns-2 (λ c. search rules))

@@ -30,44 +30,44 @@ module _ (b : Book) (n : ℕ) {d : Reading} {z : Step} where
   unfolding whole_record
   empty e h = rw e h
 
-decode-requires : tie.Need-decode-requires
+decode-requires : tie.Need-decode-d-requires
 decode-requires c κs = search rules
 
-enum-known-d : tie.Need-enum-known-d
+enum-known-d : tie.Need-enum_known-d
 enum-known-d c = search rules
 
 malformed-requires : tie.Need-malformed-requires
 malformed-requires c κs = search rules
 
-returns : tie.Need-returns
-returns c = part _ _ (sym c.before.before.before.before.before.decode.ensures ∙ ap reading c.before.before.before.d.given.1) c.before.if1.true c.malformed.ensures
+returns : tie.Need-returns-then-next-s
+returns c = part _ _ (sym c.before.before.before.before.before.decode-d.ensures ∙ ap reading c.before.before.before.in-Command.is) c.before.if-next-s.true c.malformed.ensures
 
 apply-requires : tie.Need-apply-requires
 apply-requires c κs = search rules
 
-returns-2 : tie.Need-returns-2
-returns-2 c = whole _ _ (sym c.before.before.before.before.before.decode.ensures ∙ ap reading c.before.before.before.d.given.1) c.before.if1.false c.apply.ensures
+returns-2 : tie.Need-returns-in-Command
+returns-2 c = whole _ _ (sym c.before.before.before.before.before.decode-d.ensures ∙ ap reading c.before.before.before.in-Command.is) c.before.if-next-s.false c.apply.ensures
 
-enum_told : tie.Need-enum-told
+enum_told : tie.Need-enum_told-1
 enum_told c = search rules
 
-malformed-requires-2 : tie.Need-malformed-requires-2
+malformed-requires-2 : tie.Need-malformed-requires-in-Malformed
 malformed-requires-2 c κs = search rules
 
-returns-3 : tie.Need-returns-3
-returns-3 c = faulty _ _ (sym c.before.before.before.decode.ensures ∙ ap reading c.before.enum_told.given.1) c.malformed2.ensures
+returns-3 : tie.Need-returns-in-Malformed
+returns-3 c = faulty _ _ (sym c.before.before.before.decode-d.ensures ∙ ap reading c.before.in-Malformed.is) c.malformed-in-Malformed.ensures
 
-enum-told-2 : tie.Need-enum-told-2
+enum-told-2 : tie.Need-enum_told-in-End
 enum-told-2 c = search rules
 
-malformed-requires-3 : tie.Need-malformed-requires-3
+malformed-requires-3 : tie.Need-malformed-requires-in-End
 malformed-requires-3 c κs = search rules
 
-returns-4 : tie.Need-returns-4
-returns-4 c = empty _ _ (sym c.before.before.before.decode.ensures ∙ ap reading c.before.enum-told2.given.1) c.malformed3.ensures
+returns-4 : tie.Need-returns-in-End
+returns-4 c = empty _ _ (sym c.before.before.before.decode-d.ensures ∙ ap reading c.before.in-End.is) c.malformed-in-End.ensures
 
-pub apply-spec : {M : Type 1} → statement M
-apply-spec =
+pub apply_spec : {M : Type 1} → statement M
+apply_spec =
     tie.close
     (tie.spec
     decode-requires

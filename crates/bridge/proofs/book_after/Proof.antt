@@ -3,8 +3,8 @@ use Rattle.bridge_words.specs.Parts.{taken}
 use Rattle.bridge.proofs.book_after.Statement.{statement}
 use Rattle.bridge.proofs.book_after.Tie as tie
 
-pub book-after-spec : {M : Type 1} → statement M
-book-after-spec =
+pub book_after_spec : {M : Type 1} → statement M
+book_after_spec =
     tie.close
     (tie.spec
     (λ c. search rules)

@@ -3,8 +3,8 @@ use Rattle.bridge_words.specs.Parts.{taken}
 use Rattle.bridge.proofs.listing_of.Statement.{statement}
 use Rattle.bridge.proofs.listing_of.Tie as tie
 
-pub listing-of-spec : {M : Type 1} → statement M
-listing-of-spec =
+pub listing_of_spec : {M : Type 1} → statement M
+listing_of_spec =
     tie.close
     (tie.spec
     (λ c. search rules)

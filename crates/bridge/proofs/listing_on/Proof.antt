@@ -3,8 +3,8 @@ use Rattle.bridge_words.specs.Parts.{taken}
 use Rattle.bridge.proofs.listing_on.Statement.{statement}
 use Rattle.bridge.proofs.listing_on.Tie as tie
 
-pub listing-on-spec : {M : Type 1} → statement M
-listing-on-spec =
+pub listing_on_spec : {M : Type 1} → statement M
+listing_on_spec =
     tie.close
     (tie.spec
     (λ c. search rules)

@@ -3,16 +3,16 @@ use native.Mathlib.Omega.{arith}
 use Rattle.bridge.proofs.main.Statement.{statement}
 use Rattle.bridge.proofs.main.Tie as tie
 
-abbrev invariant-loop : tie.invariant-loop
+abbrev invariant-loop : tie.invariant-loop-left
 invariant-loop book₀ left₀ book left = Unit {0}
 
-abbrev decreases-loop : tie.decreases-loop
+abbrev decreases-loop : tie.decreases-loop-left
 decreases-loop book₀ left₀ book left = left
 
-returns : tie.Need-returns invariant-loop decreases-loop
+returns : tie.Need-returns-then-not-s invariant-loop decreases-loop
 returns c = tt
 
-returns-2 : tie.Need-returns-2 invariant-loop decreases-loop
+returns-2 : tie.Need-returns invariant-loop decreases-loop
 returns-2 c = tt
 
 pub main_spec : {M : Type 1} → statement M

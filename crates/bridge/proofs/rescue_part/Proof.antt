@@ -3,8 +3,8 @@ use Rattle.bridge_words.specs.Parts.{taken}
 use Rattle.bridge.proofs.rescue_part.Statement.{statement}
 use Rattle.bridge.proofs.rescue_part.Tie as tie
 
-pub rescue-part-spec : {M : Type 1} → statement M
-rescue-part-spec =
+pub rescue_part_spec : {M : Type 1} → statement M
+rescue_part_spec =
     tie.close
     (tie.spec
     (λ c. search rules)

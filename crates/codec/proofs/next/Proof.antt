@@ -11,40 +11,40 @@ use Rattle.codec.proofs.next.Statement.{statement}
 use Rattle.codec.proofs.next.Tie as tie
 
 -- past the second test a whole field is there
-room : (c : tie.Else2) → c.before.before.before.before.before.args.c.at + 11 ≤ length c.before.before.before.before.before.args.s.now
+room : (c : tie.Else-not-begins) → c.before.before.before.before.before.args.c.at + 11 ≤ length c.before.before.before.before.before.args.s.now
 room c =
     let a = c.before.before.before.before.before.args in
-    begins_room a.tag 8 a.c.at a.s.now (sym c.before.begins.ensures ∙ not-false _ c.if2.false)
+    begins_room a.tag 8 a.c.at a.s.now (sym c.before.begins.ensures ∙ not-false _ c.if-not-begins.false-raw)
 
-returns : tie.Need-returns
-returns c = let a = c.before.before.before.args in next_refused a.s.now a.c a.tag a.top (ne_eqb a.c.code 0 c.if1.true)
+returns : tie.Need-returns-then-c-ne0
+returns c = let a = c.before.before.before.args in next_refused a.s.now a.c a.tag a.top (ne_eqb a.c.code 0 c.if-c-ne0.true)
 
-returns-2 : tie.Need-returns-2
-returns-2 c = let a = c.before.before.before.before.before.args in next_wrong a.s.now a.c a.tag a.top c.before.before.if1.false (sym c.before.begins.ensures ∙ not-true _ c.if2.true)
+returns-2 : tie.Need-returns-then-not-begins
+returns-2 c = let a = c.before.before.before.before.before.args in next_wrong a.s.now a.c a.tag a.top c.before.before.if-c-ne0.false (sym c.before.begins.ensures ∙ not-true _ c.if-not-begins.true-raw)
 
-add-number : tie.Need-overflow-add-number
+add-number : tie.Need-overflow_add-at
 add-number c = omega (arith, room c)
 
-add-t10 : tie.Need-overflow-add-t10
+add-t10 : tie.Need-overflow_add-result
 add-t10 c = omega (arith, room c.before.before)
 
-returns-3 : tie.Need-returns-3
+returns-3 : tie.Need-returns-then-top-x
 returns-3 c =
     let d = c.before.before in
     let a = d.before.before.before.before.before.args in
-    next_high a.s.now a.c a.tag a.top d.before.before.if1.false (sym d.before.begins.ensures ∙ not-false _ d.if2.false) (rw c.before.number.ensures at c.if3.true)
+    next_high a.s.now a.c a.tag a.top d.before.before.if-c-ne0.false (sym d.before.begins.ensures ∙ not-false _ d.if-not-begins.false-raw) (rw c.before.number-x.ensures at c.if-top-x.true)
 
-add-t9 : tie.Need-overflow-add-t9
+add-t9 : tie.Need-overflow_add-result-2
 add-t9 c = omega (arith, room c.before.before)
 
-returns-4 : tie.Need-returns-4
+returns-4 : tie.Need-returns
 returns-4 c =
     let d = c.before.before in
     let a = d.before.before.before.before.before.args in
-    next_in a.s.now a.c a.tag a.top d.before.before.if1.false (sym d.before.begins.ensures ∙ not-false _ d.if2.false) c.before.number.ensures c.if3.false
+    next_in a.s.now a.c a.tag a.top d.before.before.if-c-ne0.false (sym d.before.begins.ensures ∙ not-false _ d.if-not-begins.false-raw) c.before.number-x.ensures c.if-top-x.false
 
-pub next-spec : {M : Type 1} → statement M
-next-spec =
+pub next_spec : {M : Type 1} → statement M
+next_spec =
     tie.close
     (tie.spec
     returns

@@ -7,5 +7,5 @@ use Rattle.codec.proofs.put_half.Tie as tie
 returns : tie.Need-returns
 returns c = puts_within _ (omega (arith, c.before.before.before.before.before.ranges.v)) c.before.before.put.ensures
 
-pub put-half-spec : {M : Type 1} → statement M
-put-half-spec = tie.close (tie.spec (λ c κs. search rules) (λ c. search rules) returns)
+pub put_half_spec : {M : Type 1} → statement M
+put_half_spec = tie.close (tie.spec (λ c κs. search rules) (λ c. search rules) returns)

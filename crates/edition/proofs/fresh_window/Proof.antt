@@ -5,13 +5,13 @@ use Rattle.edition.specs.Edition.{fresh_window}
 use Rattle.edition.proofs.fresh_window.Statement.{statement}
 use Rattle.edition.proofs.fresh_window.Tie as tie
 
-returns : tie.Need-returns
+returns : tie.Need-returns-then-edition-ge3
 unfolding fresh_window
-returns c = rw (le-leb 3 _ c.if1.true)
+returns c = rw (le-leb 3 _ c.if-edition-ge3.true)
 
-returns-2 : tie.Need-returns-2
+returns-2 : tie.Need-returns
 unfolding fresh_window
-returns-2 c = rw (lt-leb 3 _ c.if1.false)
+returns-2 c = rw (lt-leb 3 _ c.if-edition-ge3.false)
 
-pub fresh-window-spec : {M : Type 1} → statement M
-fresh-window-spec = tie.close (tie.spec returns returns-2)
+pub fresh_window_spec : {M : Type 1} → statement M
+fresh_window_spec = tie.close (tie.spec returns returns-2)

@@ -7,5 +7,5 @@ returns : tie.Need-returns
 unfolding holds_amount
 returns c = search rules
 
-pub holds-amount-spec : {M : Type 1} → statement M
-holds-amount-spec = tie.close (tie.spec returns)
+pub holds_amount_spec : {M : Type 1} → statement M
+holds_amount_spec = tie.close (tie.spec returns)

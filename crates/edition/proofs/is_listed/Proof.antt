@@ -7,5 +7,5 @@ returns : tie.Need-returns
 unfolding listed
 returns c = search rules
 
-pub is-listed-spec : {M : Type 1} → statement M
-is-listed-spec = tie.close (tie.spec returns)
+pub is_listed_spec : {M : Type 1} → statement M
+is_listed_spec = tie.close (tie.spec returns)

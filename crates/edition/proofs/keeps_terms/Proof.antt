@@ -7,5 +7,5 @@ returns : tie.Need-returns
 unfolding keeps_terms
 returns c = search rules
 
-pub keeps-terms-spec : {M : Type 1} → statement M
-keeps-terms-spec = tie.close (tie.spec returns)
+pub keeps_terms_spec : {M : Type 1} → statement M
+keeps_terms_spec = tie.close (tie.spec returns)

@@ -7,5 +7,5 @@ returns : tie.Need-returns
 unfolding due_ok
 returns c = refl
 
-pub due-ok-spec : {M : Type 1} → statement M
-due-ok-spec = tie.close (tie.spec returns)
+pub due_ok_spec : {M : Type 1} → statement M
+due_ok_spec = tie.close (tie.spec returns)

@@ -5,7 +5,7 @@ use Rattle.installments.proofs.even_ok.Tie as tie
 
 returns : tie.Need-returns
 unfolding even_ok
-returns c = simp c.due_ok_lem.ensures
+returns c = simp c.due_ok.ensures
 
-pub even-ok-spec : {M : Type 1} → statement M
-even-ok-spec = tie.close (tie.spec (λ c κs. search rules) returns)
+pub even_ok_spec : {M : Type 1} → statement M
+even_ok_spec = tie.close (tie.spec (λ c κs. search rules) returns)

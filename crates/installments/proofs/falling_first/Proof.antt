@@ -11,22 +11,22 @@ use Rattle.installments.proofs.falling_first.Statement.{statement}
 use Rattle.installments.proofs.falling_first.Tie as tie
 
 -- past the test the arguments are in range
-ok : (s : tie.Else1) → falling_ok s.before.before.args.amount s.before.before.args.rate s.before.before.args.count 0 0 ≡ true
-ok s = sym s.before.falling_ok_lem.ensures ∙ not-false _ s.if1.false
+ok : (s : tie.Else-not-falling_ok) → falling_ok s.before.before.args.amount s.before.before.args.rate s.before.before.args.count 0 0 ≡ true
+ok s = sym s.before.falling_ok.ensures ∙ not-false _ s.if-not-falling_ok.false-raw
 
-given : (s : tie.Else1) → FallingIn s.before.before.args.amount s.before.before.args.rate s.before.before.args.count 0 0
+given : (s : tie.Else-not-falling_ok) → FallingIn s.before.before.args.amount s.before.before.args.rate s.before.before.args.count 0 0
 given s = falling_in _ _ _ _ _ (ok s)
 
-returns : tie.Need-returns
+returns : tie.Need-returns-then-not-falling_ok
 unfolding first_if
-returns c = off _ (sym c.before.falling_ok_lem.ensures ∙ not-true _ c.if1.true) refl
+returns c = off _ (sym c.before.falling_ok.ensures ∙ not-true _ c.if-not-falling_ok.true-raw) refl
 
-falling-member-requires : tie.Need-falling-member-requires
+falling-member-requires : tie.Need-falling_member-requires
 falling-member-requires c κs = let g = given c in omega arith
 
-returns-2 : tie.Need-returns-2
+returns-2 : tie.Need-returns
 unfolding first_if
-returns-2 c = on _ (ok c.before) (c.falling_member_lem.ensures ∙ sym (falling_member_lem _ _ _ 0 (given c.before).due.count_low))
+returns-2 c = on _ (ok c.before) (c.falling_member.ensures ∙ sym (falling_member_lem _ _ _ 0 (given c.before).due.count_low))
 
-pub falling-first-spec : {M : Type 1} → statement M
-falling-first-spec = tie.close (tie.spec (λ c κs. search rules) returns falling-member-requires returns-2)
+pub falling_first_spec : {M : Type 1} → statement M
+falling_first_spec = tie.close (tie.spec (λ c κs. search rules) returns falling-member-requires returns-2)

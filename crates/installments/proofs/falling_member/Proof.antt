@@ -6,34 +6,34 @@ use borrow.Author.Rules.{rules}
 use Rattle.installments.proofs.falling_member.Statement.{statement}
 use Rattle.installments.proofs.falling_member.Tie as tie
 
-mul-outstanding : tie.Need-overflow-mul-outstanding
+mul-outstanding : tie.Need-overflow_mul-outstanding
 mul-outstanding c = let a = c.args in record { fits = omega (arith, share_fits a.amount a.count a.k (omega arith)) }
 
-sub-outstanding : tie.Need-overflow-sub-outstanding
+sub-outstanding : tie.Need-overflow_sub-outstanding
 sub-outstanding c = let a = c.args in share_fits a.amount a.count a.k (omega arith)
 
-mul-interest : tie.Need-overflow-mul-interest
+mul-interest : tie.Need-overflow_mul-interest
 unfolding outstanding
 mul-interest c = let a = c.args in record { fits = omega (arith, product_le a.amount a.rate a.count (omega arith) (omega arith) (omega arith) a.k) }
 
-add-result : tie.Need-overflow-add-result
+add-result : tie.Need-overflow_add-result
 unfolding outstanding interest
 add-result c = let a = c.before.args in record { fits = omega (arith, outstanding_le a.amount a.count a.k, interest_le a.amount a.rate a.count a.k (omega arith) (omega arith)) }
 
-returns : tie.Need-returns
+returns : tie.Need-returns-then-k-count
 unfolding falling_member outstanding interest
 returns c = let a = c.before.args in rw (principal_last a.amount a.count a.k (omega arith))
 
-add-result-2 : tie.Need-overflow-add-result-2
+add-result-2 : tie.Need-overflow_add-result-2
 unfolding outstanding interest
 add-result-2 c = let a = c.before.args in record { fits = omega (arith, div-le_self a.amount a.count, interest_le a.amount a.rate a.count a.k (omega arith) (omega arith)) }
 
-returns-2 : tie.Need-returns-2
+returns-2 : tie.Need-returns
 unfolding falling_member outstanding interest
-returns-2 c = let a = c.before.args in rw (principal_else a.amount a.count a.k (λ e. c.if1.false (omega arith)))
+returns-2 c = let a = c.before.args in rw (principal_else a.amount a.count a.k (λ e. c.if-k-count.false (omega arith)))
 
-pub falling-member-spec : {M : Type 1} → statement M
-falling-member-spec =
+pub falling_member_spec : {M : Type 1} → statement M
+falling_member_spec =
     tie.close
     (tie.spec
     (λ c. search rules)

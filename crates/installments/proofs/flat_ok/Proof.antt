@@ -10,25 +10,25 @@ use Rattle.installments.proofs.flat_ok.Statement.{statement}
 use Rattle.installments.proofs.flat_ok.Tie as tie
 
 -- past the test the count and the installment are in range
-ok : (s : tie.Else1) → even_ok s.before.before.args.count s.before.before.args.installment s.before.before.args.elapsed s.before.before.args.repaid ≡ true
-ok s = sym s.before.even_ok_lem.ensures ∙ not-false _ s.if1.false
+ok : (s : tie.Else-not-even_ok) → even_ok s.before.before.args.count s.before.before.args.installment s.before.before.args.elapsed s.before.before.args.repaid ≡ true
+ok s = sym s.before.even_ok.ensures ∙ not-false _ s.if-not-even_ok.false-raw
 
-given : (s : tie.Else1) → EvenIn s.before.before.args.count s.before.before.args.installment s.before.before.args.elapsed s.before.before.args.repaid
+given : (s : tie.Else-not-even_ok) → EvenIn s.before.before.args.count s.before.before.args.installment s.before.before.args.elapsed s.before.before.args.repaid
 given s = even_in _ _ _ _ (ok s)
 
-returns : tie.Need-returns
+returns : tie.Need-returns-then-not-even_ok
 unfolding flat_ok
-returns c = rw (sym c.before.even_ok_lem.ensures ∙ not-true _ c.if1.true)
+returns c = rw (sym c.before.even_ok.ensures ∙ not-true _ c.if-not-even_ok.true-raw)
 
-mul-earlier : tie.Need-overflow-mul-earlier
+mul-earlier : tie.Need-overflow_mul-earlier
 mul-earlier c =
     let a = c.before.before.args in
     let g = given c in
     record { fits = omega (arith, times_le (a.count - 1) a.installment (omega arith) g.high) }
 
-returns-2 : tie.Need-returns-2
+returns-2 : tie.Need-returns
 unfolding flat_ok
 returns-2 c = rw (ok c)
 
-pub flat-ok-spec : {M : Type 1} → statement M
-flat-ok-spec = tie.close (tie.spec (λ c κs. search rules) returns (λ c. (given c).due.count_low) mul-earlier returns-2)
+pub flat_ok_spec : {M : Type 1} → statement M
+flat_ok_spec = tie.close (tie.spec (λ c κs. search rules) returns (λ c. (given c).due.count_low) mul-earlier returns-2)

@@ -7,5 +7,5 @@ returns : tie.Need-returns
 unfolding terms_ok
 returns c = refl
 
-pub terms-ok-spec : {M : Type 1} → statement M
-terms-ok-spec = tie.close (tie.spec returns)
+pub terms_ok_spec : {M : Type 1} → statement M
+terms_ok_spec = tie.close (tie.spec returns)

@@ -12,25 +12,25 @@ use Rattle.installments.proofs.total.Statement.{statement}
 use Rattle.installments.proofs.total.Tie as tie
 
 -- past the test the arguments are in range
-ok : (s : tie.Else1) → terms_ok s.before.before.args.amount s.before.before.args.rate ≡ true
-ok s = sym s.before.terms-ok.ensures ∙ not-false _ s.if1.false
+ok : (s : tie.Else-not-terms_ok) → terms_ok s.before.before.args.amount s.before.before.args.rate ≡ true
+ok s = sym s.before.terms_ok.ensures ∙ not-false _ s.if-not-terms_ok.false-raw
 
-given : (s : tie.Else1) → TermsIn s.before.before.args.amount s.before.before.args.rate
+given : (s : tie.Else-not-terms_ok) → TermsIn s.before.before.args.amount s.before.before.args.rate
 given s = terms_in_lem _ _ (ok s)
 
-returns : tie.Need-returns
+returns : tie.Need-returns-then-not-terms_ok
 unfolding total_if
-returns c = off _ (sym c.before.terms-ok.ensures ∙ not-true _ c.if1.true) refl
+returns c = off _ (sym c.before.terms_ok.ensures ∙ not-true _ c.if-not-terms_ok.true-raw) refl
 
-mul-result : tie.Need-overflow-mul-result
+mul-result : tie.Need-overflow_mul-result
 mul-result c = let g = given c in record { fits = omega (arith, mul-le-mul g.amount_high g.rate_high) }
 
-add-result : tie.Need-overflow-add-result
+add-result : tie.Need-overflow_add-result
 add-result c = let g = given c in record { fits = omega (arith, mul-le-mul g.amount_high g.rate_high) }
 
-returns-2 : tie.Need-returns-2
+returns-2 : tie.Need-returns
 unfolding total_if total_of
 returns-2 c = on _ (ok c) refl
 
-pub total-spec : {M : Type 1} → statement M
-total-spec = tie.close (tie.spec (λ c κs. search rules) returns mul-result add-result returns-2)
+pub total_spec : {M : Type 1} → statement M
+total_spec = tie.close (tie.spec (λ c κs. search rules) returns mul-result add-result returns-2)

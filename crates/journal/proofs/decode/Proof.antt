@@ -18,20 +18,20 @@ use Rattle.journal.specs.declared.reading.Values.{Values}
 use Rattle.journal.proofs.decode.Statement.{statement}
 use Rattle.journal.proofs.decode.Tie as tie
 
-abbrev start : tie.After-tags → tie.Start
+abbrev start : tie.After-tags-1 → tie.Start
 start c = c.before.before.before.before.before
 
 -- the tag at the place and the fields of its row
-abbrev tag : tie.After-tags → ℕ
+abbrev tag : tie.After-tags-1 → ℕ
 tag c = get_or (start c).args.s.now (start c).args.at 0
 
-abbrev fs : tie.After-tags → List ℕ
+abbrev fs : tie.After-tags-1 → List ℕ
 fs c = fields_of (start c).args.edition (tag c)
 
-row : (c : tie.After-tags) → c.before.fields.result ≡ row_fields (fs c)
-row c = c.before.fields.ensures
+row : (c : tie.After-tags-1) → c.before.fields-row.result ≡ row_fields (fs c)
+row c = c.before.fields-row.ensures
 
-count : (c : tie.After-tags) → c.before.fields.result.0 ≡ length (fs c)
+count : (c : tie.After-tags-1) → c.before.fields-row.result.0 ≡ length (fs c)
 count c = ap (λ (r : Listed). r.0) (row c)
 
 -- whether the record begins there, and what its fields hold
@@ -40,59 +40,59 @@ begun c =
     let d = c.before in
     ap (λ (n : ℕ). begins (tag d) (11 * n) (drop (start d).args.at (start d).args.s.now)) (sym (count d)) ∙ sym c.begins.ensures
 
-within : (c : tie.Else2) → (start c.before.before).args.at + (3 + 11 * length (fs c.before.before)) ≤ length (start c.before.before).args.s.now
+within : (c : tie.Else-not-begins) → (start c.before.before).args.at + (3 + 11 * length (fs c.before.before)) ≤ length (start c.before.before).args.s.now
 within c =
     let d = c.before.before in
-    begins_room (tag d) (11 * length (fs d)) (start d).args.at (start d).args.s.now (begun c.before ∙ not-false _ c.if2.false)
+    begins_room (tag d) (11 * length (fs d)) (start d).args.at (start d).args.s.now (begun c.before ∙ not-false _ c.if-not-begins.false-raw)
 
-held : (c : tie.After-gather) → c.gather.result ≡ gathered_in (fs c.before.before.before) (drop ((start c.before.before.before).args.at + 3) (start c.before.before.before).args.s.now)
+held : (c : tie.After-gather-found) → c.gather-found.result ≡ gathered_in (fs c.before.before.before) (drop ((start c.before.before.before).args.at + 3) (start c.before.before.before).args.s.now)
 held c =
     let d = c.before.before.before in
     let b = drop ((start d).args.at + 3) (start d).args.s.now in
-    c.gather.ensures ∙ ap (λ (r : Listed). gathered_in (take r.0 r.1) b) (row d) ∙ ap (λ (l : List ℕ). gathered_in l b) (take_padded (fs d))
+    c.gather-found.ensures ∙ ap (λ (r : Listed). gathered_in (take r.0 r.1) b) (row d) ∙ ap (λ (l : List ℕ). gathered_in l b) (take_padded (fs d))
 
-returns : tie.Need-returns
-returns c = at-end _ _ _ c.if1.true
+returns : tie.Need-returns-then-s-at
+returns c = at-end _ _ _ c.if-s-at.true
 
-returns-2 : tie.Need-returns-2
+returns-2 : tie.Need-returns-then-not-begins
 returns-2 c =
     let d = c.before.before in
     let a = (start d).args in
-    at_record_lem a.edition a.s.now a.at d.before.before.before.if1.false (no_head a.edition (tag d) (fs d) a.s.now a.at (begun c.before ∙ not-true _ c.if2.true))
+    at_record_lem a.edition a.s.now a.at d.before.before.before.if-s-at.false (no_head a.edition (tag d) (fs d) a.s.now a.at (begun c.before ∙ not-true _ c.if-not-begins.true-raw))
 
-gather-requires : tie.Need-gather-requires
+gather-requires : tie.Need-gather-found-requires
 gather-requires c κs =
     let d = c.before.before in
     (omega (arith, count d, few (start d).args.edition (tag d), within c), λ k. rw (row d) (low (start d).args.edition (tag d) k))
 
-returns-3 : tie.Need-returns-3
+returns-3 : tie.Need-returns-then-not-found
 returns-3 c =
     let g = c.before.before.before in
     let d = g.before.before.before in
     let a = (start d).args in
-    at_record_lem a.edition a.s.now a.at d.before.before.before.if1.false (not_well a.edition (tag d) (fs d) a.s.now a.at (ap (λ (x : Gathered). x.0) (sym (held g)) ∙ not-true _ c.if3.true))
+    at_record_lem a.edition a.s.now a.at d.before.before.before.if-s-at.false (not_well a.edition (tag d) (fs d) a.s.now a.at (ap (λ (x : Gathered). x.0) (sym (held g)) ∙ not-true _ c.if-not-found.true))
 
-good : (c : tie.Else3) → (gathered_in (fs c.before.before.before.before.before.before) (drop ((start c.before.before.before.before.before.before).args.at + 3) (start c.before.before.before.before.before.before).args.s.now)).0 ≡ true
-good c = ap (λ (x : Gathered). x.0) (sym (held c.before.before.before)) ∙ not-false _ c.if3.false
+good : (c : tie.Else-not-found) → (gathered_in (fs c.before.before.before.before.before.before) (drop ((start c.before.before.before.before.before.before).args.at + 3) (start c.before.before.before.before.before.before).args.s.now)).0 ≡ true
+good c = ap (λ (x : Gathered). x.0) (sym (held c.before.before.before)) ∙ not-false _ c.if-not-found.false
 
 named-requires : tie.Need-named-requires
 named-requires c κs = λ k. rw (held c.before.before.before) (all_tops (fs c.before.before.before.before.before.before) _ (good c) k)
 
-returns-4 : tie.Need-returns-4
+returns-4 : tie.Need-returns
 returns-4 c =
     let e = c.before.before in
     let g = e.before.before.before in
     let d = g.before.before.before in
     let a = (start d).args in
-    at_record_lem a.edition a.s.now a.at d.before.before.before.if1.false
+    at_record_lem a.edition a.s.now a.at d.before.before.before.if-s-at.false
     (c.build.ensures
-    ∙ ap (λ (v : Values). made a.edition (tag d) v a.at (a.at + (3 + 11 * d.before.fields.result.0))) c.before.named.ensures
-    ∙ ap (λ (x : Gathered). made a.edition (tag d) (named x.1) a.at (a.at + (3 + 11 * d.before.fields.result.0))) (held g)
+    ∙ ap (λ (v : Values). made a.edition (tag d) v a.at (a.at + (3 + 11 * d.before.fields-row.result.0))) c.before.named.ensures
+    ∙ ap (λ (x : Gathered). made a.edition (tag d) (named x.1) a.at (a.at + (3 + 11 * d.before.fields-row.result.0))) (held g)
     ∙ ap (λ (n : ℕ). made a.edition (tag d) (named (gathered_in (fs d) (drop (a.at + 3) a.s.now)).1) a.at (a.at + (3 + 11 * n))) (count d)
-    ∙ whole a.edition (tag d) (fs d) a.s.now a.at (begun g.before.before ∙ not-false _ g.before.if2.false) (good e))
+    ∙ whole a.edition (tag d) (fs d) a.s.now a.at (begun g.before.before ∙ not-false _ g.before.if-not-begins.false-raw) (good e))
 
-pub decode-spec : {M : Type 1} → statement M
-decode-spec =
+pub decode_spec : {M : Type 1} → statement M
+decode_spec =
     tie.close
     (tie.spec
     returns

@@ -4,8 +4,8 @@ use Rattle.journal.proofs.encode.Statement.{statement}
 use Rattle.journal.proofs.encode.Tie as tie
 
 returns : tie.Need-returns
-returns c = rw (command_parts c.before.before.before.before.before.before.before.args.edition c.before.before.before.before.before.before.before.args.c c.before.before.before.before.before.split.ensures) at c.before.before.encode-parts.ensures
+returns c = rw (command_parts c.before.before.before.before.before.before.before.args.edition c.before.before.before.before.before.before.before.args.c c.before.before.before.before.before.split-parts.ensures) at c.before.before.encode_parts.ensures
 
-pub encode-spec : {M : Type 1} → statement M
-encode-spec =
+pub encode_spec : {M : Type 1} → statement M
+encode_spec =
     tie.close (tie.spec (λ c κs. search rules) (λ c κs. search rules) (λ c. search rules) returns)

@@ -14,35 +14,35 @@ use Rattle.journal.specs.FieldLaws.{and_off}
 use Rattle.journal.proofs.header.Statement.{statement}
 use Rattle.journal.proofs.header.Tie as tie
 
-returns : tie.Need-returns
+returns : tie.Need-returns-then-not-begins
 unfolding opening_of
 returns c =
     let s = c.before.before.before.args.s.now in
-    let e : begins 0x10 2 s ≡ false = sym c.before.begins.ensures ∙ not-true _ c.if1.true in
+    let e : begins 0x10 2 s ≡ false = sym c.before.begins.ensures ∙ not-true _ c.if-not-begins.true-raw in
     off _ (ap (λ (t : Bool). t && listed (edition_in s)) e) refl
 
-cast-e : tie.Need-overflow-cast-e
+cast-e : tie.Need-overflow_cast-e
 cast-e c =
     let s = c.before.before.before.before.args.s.now in
-    omega (arith, c.pair.ensures, number_small 2 (drop 3 s) (bytes_drop 3 s (λ i. (c.before.before.before.shared-slice-known.given i).fits)))
+    omega (arith, c.pair-e.ensures, number_small 2 (drop 3 s) (bytes_drop 3 s (λ i. (c.before.before.before.shared_slice_known-1.given i).fits)))
 
 -- whether there is the edition that the call gave
-known : (c : tie.After-is-listed) → listed (edition_in c.before.before.before.before.before.args.s.now) ≡ c.is-listed.result
-known c = ap listed (sym c.before.pair.ensures) ∙ sym c.is-listed.ensures
+known : (c : tie.After-is_listed) → listed (edition_in c.before.before.before.before.before.args.s.now) ≡ c.is_listed.result
+known c = ap listed (sym c.before.pair-e.ensures) ∙ sym c.is_listed.ensures
 
-returns-2 : tie.Need-returns-2
+returns-2 : tie.Need-returns-then-not-is_listed
 unfolding opening_of
 returns-2 c =
     let s = c.before.before.before.before.before.before.args.s.now in
-    off _ (ap (λ (t : Bool). begins 0x10 2 s && t) (known c.before ∙ not-true _ c.if2.true) ∙ and_off (begins 0x10 2 s)) refl
+    off _ (ap (λ (t : Bool). begins 0x10 2 s && t) (known c.before ∙ not-true _ c.if-not-is_listed.true-raw) ∙ and_off (begins 0x10 2 s)) refl
 
-returns-3 : tie.Need-returns-3
+returns-3 : tie.Need-returns
 unfolding opening_of
 returns-3 c =
     let s = c.before.before.before.before.before.before.args.s.now in
-    let a : begins 0x10 2 s ≡ true = sym c.before.before.before.before.begins.ensures ∙ not-false _ c.before.before.before.if1.false in
-    on _ (ap (λ (t : Bool). t && listed (edition_in s)) a ∙ known c.before ∙ not-false _ c.if2.false) (ap (λ e. good_header e 5) c.before.before.pair.ensures)
+    let a : begins 0x10 2 s ≡ true = sym c.before.before.before.before.begins.ensures ∙ not-false _ c.before.before.before.if-not-begins.false-raw in
+    on _ (ap (λ (t : Bool). t && listed (edition_in s)) a ∙ known c.before ∙ not-false _ c.if-not-is_listed.false-raw) (ap (λ e. good_header e 5) c.before.before.pair-e.ensures)
 
-pub header-spec : {M : Type 1} → statement M
-header-spec =
+pub header_spec : {M : Type 1} → statement M
+header_spec =
     tie.close (tie.spec (λ c κs. search rules) returns (λ c κs. search rules) cast-e (λ c κs. search rules) returns-2 returns-3)

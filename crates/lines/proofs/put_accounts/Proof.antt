@@ -11,38 +11,38 @@ use Rattle.lines.specs.LineLaws.{lines_none, lines_turn, table_all}
 use Rattle.lines.proofs.put_accounts.Statement.{statement}
 use Rattle.lines.proofs.put_accounts.Tie as tie
 
-abbrev invariant-loop : tie.invariant-loop
+abbrev invariant-loop : tie.invariant-loop-i
 invariant-loop out₀ ink n ids rows p₀ i₀ out p i = (i ≤ 64) × (i ≤ n) × Wrote ink (account_lines (table_of ids rows i)) out₀ p₀ out p
 
-abbrev decreases-loop : tie.decreases-loop
+abbrev decreases-loop : tie.decreases-loop-i
 decreases-loop out₀ ink n ids rows p₀ i₀ out p i = 64 - i
 
-loop-holds : tie.Need-loop-init invariant-loop decreases-loop
+loop-holds : tie.Need-loop-i-init invariant-loop decreases-loop
 loop-holds c = (search rules, search rules, retext (none _ _ _) (sym (lines_none _ _)))
 
-returns : tie.Need-returns invariant-loop decreases-loop
+returns : tie.Need-returns-then-n-i invariant-loop decreases-loop
 returns c =
-    let e : c.before.before.loop.i ≡ c.before.before.before.before.args.n = omega arith in
-    rw e at c.before.before.loop.invariant.2
+    let e : c.before.before.loop-i.i ≡ c.before.before.before.before.args.n = omega arith in
+    rw e at c.before.before.loop-i.invariant.2
 
-loop-again : tie.Need-loop-preserved invariant-loop decreases-loop
+loop-again : tie.Need-loop-i-preserved invariant-loop decreases-loop
 loop-again c =
-    let l = c.before.before.before.before.before.before.before.loop in
-    (search rules, search rules, retext (next l.invariant.2 c.before.before.put-account.ensures) (sym (lines_turn no_account _ _ l.i (search rules) (search rules))))
+    let l = c.before.before.before.before.before.before.before.loop-i in
+    (search rules, search rules, retext (next l.invariant.2 c.before.before.put_account-p.ensures) (sym (lines_turn no_account _ _ l.i (search rules) (search rules))))
 
-returns-2 : tie.Need-returns-2 invariant-loop decreases-loop
+returns-2 : tie.Need-returns invariant-loop decreases-loop
 returns-2 c =
-    let l = c.before.loop in
+    let l = c.before.loop-i in
     retext l.invariant.2 (ap account_lines (table_all _ _ l.i _ (search rules) l.invariant.1))
 
-pub put-accounts-spec : {M : Type 1} → statement M
-put-accounts-spec =
+pub put_accounts_spec : {M : Type 1} → statement M
+put_accounts_spec =
     tie.close
     (tie.spec
     invariant-loop
     decreases-loop
     loop-holds
-    (λ c. kept c.before.before.loop.invariant.2)
+    (λ c. kept c.before.before.loop-i.invariant.2)
     returns
     (λ c. search rules)
     (λ c. search rules)
@@ -52,5 +52,5 @@ put-accounts-spec =
     (λ c. search rules)
     (λ c. search rules)
     loop-again
-    (λ c. kept c.before.loop.invariant.2)
+    (λ c. kept c.before.loop-i.invariant.2)
     returns-2)

@@ -6,10 +6,10 @@ use Rattle.lines.proofs.put_answer.Tie as tie
 
 returns : tie.Need-returns
 unfolding answer_line
-returns c = next c.before.before.before.before.before.before.before.put-decimal.ensures c.before.before.put-numbers.ensures
+returns c = next c.before.before.before.before.before.before.before.put_decimal-p.ensures c.before.before.put_numbers.ensures
 
-pub put-answer-spec : {M : Type 1} → statement M
-put-answer-spec =
+pub put_answer_spec : {M : Type 1} → statement M
+put_answer_spec =
     tie.close
     (tie.spec
     (λ c κs. search rules)

@@ -6,10 +6,10 @@ use Rattle.lines.proofs.put_edition.Tie as tie
 
 returns : tie.Need-returns
 unfolding edition_line
-returns c = next c.before.before.before.before.before.before.before.put.ensures c.before.before.put-numbers.ensures
+returns c = next c.before.before.before.before.before.before.before.put-past.ensures c.before.before.put_numbers.ensures
 
-pub put-edition-spec : {M : Type 1} → statement M
-put-edition-spec =
+pub put_edition_spec : {M : Type 1} → statement M
+put_edition_spec =
     tie.close
     (tie.spec
     (λ c. search rules)

@@ -6,10 +6,10 @@ use Rattle.lines.proofs.put_mark.Tie as tie
 
 returns : tie.Need-returns
 unfolding mark_line
-returns c = next c.before.before.before.before.before.before.before.put-decimal.ensures c.before.before.put-numbers.ensures
+returns c = next c.before.before.before.before.before.before.before.put_decimal-p.ensures c.before.before.put_numbers.ensures
 
-pub put-mark-spec : {M : Type 1} → statement M
-put-mark-spec =
+pub put_mark_spec : {M : Type 1} → statement M
+put_mark_spec =
     tie.close
     (tie.spec
     (λ c κs. search rules)

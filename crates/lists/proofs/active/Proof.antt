@@ -6,13 +6,13 @@ use Rattle.lists.specs.Active.{active_in}
 use Rattle.lists.proofs.active.Statement.{statement}
 use Rattle.lists.proofs.active.Tie as tie
 
-returns : tie.Need-returns
+returns : tie.Need-returns-then-l-lender
 unfolding active_in
-returns c = on _ c.before.before.before.if1.true (simp (back c.before.before.before.before.args.o.terms.amount c.before.struct_told.given.0.1) at c.magnitude.ensures)
+returns c = on _ c.before.before.before.if-l-lender.true (simp (back c.before.before.before.before.args.o.terms-1.amount c.before.struct_told-1.given.0.1) at c.magnitude.ensures)
 
-returns-2 : tie.Need-returns-2
+returns-2 : tie.Need-returns
 unfolding active_in
-returns-2 c = off _ c.if1.false refl
+returns-2 c = off _ c.if-l-lender.false refl
 
-pub active-spec : {M : Type 1} → statement M
-active-spec = tie.close (tie.spec (λ c κs. search rules) returns returns-2)
+pub active_spec : {M : Type 1} → statement M
+active_spec = tie.close (tie.spec (λ c κs. search rules) returns returns-2)

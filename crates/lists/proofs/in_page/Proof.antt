@@ -3,13 +3,13 @@ use Rattle.lists.specs.Wanted.{paged}
 use Rattle.lists.proofs.in_page.Statement.{statement}
 use Rattle.lists.proofs.in_page.Tie as tie
 
-returns : tie.Need-returns
+returns : tie.Need-returns-then-place-offset
 unfolding paged
-returns c = rw (lt-leb c.before.args.offset c.before.args.place c.if1.true)
+returns c = rw (lt-leb c.before.args.offset c.before.args.place c.if-place-offset.true)
 
-returns-2 : tie.Need-returns-2
+returns-2 : tie.Need-returns
 unfolding paged
-returns-2 c = rw (le-leb c.before.args.offset c.before.args.place c.if1.false)
+returns-2 c = rw (le-leb c.before.args.offset c.before.args.place c.if-place-offset.false)
 
-pub in-page-spec : {M : Type 1} → statement M
-in-page-spec = tie.close (tie.spec returns returns-2)
+pub in_page_spec : {M : Type 1} → statement M
+in_page_spec = tie.close (tie.spec returns returns-2)

@@ -10,40 +10,40 @@ use borrow.Author.Rules.{rules}
 use Rattle.lists.proofs.put.Statement.{statement}
 use Rattle.lists.proofs.put.Tie as tie
 
-abbrev invariant-loop : tie.invariant-loop
+abbrev invariant-loop : tie.invariant-loop-j
 invariant-loop out₀ at numbers j₀ out j = (j ≤ length numbers) × (out ≡ paste out₀ at numbers j)
 
-abbrev decreases-loop : tie.decreases-loop
+abbrev decreases-loop : tie.decreases-loop-j
 decreases-loop out₀ at numbers j₀ out j = length numbers - j
 
 abbrev St : Type 0
 St = tie.Start invariant-loop decreases-loop
 
 kept : (s : St) (j : ℕ) → j ≤ length s.args.numbers.now → length (paste s.args.out.now s.args.at s.args.numbers.now j) ≡ length s.args.out.now
-kept s j h = length-paste s.args.out.now s.args.at s.args.numbers.now j (omega (arith, s.pre)) (omega arith)
+kept s j h = length-paste s.args.out.now s.args.at s.args.numbers.now j (omega (arith, s.requires)) (omega arith)
 
-loop-holds : tie.Need-loop-init invariant-loop decreases-loop
+loop-holds : tie.Need-loop-j-init invariant-loop decreases-loop
 loop-holds c = (omega arith, paste-zero c.args.out.now c.args.at c.args.numbers.now)
 
-mul-out-2 : tie.Need-overflow-mul-out-2 invariant-loop decreases-loop
-mul-out-2 c = omega (arith, c.before.before.before.requires, ap length c.before.before.loop.invariant.1 ∙ kept c.before.before.before c.before.before.loop.j c.before.before.loop.invariant.0)
+mul-out-2 : tie.Need-offset_bounds-out-at invariant-loop decreases-loop
+mul-out-2 c = omega (arith, c.before.before.before.requires, ap length c.before.before.loop-j.invariant.1 ∙ kept c.before.before.before c.before.before.loop-j.j c.before.before.loop-j.invariant.0)
 
-slice-write-out : tie.Need-slice-write-out invariant-loop decreases-loop
-slice-write-out c = omega (arith, c.before.before.before.requires, ap length c.before.before.loop.invariant.1 ∙ kept c.before.before.before c.before.before.loop.j c.before.before.loop.invariant.0)
+slice-write-out : tie.Need-bounds-out-at invariant-loop decreases-loop
+slice-write-out c = omega (arith, c.before.before.before.requires, ap length c.before.before.loop-j.invariant.1 ∙ kept c.before.before.before c.before.before.loop-j.j c.before.before.loop-j.invariant.0)
 
-loop-again : tie.Need-loop-preserved invariant-loop decreases-loop
+loop-again : tie.Need-loop-j-preserved invariant-loop decreases-loop
 loop-again c =
     let s = c.before.before.before in
-    let l = c.before.before.loop in
-    let h : l.j < length s.args.numbers.now = c.before.loop-test.true in (
+    let l = c.before.before.loop-j in
+    let h : l.j < length s.args.numbers.now = c.before.loop-j-test.true in (
       omega arith,
       ap (λ (x : List ℕ). set x (s.args.at + l.j) (get_or s.args.numbers.now l.j 0)) l.invariant.1
           ∙ paste-suc s.args.out.now s.args.at s.args.numbers.now l.j 0 (omega (arith, s.requires)) h
           ∙ ap (λ (k : ℕ). paste s.args.out.now s.args.at s.args.numbers.now k) (sym (add-one l.j)),
     )
 
-same_length : tie.Need-same-length invariant-loop decreases-loop
-same_length c = ap length c.before.loop.invariant.1 ∙ kept c.before.before c.before.loop.j c.before.loop.invariant.0
+same_length : tie.Need-shape_of-out invariant-loop decreases-loop
+same_length c = ap length c.before.loop-j.invariant.1 ∙ kept c.before.before c.before.loop-j.j c.before.loop-j.invariant.0
 
 returns : tie.Need-returns invariant-loop decreases-loop
 unfolding placed
@@ -51,8 +51,8 @@ returns c =
     let s = c.before.before in
     let l = s.args.out.now in
     let w = s.args.numbers.now in
-    let e : c.before.loop.j ≡ length w = omega (arith, c.before.loop.invariant.0, c.loop-test.false) in
-    c.before.loop.invariant.1
+    let e : c.before.loop-j.j ≡ length w = omega (arith, c.before.loop-j.invariant.0, c.loop-j-test.false) in
+    c.before.loop-j.invariant.1
     ∙ ap (paste l s.args.at w) e
     ∙ ap (λ (x : List ℕ). take s.args.at l ++ x ++ drop (s.args.at + length w) l) (take_all (length w) w (omega arith))
     ∙ append_assoc (take s.args.at l) w _

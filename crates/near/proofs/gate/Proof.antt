@@ -6,14 +6,14 @@ use borrow.Author.Rules.{rules}
 use Rattle.near.proofs.gate.Statement.{statement}
 use Rattle.near.proofs.gate.Tie as tie
 
-returns : tie.Need-returns
-returns c = fails paused _ (ap (λ z. c.before.before.before.args.paused && z.pausable) (sym c.before.before.names.ensures) ∙ c.if1.true)
+returns : tie.Need-returns-then-paused-names
+returns c = fails paused _ (ap (λ z. c.before.before.before.args.paused && z.pausable) (sym c.before.before.names-names.ensures) ∙ c.if-paused-names.true)
 
-returns-2 : tie.Need-returns-2
-returns-2 c = passes paused _ (ap (λ z. c.before.before.before.before.before.args.paused && z.pausable) (sym c.before.before.before.before.names.ensures) ∙ c.before.before.if1.false) (fails not_found _ (ap (λ z. z.called && not c.before.before.before.before.before.args.here) (sym c.before.before.before.before.names.ensures) ∙ c.if2.true))
+returns-2 : tie.Need-returns-then-names-here
+returns-2 c = passes paused _ (ap (λ z. c.before.before.before.before.before.args.paused && z.pausable) (sym c.before.before.before.before.names-names.ensures) ∙ c.before.before.if-paused-names.false) (fails not_found _ (ap (λ z. z.called && not c.before.before.before.before.before.args.here) (sym c.before.before.before.before.names-names.ensures) ∙ c.if-names-here.true))
 
-returns-3 : tie.Need-returns-3
-returns-3 c = passes paused _ (ap (λ z. c.before.before.before.before.before.args.paused && z.pausable) (sym c.before.before.before.before.names.ensures) ∙ c.before.before.if1.false) (passes not_found _ (ap (λ z. z.called && not c.before.before.before.before.before.args.here) (sym c.before.before.before.before.names.ensures) ∙ c.if2.false) none_left)
+returns-3 : tie.Need-returns
+returns-3 c = passes paused _ (ap (λ z. c.before.before.before.before.before.args.paused && z.pausable) (sym c.before.before.before.before.names-names.ensures) ∙ c.before.before.if-paused-names.false) (passes not_found _ (ap (λ z. z.called && not c.before.before.before.before.before.args.here) (sym c.before.before.before.before.names-names.ensures) ∙ c.if-names-here.false) none_left)
 
-pub gate-spec : {M : Type 1} → statement M
-gate-spec = tie.close (tie.spec (λ c κs. search rules) returns returns-2 returns-3)
+pub gate_spec : {M : Type 1} → statement M
+gate_spec = tie.close (tie.spec (λ c κs. search rules) returns returns-2 returns-3)

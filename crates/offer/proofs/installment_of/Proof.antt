@@ -7,12 +7,12 @@ use borrow.Author.Rules.{rules}
 use Rattle.offer.proofs.installment_of.Statement.{statement}
 use Rattle.offer.proofs.installment_of.Tie as tie
 
-returns : tie.Need-returns
-returns c = ap (λ (q : ℕ × ℤ). q.1) (ap installment_says (sym c.enum_told.given.1) ∙ c.before.before.installment.ensures)
+returns : tie.Need-returns-in_default
+returns c = ap (λ (q : ℕ × ℤ). q.1) (ap installment_says (sym c.in_default.is) ∙ c.before.before.installment.ensures)
 
-returns-2 : tie.Need-returns-2
-returns-2 c = back c.before.x.given.0.0 (search rules) ∙ ap (λ (q : ℕ × ℤ). q.1) (ap installment_says (sym c.before.x.given.1) ∙ c.before.before.before.installment.ensures)
+returns-2 : tie.Need-returns
+returns-2 c = back c.before.in-Of.x (search rules) ∙ ap (λ (q : ℕ × ℤ). q.1) (ap installment_says (sym c.before.in-Of.is) ∙ c.before.before.before.installment.ensures)
 
-pub installment-of-spec : {M : Type 1} → statement M
-installment-of-spec =
+pub installment_of_spec : {M : Type 1} → statement M
+installment_of_spec =
     tie.close (tie.spec (λ c κs. search rules) (λ c. search rules) (λ c. search rules) returns returns-2)

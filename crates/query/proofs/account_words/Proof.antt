@@ -5,16 +5,16 @@ use Rattle.query.proofs.account_words.Tie as tie
 
 returns : tie.Need-returns
 returns c =
-    let p = c.before.before.before.before.before.before.before.before.before.before.before.args.account.row.purse in
+    let p = c.before.before.before.before.before.before.before.before.before.before.before.args.account.row-1.purse-1 in
     rw (
-      simp (back p.balance (search rules)) at c.before.before.before.before.before.before.before.bits.ensures,
-      simp (back p.allowance (search rules)) at c.before.before.before.before.before.bits2.ensures,
-      simp (back p.offered (search rules)) at c.before.before.before.bits3.ensures,
-      simp (back p.accepted (search rules)) at c.before.bits4.ensures,
+      simp (back p.balance (search rules)) at c.before.before.before.before.before.before.before.bits-balance.ensures,
+      simp (back p.allowance (search rules)) at c.before.before.before.before.before.bits-allowance.ensures,
+      simp (back p.offered (search rules)) at c.before.before.before.bits-offered.ensures,
+      simp (back p.accepted (search rules)) at c.before.bits-accepted.ensures,
     )
-    at c.words-four.ensures
+    at c.words_four.ensures
 
-pub account-words-spec : {M : Type 1} → statement M
-account-words-spec =
+pub account_words_spec : {M : Type 1} → statement M
+account_words_spec =
     tie.close
     (tie.spec (λ c κs. search rules) (λ c κs. search rules) (λ c κs. search rules) (λ c κs. search rules) (λ c κs. search rules) returns)

@@ -22,114 +22,114 @@ value : (k : ℕ) (s : tie.Start) (m : Model) (v : List ℕ) {words : List ℕ} 
     → words ≡ twelve (reply_to s.args.code s.args.id s.args.time m)
 value k s m v e w q = by_sure s.args.code s.args.id s.args.time m k v e w q
 
-returns : tie.Need-returns
+returns : tie.Need-returns-in-1
 unfolding read_of read_in pick
-returns c m s = by_code c.before.before.args.code c.before.before.args.id c.before.before.args.time m 1 (deal_read c.before.before.args.id c.before.before.args.deal) c.before.match.keys1 c.offer-words.ensures (ap (λ (d : SeenDeal). deal_read c.before.before.args.id d) s.deal_seen)
+returns c m s = by_code c.before.before.args.code c.before.before.args.id c.before.before.args.time m 1 (deal_read c.before.before.args.id c.before.before.args.deal) c.before.in-1.keys1 c.offer_words.ensures (ap (λ (d : SeenDeal). deal_read c.before.before.args.id d) s.deal_seen)
 
-returns-2 : tie.Need-returns-2
+returns-2 : tie.Need-returns-in-2
 unfolding read_of read_in pick
-returns-2 c m s = value 2 c.before.before m (purse_order c.before.before.args.account.row) c.before.match.keys2 c.account-words.ensures (ap (λ (a : SeenAccount). sure (purse_order a.row)) s.account_seen)
+returns-2 c m s = value 2 c.before.before m (purse_order c.before.before.args.account.row) c.before.in-1.keys2 c.account_words.ensures (ap (λ (a : SeenAccount). sure (purse_order a.row)) s.account_seen)
 
-returns-3 : tie.Need-returns-3
+returns-3 : tie.Need-returns-in-3
 unfolding read_of read_in pick
-returns-3 c m s = value 3 c.before.before m (lender_order (lender_numbers c.before.before.args.account.row)) c.before.match.keys3 c.lender-words.ensures (ap (λ (a : SeenAccount). sure (lender_order (lender_numbers a.row))) s.account_seen)
+returns-3 c m s = value 3 c.before.before m (lender_order (lender_numbers c.before.before.args.account.row)) c.before.in-1.keys3 c.lender_words.ensures (ap (λ (a : SeenAccount). sure (lender_order (lender_numbers a.row))) s.account_seen)
 
-returns-4 : tie.Need-returns-4
+returns-4 : tie.Need-returns-in-4
 unfolding read_of read_in pick
-returns-4 c m s = value 4 c.before.before m (schedule_values c.before.before.args.deal.row.schedule) c.before.match.keys4 c.schedule-words.ensures (ap (λ (d : SeenDeal). sure (schedule_values d.row.schedule)) s.deal_seen)
+returns-4 c m s = value 4 c.before.before m (schedule_values c.before.before.args.deal.row.schedule) c.before.in-1.keys4 c.schedule_words.ensures (ap (λ (d : SeenDeal). sure (schedule_values d.row.schedule)) s.deal_seen)
 
-returns-5 : tie.Need-returns-5
+returns-5 : tie.Need-returns-in-5
 unfolding read_of read_in pick
-returns-5 c m s = value 5 c.before.before m (c.before.before.args.deal.row.negotiation.deadline ∷ []) c.before.match.keys5 c.deadline-words.ensures (ap (λ (d : SeenDeal). sure (d.row.negotiation.deadline ∷ [])) s.deal_seen)
+returns-5 c m s = value 5 c.before.before m (c.before.before.args.deal.row.negotiation.deadline ∷ []) c.before.in-1.keys5 c.deadline_words.ensures (ap (λ (d : SeenDeal). sure (d.row.negotiation.deadline ∷ [])) s.deal_seen)
 
-returns-6 : tie.Need-returns-6
+returns-6 : tie.Need-returns-in-6
 unfolding read_of read_in pick
-returns-6 c m s = value 6 c.before.before m (standing c.before.before.args.deal c.before.before.args.time ∷ []) c.before.match.keys6 c.status-words.ensures (ap (λ (d : SeenDeal). sure (standing d c.before.before.args.time ∷ [])) s.deal_seen)
+returns-6 c m s = value 6 c.before.before m (standing c.before.before.args.deal c.before.before.args.time ∷ []) c.before.in-1.keys6 c.status_words.ensures (ap (λ (d : SeenDeal). sure (standing d c.before.before.args.time ∷ [])) s.deal_seen)
 
-returns-7 : tie.Need-returns-7
+returns-7 : tie.Need-returns-in-7
 unfolding read_of read_in pick
-returns-7 c m s = value 7 c.before.before m (due_order (due_in c.before.before.args.settings.edition c.before.before.args.deal.row c.before.before.args.time)) c.before.match.keys7 c.due-words.ensures (ap (λ (d : SeenDeal). sure (due_order (due_in c.before.before.args.settings.edition d.row c.before.before.args.time))) s.deal_seen ∙ ap (λ (t : Settings). sure (due_order (due_in t.edition (offer_in m c.before.before.args.id).row c.before.before.args.time))) s.settings_seen)
+returns-7 c m s = value 7 c.before.before m (due_order (due_in c.before.before.args.settings.edition c.before.before.args.deal.row c.before.before.args.time)) c.before.in-1.keys7 c.due_words.ensures (ap (λ (d : SeenDeal). sure (due_order (due_in c.before.before.args.settings.edition d.row c.before.before.args.time))) s.deal_seen ∙ ap (λ (t : Settings). sure (due_order (due_in t.edition (offer_in m c.before.before.args.id).row c.before.before.args.time))) s.settings_seen)
 
-returns-8 : tie.Need-returns-8
+returns-8 : tie.Need-returns-in-8
 unfolding read_of read_in pick
-returns-8 c m s = value 8 c.before.before m (c.before.before.args.count ∷ []) c.before.match.keys8 c.words-one.ensures (ap (λ (n : ℕ). sure (n ∷ [])) s.counted)
+returns-8 c m s = value 8 c.before.before m (c.before.before.args.count ∷ []) c.before.in-1.keys8 c.words_one.ensures (ap (λ (n : ℕ). sure (n ∷ [])) s.counted)
 
-returns-9 : tie.Need-returns-9
+returns-9 : tie.Need-returns-in-9
 unfolding read_of read_in pick
-returns-9 c m s = value 9 c.before.before m (c.before.before.args.settings.window ∷ []) c.before.match.keys9 c.words-one2.ensures (ap (λ (t : Settings). sure (t.window ∷ [])) s.settings_seen)
+returns-9 c m s = value 9 c.before.before m (c.before.before.args.settings.window ∷ []) c.before.in-1.keys9 c.words_one-in-9.ensures (ap (λ (t : Settings). sure (t.window ∷ [])) s.settings_seen)
 
-returns-10 : tie.Need-returns-10
+returns-10 : tie.Need-returns-in-10
 unfolding read_of read_in pick
-returns-10 c m s = value 10 c.before.before m (c.before.before.args.settings.seats ∷ []) c.before.match.keys10 c.words-one3.ensures (ap (λ (t : Settings). sure (t.seats ∷ [])) s.settings_seen)
+returns-10 c m s = value 10 c.before.before m (c.before.before.args.settings.seats ∷ []) c.before.in-1.keys10 c.words_one-in-10.ensures (ap (λ (t : Settings). sure (t.seats ∷ [])) s.settings_seen)
 
-returns-11 : tie.Need-returns-11
+returns-11 : tie.Need-returns-in-11
 unfolding read_of read_in pick
-returns-11 c m s = value 11 c.before.before m (c.before.before.args.settings.threshold ∷ []) c.before.match.keys11 c.words-one4.ensures (ap (λ (t : Settings). sure (t.threshold ∷ [])) s.settings_seen)
+returns-11 c m s = value 11 c.before.before m (c.before.before.args.settings.threshold ∷ []) c.before.in-1.keys11 c.words_one-in-11.ensures (ap (λ (t : Settings). sure (t.threshold ∷ [])) s.settings_seen)
 
-returns-12 : tie.Need-returns-12
+returns-12 : tie.Need-returns-in-12
 unfolding read_of read_in pick
-returns-12 c m s = value 12 c.before.before.before m (flag c.before.before.before.args.settings.paused ∷ []) c.before.before.match.keys12 (c.words-one5.ensures ∙ ap (λ (n : ℕ). twelve (0, n ∷ [])) c.before.flag.ensures) (ap (λ (t : Settings). sure (flag t.paused ∷ [])) s.settings_seen)
+returns-12 c m s = value 12 c.before.before.before m (flag c.before.before.before.args.settings.paused ∷ []) c.before.before.in-1.keys12 (c.words_one-in-12.ensures ∙ ap (λ (n : ℕ). twelve (0, n ∷ [])) c.before.flag.ensures) (ap (λ (t : Settings). sure (flag t.paused ∷ [])) s.settings_seen)
 
-returns-13 : tie.Need-returns-13
+returns-13 : tie.Need-returns-in-13
 unfolding read_of read_in pick
-returns-13 c m s = value 13 c.before.before m (totals_order (totals_numbers c.before.before.args.totals)) c.before.match.keys13 c.totals-words.ensures (ap (λ (t : Totals). sure (totals_order (totals_numbers t))) s.totals_seen)
+returns-13 c m s = value 13 c.before.before m (totals_order (totals_numbers c.before.before.args.totals)) c.before.in-1.keys13 c.totals_words.ensures (ap (λ (t : Totals). sure (totals_order (totals_numbers t))) s.totals_seen)
 
-returns-14 : tie.Need-returns-14
-returns-14 c m s = by_none c.before.before.args.code c.before.before.args.id c.before.before.args.time m c.before.match.rest c.words-none.ensures
+returns-14 : tie.Need-returns-in_default
+returns-14 c m s = by_none c.before.before.args.code c.before.before.args.id c.before.before.args.time m c.before.in-1.rest c.words_none.ensures
 
-offer-words-requires : tie.Need-offer-words-requires
+offer-words-requires : tie.Need-offer_words-requires
 offer-words-requires c κs = search rules
 
-account-words-requires : tie.Need-account-words-requires
+account-words-requires : tie.Need-account_words-requires
 account-words-requires c κs = search rules
 
-lender-words-requires : tie.Need-lender-words-requires
+lender-words-requires : tie.Need-lender_words-requires
 lender-words-requires c κs = search rules
 
-schedule-words-requires : tie.Need-schedule-words-requires
+schedule-words-requires : tie.Need-schedule_words-requires
 schedule-words-requires c κs = search rules
 
-deadline-words-requires : tie.Need-deadline-words-requires
+deadline-words-requires : tie.Need-deadline_words-requires
 deadline-words-requires c κs = search rules
 
-status-words-requires : tie.Need-status-words-requires
+status-words-requires : tie.Need-status_words-requires
 status-words-requires c κs = search rules
 
-due-words-requires : tie.Need-due-words-requires
+due-words-requires : tie.Need-due_words-requires
 due-words-requires c κs = search rules
 
-words-one-requires : tie.Need-words-one-requires
+words-one-requires : tie.Need-words_one-requires
 words-one-requires c κs = search rules
 
-words-one-requires-2 : tie.Need-words-one-requires-2
+words-one-requires-2 : tie.Need-words_one-requires-in-9
 words-one-requires-2 c κs = search rules
 
-cast-words-one : tie.Need-overflow-cast-words-one
+cast-words-one : tie.Need-overflow_cast-signers
 cast-words-one c = search rules
 
-words-one-requires-3 : tie.Need-words-one-requires-3
+words-one-requires-3 : tie.Need-words_one-requires-in-10
 words-one-requires-3 c κs = search rules
 
-cast-words-one-2 : tie.Need-overflow-cast-words-one-2
+cast-words-one-2 : tie.Need-overflow_cast-needed
 cast-words-one-2 c = search rules
 
-words-one-requires-4 : tie.Need-words-one-requires-4
+words-one-requires-4 : tie.Need-words_one-requires-in-11
 words-one-requires-4 c κs = search rules
 
 flag-requires : tie.Need-flag-requires
 flag-requires c κs = search rules
 
-words-one-requires-5 : tie.Need-words-one-requires-5
+words-one-requires-5 : tie.Need-words_one-requires-in-12
 words-one-requires-5 c κs = search rules
 
-totals-words-requires : tie.Need-totals-words-requires
+totals-words-requires : tie.Need-totals_words-requires
 totals-words-requires c κs = search rules
 
-words-none-requires : tie.Need-words-none-requires
+words-none-requires : tie.Need-words_none-requires
 words-none-requires c κs = search rules
 
-pub answer-spec : {M : Type 1} → statement M
-answer-spec =
+pub answer_spec : {M : Type 1} → statement M
+answer_spec =
     tie.close
     (tie.spec
     offer-words-requires

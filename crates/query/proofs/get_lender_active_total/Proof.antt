@@ -10,18 +10,18 @@ use Rattle.query.specs.Reads.{reply}
 use Rattle.query.proofs.get_lender_active_total.Statement.{statement}
 use Rattle.query.proofs.get_lender_active_total.Tie as tie
 
-returns : tie.Need-returns
-returns c = refuses reply book_unsound _ _ _ (ap not (sym c.before.sound.ensures.0) ∙ c.if1.true)
+returns : tie.Need-returns-then-not-sound
+returns c = refuses reply book_unsound _ _ _ (ap not (sym c.before.sound.ensures.tested) ∙ c.if-not-sound.true-raw)
 
-active-of-requires : tie.Need-active-of-requires
+active-of-requires : tie.Need-active_of-total-requires
 active-of-requires c κs =
-    let sound = not-false c.before.sound.result c.if1.false in
-    (c.before.sound.ensures.1 sound, sym c.before.sound.ensures.0 ∙ sound)
+    let sound = not-false c.before.sound.result c.if-not-sound.false-raw in
+    (c.before.sound.ensures.shelved sound, sym c.before.sound.ensures.tested ∙ sound)
 
-returns-2 : tie.Need-returns-2
-returns-2 c = goes_on reply book_unsound _ _ _ (ap not (sym c.before.before.sound.ensures.0) ∙ c.before.if1.false)
-    (does reply _ _ (ap (λ (n : ℕ). n ∷ []) c.active-of.ensures))
+returns-2 : tie.Need-returns
+returns-2 c = goes_on reply book_unsound _ _ _ (ap not (sym c.before.before.sound.ensures.tested) ∙ c.before.if-not-sound.false-raw)
+    (does reply _ _ (ap (λ (n : ℕ). n ∷ []) c.active_of-total.ensures))
 
-pub get-lender-active-total-spec : {M : Type 1} → statement M
-get-lender-active-total-spec =
+pub get_lender_active_total_spec : {M : Type 1} → statement M
+get_lender_active_total_spec =
     tie.close (tie.spec (λ c κs. search rules) returns active-of-requires returns-2)

@@ -10,16 +10,16 @@ use borrow.Author.Rules.{rules}
 use Rattle.query.proofs.get_lender_stats.Statement.{statement}
 use Rattle.query.proofs.get_lender_stats.Tie as tie
 
-returns : tie.Need-returns
-returns c = refuses reply book_unsound _ _ _ (ap not (sym c.before.sound.ensures.0) ∙ c.if1.true)
+returns : tie.Need-returns-then-not-sound
+returns c = refuses reply book_unsound _ _ _ (ap not (sym c.before.sound.ensures.tested) ∙ c.if-not-sound.true-raw)
 
-see-requires : tie.Need-see-requires
-see-requires c κs = (c.before.before.sound.ensures.1 (not-false c.before.before.sound.result c.before.if1.false)).accounts
+see-requires : tie.Need-see-seen-requires
+see-requires c κs = (c.before.before.sound.ensures.shelved (not-false c.before.before.sound.result c.before.if-not-sound.false-raw)).accounts-1
 
-returns-2 : tie.Need-returns-2
-returns-2 c = goes_on reply book_unsound _ _ _ (ap not (sym c.before.before.before.before.before.sound.ensures.0) ∙ c.before.before.before.before.if1.false)
-    (does reply _ _ (ap lender_order (c.of.ensures ∙ ap (λ (s : SeenAccount). lender_numbers s.row) c.before.before.see.ensures)))
+returns-2 : tie.Need-returns
+returns-2 c = goes_on reply book_unsound _ _ _ (ap not (sym c.before.before.before.before.before.sound.ensures.tested) ∙ c.before.before.before.before.if-not-sound.false-raw)
+    (does reply _ _ (ap lender_order (c.of-numbers.ensures ∙ ap (λ (s : SeenAccount). lender_numbers s.row-1) c.before.before.see-seen.ensures)))
 
-pub get-lender-stats-spec : {M : Type 1} → statement M
-get-lender-stats-spec =
+pub get_lender_stats_spec : {M : Type 1} → statement M
+get_lender_stats_spec =
     tie.close (tie.spec (λ c κs. search rules) returns see-requires (λ c κs. search rules) returns-2)

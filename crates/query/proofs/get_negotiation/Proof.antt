@@ -8,16 +8,16 @@ use Rattle.query.specs.Says.{negotiation_told}
 use Rattle.query.proofs.get_negotiation.Statement.{statement}
 use Rattle.query.proofs.get_negotiation.Tie as tie
 
-returns : tie.Need-returns
-returns c = rw c.none.ensures (refuses negotiation_told book_unsound _ _ _ (ap not (sym c.before.before.sound.ensures.0) ∙ c.before.if1.true))
+returns : tie.Need-returns-then-not-sound
+returns c = rw c.none-none.ensures (refuses negotiation_told book_unsound _ _ _ (ap not (sym c.before.before.sound.ensures.tested) ∙ c.before.if-not-sound.true-raw))
 
-negotiation-of-requires : tie.Need-negotiation-of-requires
-negotiation-of-requires c κs = c.before.sound.ensures.1 (not-false c.before.sound.result c.if1.false)
+negotiation-of-requires : tie.Need-negotiation_of-negotiation-requires
+negotiation-of-requires c κs = c.before.sound.ensures.shelved (not-false c.before.sound.result c.if-not-sound.false-raw)
 
-returns-2 : tie.Need-returns-2
-returns-2 c = goes_on negotiation_told book_unsound _ _ _ (ap not (sym c.before.before.sound.ensures.0) ∙ c.before.if1.false)
-    (does negotiation_told _ _ c.negotiation-of.ensures)
+returns-2 : tie.Need-returns
+returns-2 c = goes_on negotiation_told book_unsound _ _ _ (ap not (sym c.before.before.sound.ensures.tested) ∙ c.before.if-not-sound.false-raw)
+    (does negotiation_told _ _ c.negotiation_of-negotiation.ensures)
 
-pub get-negotiation-spec : {M : Type 1} → statement M
-get-negotiation-spec =
+pub get_negotiation_spec : {M : Type 1} → statement M
+get_negotiation_spec =
     tie.close (tie.spec (λ c κs. search rules) (λ c κs. search rules) returns negotiation-of-requires returns-2)

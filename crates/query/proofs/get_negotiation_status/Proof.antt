@@ -12,16 +12,16 @@ use borrow.Author.Rules.{rules}
 use Rattle.query.proofs.get_negotiation_status.Statement.{statement}
 use Rattle.query.proofs.get_negotiation_status.Tie as tie
 
-returns : tie.Need-returns
-returns c = refuses reply book_unsound _ _ _ (ap not (sym c.before.sound.ensures.0) ∙ c.if1.true)
+returns : tie.Need-returns-then-not-sound
+returns c = refuses reply book_unsound _ _ _ (ap not (sym c.before.sound.ensures.tested) ∙ c.if-not-sound.true-raw)
 
-see-requires : tie.Need-see-requires
-see-requires c κs = (c.before.before.sound.ensures.1 (not-false c.before.before.sound.result c.before.if1.false)).offers
+see-requires : tie.Need-see-seen-requires
+see-requires c κs = (c.before.before.sound.ensures.shelved (not-false c.before.before.sound.result c.before.if-not-sound.false-raw)).offers-1
 
-returns-2 : tie.Need-returns-2
-returns-2 c = goes_on reply book_unsound _ _ _ (ap not (sym c.before.before.before.before.before.before.before.sound.ensures.0) ∙ c.before.before.before.before.before.before.if1.false)
-    (does reply _ _ (ap (λ (n : ℕ). n ∷ []) (c.status.ensures ∙ ap (λ (s : SeenDeal). standing s c.before.before.before.before.before.before.before.before.args.now) c.before.before.before.before.see.ensures)))
+returns-2 : tie.Need-returns
+returns-2 c = goes_on reply book_unsound _ _ _ (ap not (sym c.before.before.before.before.before.before.before.sound.ensures.tested) ∙ c.before.before.before.before.before.before.if-not-sound.false-raw)
+    (does reply _ _ (ap (λ (n : ℕ). n ∷ []) (c.status-n.ensures ∙ ap (λ (s : SeenDeal). standing s c.before.before.before.before.before.before.before.before.args.now) c.before.before.before.before.see-seen.ensures)))
 
-pub get-negotiation-status-spec : {M : Type 1} → statement M
-get-negotiation-status-spec =
+pub get_negotiation_status_spec : {M : Type 1} → statement M
+get_negotiation_status_spec =
     tie.close (tie.spec (λ c κs. search rules) returns see-requires (λ c κs. search rules) (λ c. search rules) returns-2)

@@ -7,12 +7,12 @@ use borrow.Author.Rules.{rules}
 use Rattle.query.proofs.get_stats.Statement.{statement}
 use Rattle.query.proofs.get_stats.Tie as tie
 
-returns : tie.Need-returns
-returns c = refuses reply book_unsound _ _ _ (ap not (sym c.before.sound.ensures.0) ∙ c.if1.true)
+returns : tie.Need-returns-then-not-sound
+returns c = refuses reply book_unsound _ _ _ (ap not (sym c.before.sound.ensures.tested) ∙ c.if-not-sound.true-raw)
 
-returns-2 : tie.Need-returns-2
-returns-2 c = goes_on reply book_unsound _ _ _ (ap not (sym c.before.before.before.sound.ensures.0) ∙ c.before.before.if1.false)
-    (does reply _ _ (ap totals_order c.of.ensures))
+returns-2 : tie.Need-returns
+returns-2 c = goes_on reply book_unsound _ _ _ (ap not (sym c.before.before.before.sound.ensures.tested) ∙ c.before.before.if-not-sound.false-raw)
+    (does reply _ _ (ap totals_order c.of-numbers.ensures))
 
-pub get-stats-spec : {M : Type 1} → statement M
-get-stats-spec = tie.close (tie.spec (λ c κs. search rules) returns (λ c κs. search rules) returns-2)
+pub get_stats_spec : {M : Type 1} → statement M
+get_stats_spec = tie.close (tie.spec (λ c κs. search rules) returns (λ c κs. search rules) returns-2)

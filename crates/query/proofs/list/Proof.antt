@@ -13,16 +13,16 @@ use borrow.Author.Rules.{rules}
 use Rattle.query.proofs.list.Statement.{statement}
 use Rattle.query.proofs.list.Tie as tie
 
-returns : tie.Need-returns
-returns c = refuses told book_unsound _ _ _ (ap not (sym c.before.sound.ensures.0) ∙ c.if1.true)
+returns : tie.Need-returns-then-not-sound
+returns c = refuses told book_unsound _ _ _ (ap not (sym c.before.sound.ensures.tested) ∙ c.if-not-sound.true-raw)
 
-returns-2 : tie.Need-returns-2
-returns-2 c = goes_on told book_unsound _ _ _ (ap not (sym c.before.before.before.before.before.before.before.sound.ensures.0) ∙ c.before.before.before.before.before.before.if1.false)
+returns-2 : tie.Need-returns
+returns-2 c = goes_on told book_unsound _ _ _ (ap not (sym c.before.before.before.before.before.before.before.sound.ensures.tested) ∙ c.before.before.before.before.before.before.if-not-sound.false-raw)
     (c.before.before.list.ensures
-    ∙ ap (λ (t : Table Offer). answered told ([], c.before.before.before.before.before.before.before.before.before.args.out.now) (list_rule c.before.before.before.before.before.before.before.before.before.args.w t c.before.before.before.before.before.before.before.before.before.args.out.now))
-    (ap offers_of c.before.before.before.before.offers-only.ensures ∙ offers_held (c.before.before.before.before.before.before.before.sound.ensures.1 (not-false c.before.before.before.before.before.before.before.sound.result c.before.before.before.before.before.before.if1.false))))
+    ∙ ap (λ (t : Table Offer). answered told ([], c.before.before.before.before.before.before.before.before.before.args.out-1.now) (list_rule c.before.before.before.before.before.before.before.before.before.args.w t c.before.before.before.before.before.before.before.before.before.args.out-1.now))
+    (ap offers_of c.before.before.before.before.offers_only-rows.ensures ∙ offers_held (c.before.before.before.before.before.before.before.sound.ensures.shelved (not-false c.before.before.before.before.before.before.before.sound.result c.before.before.before.before.before.before.if-not-sound.false-raw))))
 
-pub list-spec : {M : Type 1} → statement M
-list-spec =
+pub list_spec : {M : Type 1} → statement M
+list_spec =
     tie.close
     (tie.spec (λ c κs. search rules) returns (λ c κs. search rules) (λ c κs. search rules) (λ c. search rules) returns-2)

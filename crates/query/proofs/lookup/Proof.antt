@@ -9,12 +9,12 @@ returns : tie.Need-returns
 returns c =
     let s = c.before.before.before.before.before.before.before in
     c.answer.ensures (model_of s.args.book) (record {
-      deal_seen = c.before.before.see.ensures;
-      account_seen = c.before.see2.ensures;
+      deal_seen = c.before.before.see-deal.ensures;
+      account_seen = c.before.see-account.ensures;
       totals_seen = refl;
       settings_seen = refl;
       counted = count_held s.requires;
     })
 
-pub lookup-spec : {M : Type 1} → statement M
-lookup-spec = tie.close (tie.spec (λ c κs. search rules) (λ c κs. search rules) (λ c κs. search rules) returns)
+pub lookup_spec : {M : Type 1} → statement M
+lookup_spec = tie.close (tie.spec (λ c κs. search rules) (λ c κs. search rules) (λ c κs. search rules) returns)

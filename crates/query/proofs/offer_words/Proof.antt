@@ -8,13 +8,13 @@ use Rattle.query.specs.Questions.{twelve}
 use Rattle.query.proofs.offer_words.Statement.{statement}
 use Rattle.query.proofs.offer_words.Tie as tie
 
-returns : tie.Need-returns
-returns c = c.words-none.ensures ∙ ap twelve (refuses reply not_found _ _ _ c.before.if1.true)
+returns : tie.Need-returns-then-not-deal
+returns c = c.words_none.ensures ∙ ap twelve (refuses reply not_found _ _ _ c.before.if-not-deal.true)
 
-returns-2 : tie.Need-returns-2
-returns-2 c = c.words-ten.ensures ∙ ap twelve (goes_on reply not_found _ _ _ c.before.before.before.before.if1.false (does reply _ _ (ap in_order c.before.of.ensures)))
+returns-2 : tie.Need-returns
+returns-2 c = c.words_ten.ensures ∙ ap twelve (goes_on reply not_found _ _ _ c.before.before.before.before.if-not-deal.false (does reply _ _ (ap in_order c.before.of.ensures)))
 
-pub offer-words-spec : {M : Type 1} → statement M
-offer-words-spec =
+pub offer_words_spec : {M : Type 1} → statement M
+offer_words_spec =
     tie.close
     (tie.spec (λ c κs. search rules) returns (λ c κs. search rules) (λ c κs. search rules) returns-2)

@@ -9,17 +9,17 @@ use Rattle.query.specs.Questions.{twelve}
 use Rattle.query.proofs.schedule_words.Statement.{statement}
 use Rattle.query.proofs.schedule_words.Tie as tie
 
-returns : tie.Need-returns
+returns : tie.Need-returns-then-schedule_zero
 unfolding schedule_values
-returns c = c.words-none.ensures ∙ ap (λ (v : List ℕ). twelve (0, v)) (on _ (sym c.before.before.schedule_zero_lem.ensures ∙ c.before.if1.true) refl)
+returns c = c.words_none.ensures ∙ ap (λ (v : List ℕ). twelve (0, v)) (on _ (sym c.before.before.schedule_zero.ensures ∙ c.before.if-schedule_zero.true) refl)
 
-returns-2 : tie.Need-returns-2
+returns-2 : tie.Need-returns
 unfolding schedule_values
 returns-2 c =
-    c.words-five.ensures
-    ∙ ap (λ (v : List ℕ). twelve (0, v)) (off _ (sym c.before.before.before.schedule_zero_lem.ensures ∙ c.before.before.if1.false) (ap (λ (n : ScheduleNumbers). schedule_order n) c.before.of.ensures))
+    c.words_five.ensures
+    ∙ ap (λ (v : List ℕ). twelve (0, v)) (off _ (sym c.before.before.before.schedule_zero.ensures ∙ c.before.before.if-schedule_zero.false) (ap (λ (n : ScheduleNumbers). schedule_order n) c.before.of-n.ensures))
 
-pub schedule-words-spec : {M : Type 1} → statement M
-schedule-words-spec =
+pub schedule_words_spec : {M : Type 1} → statement M
+schedule_words_spec =
     tie.close
     (tie.spec (λ c κs. search rules) (λ c κs. search rules) returns (λ c κs. search rules) (λ c κs. search rules) returns-2)

@@ -5,11 +5,11 @@ use Rattle.query.specs.Reads.{reply}
 use Rattle.query.proofs.told.Statement.{statement}
 use Rattle.query.proofs.told.Tie as tie
 
-returns : tie.Need-returns
-returns c = refuses reply book_unsound _ _ _ c.if1.true
+returns : tie.Need-returns-then-not-sound
+returns c = refuses reply book_unsound _ _ _ c.if-not-sound.true-raw
 
-returns-2 : tie.Need-returns-2
-returns-2 c = goes_on reply book_unsound _ _ _ c.if1.false (does reply _ _ refl)
+returns-2 : tie.Need-returns
+returns-2 c = goes_on reply book_unsound _ _ _ c.if-not-sound.false-raw (does reply _ _ refl)
 
-pub told-spec : {M : Type 1} → statement M
-told-spec = tie.close (tie.spec returns returns-2)
+pub told_spec : {M : Type 1} → statement M
+told_spec = tie.close (tie.spec returns returns-2)

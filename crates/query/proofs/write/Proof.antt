@@ -18,10 +18,10 @@ use Rattle.query.proofs.write.Statement.{statement}
 use Rattle.query.proofs.write.Tie as tie
 
 -- whatever the invoices are: no question is about one
-abbrev invariant-loop : tie.invariant-loop
+abbrev invariant-loop : tie.invariant-loop-i
 invariant-loop questions out₀ offers accounts totals settings count asked i₀ out i = (k : Table Invoice) → Replied questions (model_by accounts k offers totals settings) out₀ i out
 
-abbrev decreases-loop : tie.decreases-loop
+abbrev decreases-loop : tie.decreases-loop-i
 decreases-loop questions out₀ offers accounts totals settings count asked i₀ out i = asked - i
 
 abbrev St : Type 0
@@ -31,109 +31,109 @@ St = tie.Start invariant-loop decreases-loop
 abbrev id_at : St → ℕ → ℕ
 id_at s i = get_or s.args.questions.now (3 * i + 1) 0
 
-below-o : (c : tie.After-spot-by invariant-loop decreases-loop) → c.spot-by.result.at < 64
-below-o c = spot_below c.before.before.before.before.before.before.before.before.before.before.before.before.before.before.before.requires.0.offers.shelf (omega arith) (Id (id_at c.before.before.before.before.before.before.before.before.before.before.before.before.before.before.before c.before.before.before.before.before.before.before.before.loop.i)) c.spot-by.ensures
+below-o : (c : tie.After-spot_by-offer_spot invariant-loop decreases-loop) → c.spot_by-offer_spot.result.at-deal < 64
+below-o c = spot_below c.before.before.before.before.before.before.before.before.before.before.before.before.before.before.before.requires.shelved.offers-1.shelf (omega arith) (Id (id_at c.before.before.before.before.before.before.before.before.before.before.before.before.before.before.before c.before.before.before.before.before.before.before.before.loop-i.i)) c.spot_by-offer_spot.ensures
 
-below-a : (c : tie.After-spot-by2 invariant-loop decreases-loop) → c.spot-by2.result.at < 64
-below-a c = spot_below c.before.before.before.before.before.before.before.before.before.before.before.before.before.before.before.before.before.before.before.before.before.before.before.requires.0.accounts (omega arith) (Id (id_at c.before.before.before.before.before.before.before.before.before.before.before.before.before.before.before.before.before.before.before.before.before.before.before c.before.before.before.before.before.before.before.before.before.before.before.before.before.before.before.before.loop.i)) c.spot-by2.ensures
+below-a : (c : tie.After-spot_by-account_spot invariant-loop decreases-loop) → c.spot_by-account_spot.result.at-deal < 64
+below-a c = spot_below c.before.before.before.before.before.before.before.before.before.before.before.before.before.before.before.before.before.before.before.before.before.before.before.requires.shelved.accounts-1 (omega arith) (Id (id_at c.before.before.before.before.before.before.before.before.before.before.before.before.before.before.before.before.before.before.before.before.before.before.before c.before.before.before.before.before.before.before.before.before.before.before.before.before.before.before.before.loop-i.i)) c.spot_by-account_spot.ensures
 
-shown : (c : tie.After-at2 invariant-loop decreases-loop) (k : Table Invoice) → Shows (model_by c.before.before.before.before.before.before.before.before.before.before.before.before.before.before.before.before.before.before.before.before.before.before.before.before.before.args.book.accounts k c.before.before.before.before.before.before.before.before.before.before.before.before.before.before.before.before.before.before.before.before.before.before.before.before.before.args.book.offers c.before.before.before.before.before.before.before.before.before.before.before.before.before.before.before.before.before.before.before.before.before.before.before.before.before.args.book.totals c.before.before.before.before.before.before.before.before.before.before.before.before.before.before.before.before.before.before.before.before.before.before.before.before.before.args.book.settings) (id_at c.before.before.before.before.before.before.before.before.before.before.before.before.before.before.before.before.before.before.before.before.before.before.before.before.before c.before.before.before.before.before.before.before.before.before.before.before.before.before.before.before.before.before.before.loop.i) c.before.before.before.before.before.before.at.result c.at2.result c.before.before.before.before.before.before.before.before.before.before.before.before.before.before.before.before.before.before.before.before.before.before.before.before.before.args.book.totals c.before.before.before.before.before.before.before.before.before.before.before.before.before.before.before.before.before.before.before.before.before.before.before.before.before.args.book.settings c.before.before.before.before.before.before.before.before.before.before.before.before.before.before.before.before.before.before.before.before.before.before.before.before.before.args.book.offers.count
+shown : (c : tie.After-at-account invariant-loop decreases-loop) (k : Table Invoice) → Shows (model_by c.before.before.before.before.before.before.before.before.before.before.before.before.before.before.before.before.before.before.before.before.before.before.before.before.before.args.book.accounts-1 k c.before.before.before.before.before.before.before.before.before.before.before.before.before.before.before.before.before.before.before.before.before.before.before.before.before.args.book.offers-1 c.before.before.before.before.before.before.before.before.before.before.before.before.before.before.before.before.before.before.before.before.before.before.before.before.before.args.book.totals-1 c.before.before.before.before.before.before.before.before.before.before.before.before.before.before.before.before.before.before.before.before.before.before.before.before.before.args.book.settings-1) (id_at c.before.before.before.before.before.before.before.before.before.before.before.before.before.before.before.before.before.before.before.before.before.before.before.before.before c.before.before.before.before.before.before.before.before.before.before.before.before.before.before.before.before.before.before.loop-i.i) c.before.before.before.before.before.before.at-deal.result c.at-account.result c.before.before.before.before.before.before.before.before.before.before.before.before.before.before.before.before.before.before.before.before.before.before.before.before.before.args.book.totals-1 c.before.before.before.before.before.before.before.before.before.before.before.before.before.before.before.before.before.before.before.before.before.before.before.before.before.args.book.settings-1 c.before.before.before.before.before.before.before.before.before.before.before.before.before.before.before.before.before.before.before.before.before.before.before.before.before.args.book.offers-1.count
 shown c k =
     let s = c.before.before.before.before.before.before.before.before.before.before.before.before.before.before.before.before.before.before.before.before.before.before.before.before.before in
-    let key = Id (id_at s c.before.before.before.before.before.before.before.before.before.before.before.before.before.before.before.before.before.before.loop.i) in
+    let key = Id (id_at s c.before.before.before.before.before.before.before.before.before.before.before.before.before.before.before.before.before.before.loop-i.i) in
     record {
-      deal_seen = c.before.before.before.before.before.before.at.ensures ∙ ap seen_deal (sym (deal_read_lem s.requires.0.offers _ _ _ key c.before.before.before.before.before.before.before.before.before.before.spot-by.ensures));
-      account_seen = c.at2.ensures ∙ ap seen_account (sym (spot_found s.requires.0.accounts (omega arith) key c.before.before.spot-by2.ensures));
+      deal_seen = c.before.before.before.before.before.before.at-deal.ensures ∙ ap seen_deal (sym (deal_read_lem s.requires.shelved.offers-1 _ _ _ key c.before.before.before.before.before.before.before.before.before.before.spot_by-offer_spot.ensures));
+      account_seen = c.at-account.ensures ∙ ap seen_account (sym (spot_found s.requires.shelved.accounts-1 (omega arith) key c.before.before.spot_by-account_spot.ensures));
       totals_seen = refl;
       settings_seen = refl;
-      counted = sym s.requires.0.offers.shelf.counted;
+      counted = sym s.requires.shelved.offers-1.shelf.counted;
     }
 
-mul-offer : tie.Need-overflow-mul-offer invariant-loop decreases-loop
+mul-offer : tie.Need-offset_bounds-offers-offer_place invariant-loop decreases-loop
 mul-offer c = omega (arith, below-o c)
 
-element-copy-out-offer : tie.Need-element-copy-out-offer invariant-loop decreases-loop
+element-copy-out-offer : tie.Need-bounds-offers-offer_place invariant-loop decreases-loop
 element-copy-out-offer c = omega (arith, below-o c)
 
-mul-negotiation : tie.Need-overflow-mul-negotiation invariant-loop decreases-loop
+mul-negotiation : tie.Need-offset_bounds-offers-offer_place-in-loop-i invariant-loop decreases-loop
 mul-negotiation c = omega (arith, below-o c.before)
 
-element-copy-out-negotiation : tie.Need-element-copy-out-negotiation invariant-loop decreases-loop
+element-copy-out-negotiation : tie.Need-bounds-offers-offer_place-in-loop-i invariant-loop decreases-loop
 element-copy-out-negotiation c = omega (arith, below-o c.before)
 
-mul-schedule : tie.Need-overflow-mul-schedule invariant-loop decreases-loop
+mul-schedule : tie.Need-offset_bounds-offers-offer_place-in-loop-i-2 invariant-loop decreases-loop
 mul-schedule c = omega (arith, below-o c.before.before)
 
-element-copy-out-schedule : tie.Need-element-copy-out-schedule invariant-loop decreases-loop
+element-copy-out-schedule : tie.Need-bounds-offers-offer_place-in-loop-i-2 invariant-loop decreases-loop
 element-copy-out-schedule c = omega (arith, below-o c.before.before)
 
-mul-account-row : tie.Need-overflow-mul-account-row invariant-loop decreases-loop
+mul-account-row : tie.Need-offset_bounds-accounts-account_place invariant-loop decreases-loop
 mul-account-row c = omega (arith, below-a c)
 
-element-copy-out-account-row : tie.Need-element-copy-out-account-row invariant-loop decreases-loop
+element-copy-out-account-row : tie.Need-bounds-accounts-account_place invariant-loop decreases-loop
 element-copy-out-account-row c = omega (arith, below-a c)
 
-mul-put : tie.Need-overflow-mul-put invariant-loop decreases-loop
+mul-put : tie.Need-overflow_mul-i invariant-loop decreases-loop
 mul-put c =
     let s = c.before.before.before.before.before.before.before.before.before.before.before.before.before.before.before.before.before.before.before.before.before.before.before.before.before.before.before in
-    omega (arith, reply_room (c.before.before.before.before.before.before.before.before.before.before.before.before.before.before.before.before.before.before.before.before.loop.invariant []) s.requires.1 c.before.before.before.before.before.before.before.before.before.before.before.before.before.before.before.before.before.before.before.loop-test.true, reply_length (c.before.before.before.before.before.before.before.before.before.before.before.before.before.before.before.before.before.before.before.before.loop.invariant []) s.requires.1, s.well-formed.1.1.0.0)
+    omega (arith, reply_room (c.before.before.before.before.before.before.before.before.before.before.before.before.before.before.before.before.before.before.before.before.loop-i.invariant []) s.requires.room c.before.before.before.before.before.before.before.before.before.before.before.before.before.before.before.before.before.before.before.loop-i-test.true, reply_length (c.before.before.before.before.before.before.before.before.before.before.before.before.before.before.before.before.before.before.before.before.loop-i.invariant []) s.requires.room, s.well-formed.1.1.0.0)
 
 put-requires : tie.Need-put-requires invariant-loop decreases-loop
 put-requires c κs =
     omega (
       arith,
-      reply_room (c.before.before.before.before.before.before.before.before.before.before.before.before.before.before.before.before.before.before.before.before.before.loop.invariant []) c.before.before.before.before.before.before.before.before.before.before.before.before.before.before.before.before.before.before.before.before.before.before.before.before.before.before.before.before.requires.1 c.before.before.before.before.before.before.before.before.before.before.before.before.before.before.before.before.before.before.before.before.loop-test.true,
-      ap length (c.before.before.answer.ensures _ (shown c.before.before.before [])) ∙ twelve_long (reply_to _ _ _ _),
+      reply_room (c.before.before.before.before.before.before.before.before.before.before.before.before.before.before.before.before.before.before.before.before.before.loop-i.invariant []) c.before.before.before.before.before.before.before.before.before.before.before.before.before.before.before.before.before.before.before.before.before.before.before.before.before.before.before.before.requires.room c.before.before.before.before.before.before.before.before.before.before.before.before.before.before.before.before.before.before.before.before.loop-i-test.true,
+      ap length (c.before.before.answer-words.ensures _ (shown c.before.before.before [])) ∙ twelve_long (reply_to _ _ _ _),
     )
 
-add-i : tie.Need-overflow-add-i invariant-loop decreases-loop
-add-i c = omega (arith, c.before.before.before.before.before.before.before.before.before.before.before.before.before.before.before.before.before.before.before.before.before.before.before.loop-test.true, c.before.before.before.before.before.before.before.before.before.before.before.before.before.before.before.before.before.before.before.before.before.before.before.before.before.before.before.before.before.before.before.well-formed.1.0.0)
+add-i : tie.Need-overflow_add-i invariant-loop decreases-loop
+add-i c = omega (arith, c.before.before.before.before.before.before.before.before.before.before.before.before.before.before.before.before.before.before.before.before.before.before.before.loop-i-test.true, c.before.before.before.before.before.before.before.before.before.before.before.before.before.before.before.before.before.before.before.before.before.before.before.before.before.before.before.before.before.before.before.well-formed.1.0.0)
 
-loop-less : tie.Need-loop-smaller invariant-loop decreases-loop
-loop-less c = omega (arith, c.before.before.before.before.before.before.before.before.before.before.before.before.before.before.before.before.before.before.before.before.before.before.before.loop-test.true)
+loop-less : tie.Need-loop-i-smaller invariant-loop decreases-loop
+loop-less c = omega (arith, c.before.before.before.before.before.before.before.before.before.before.before.before.before.before.before.before.before.before.before.before.before.before.before.loop-i-test.true)
 
-loop-again : tie.Need-loop-preserved invariant-loop decreases-loop
+loop-again : tie.Need-loop-i-preserved invariant-loop decreases-loop
 loop-again c k =
     let s = c.before.before.before.before.before.before.before.before.before.before.before.before.before.before.before.before.before.before.before.before.before.before.before.before.before.before.before.before.before.before.before in
-    reply_on (c.before.before.before.before.before.before.before.before.before.before.before.before.before.before.before.before.before.before.before.before.before.before.before.before.loop.invariant k) s.requires.1 c.before.before.before.before.before.before.before.before.before.before.before.before.before.before.before.before.before.before.before.before.before.before.before.loop-test.true (c.before.before.before.before.before.answer.ensures _ (shown c.before.before.before.before.before.before k)) c.before.before.put.ensures
+    reply_on (c.before.before.before.before.before.before.before.before.before.before.before.before.before.before.before.before.before.before.before.before.before.before.before.before.loop-i.invariant k) s.requires.room c.before.before.before.before.before.before.before.before.before.before.before.before.before.before.before.before.before.before.before.before.before.before.before.loop-i-test.true (c.before.before.before.before.before.answer-words.ensures _ (shown c.before.before.before.before.before.before k)) c.before.before.put.ensures
 
-same_length : tie.Need-same-length invariant-loop decreases-loop
-same_length c = reply_length (c.before.loop.invariant (invoices_of c.before.before.before.before.before.before.before.before.args.book.invoices)) c.before.before.before.before.before.before.before.before.requires.1
+same_length : tie.Need-shape_of-out invariant-loop decreases-loop
+same_length c = reply_length (c.before.loop-i.invariant (invoices_of c.before.before.before.before.before.before.before.before.args.book.invoices)) c.before.before.before.before.before.before.before.before.requires.room
 
 returns : tie.Need-returns invariant-loop decreases-loop
-returns c = reply_done (c.before.loop.invariant (invoices_of c.before.before.before.before.before.before.before.before.args.book.invoices)) c.before.before.before.before.before.before.before.before.requires.1 c.loop-test.false
+returns c = reply_done (c.before.loop-i.invariant (invoices_of c.before.before.before.before.before.before.before.before.args.book.invoices)) c.before.before.before.before.before.before.before.before.requires.room c.loop-i-test.false
 
-mul-code : tie.Need-overflow-mul-code invariant-loop decreases-loop
+mul-code : tie.Need-overflow_mul-code invariant-loop decreases-loop
 mul-code c = search rules
 
-mul-code-2 : tie.Need-overflow-mul-code-2 invariant-loop decreases-loop
+mul-code-2 : tie.Need-offset_bounds-questions-i invariant-loop decreases-loop
 mul-code-2 c = search rules
 
-shared-slice-read-code : tie.Need-shared-slice-read-code invariant-loop decreases-loop
+shared-slice-read-code : tie.Need-bounds-questions-i invariant-loop decreases-loop
 shared-slice-read-code c = search rules
 
-mul-id : tie.Need-overflow-mul-id invariant-loop decreases-loop
+mul-id : tie.Need-overflow_mul-id invariant-loop decreases-loop
 mul-id c = search rules
 
-add-id : tie.Need-overflow-add-id invariant-loop decreases-loop
+add-id : tie.Need-overflow_add-id invariant-loop decreases-loop
 add-id c = search rules
 
-mul-id-2 : tie.Need-overflow-mul-id-2 invariant-loop decreases-loop
+mul-id-2 : tie.Need-offset_bounds-questions-i-in-loop-i invariant-loop decreases-loop
 mul-id-2 c = search rules
 
-shared-slice-read-id : tie.Need-shared-slice-read-id invariant-loop decreases-loop
+shared-slice-read-id : tie.Need-bounds-questions-i-in-loop-i invariant-loop decreases-loop
 shared-slice-read-id c = search rules
 
-mul-time : tie.Need-overflow-mul-time invariant-loop decreases-loop
+mul-time : tie.Need-overflow_mul-time invariant-loop decreases-loop
 mul-time c = search rules
 
-add-time : tie.Need-overflow-add-time invariant-loop decreases-loop
+add-time : tie.Need-overflow_add-time invariant-loop decreases-loop
 add-time c = search rules
 
-mul-time-2 : tie.Need-overflow-mul-time-2 invariant-loop decreases-loop
+mul-time-2 : tie.Need-offset_bounds-questions-i-in-loop-i-2 invariant-loop decreases-loop
 mul-time-2 c = search rules
 
-shared-slice-read-time : tie.Need-shared-slice-read-time invariant-loop decreases-loop
+shared-slice-read-time : tie.Need-bounds-questions-i-in-loop-i-2 invariant-loop decreases-loop
 shared-slice-read-time c = search rules
 
 pub write_spec : {M : Type 1} → statement M

@@ -103,18 +103,18 @@ module _ {M : Type 1} {𝓤 : Ura M} (𝓛 : Logic 𝓤) (mem : Memory → SProp
   abbrev to : (Step 𝓛 mem run).Ghost
   to = (((κ, tt), (q, tt), tt, (made, tt), (mach ∷ [], tt)), tt)
 
-  asked : ent 𝓤 (⋆ 𝓛 (‵ Held ∷ (‵ (flft κ q) ⊛ ‵ ftrue) ∷ [])) ((Step 𝓛 mem run).pre to)
+  asked : ent 𝓤 (⋆ 𝓛 (‵ Held ∷ (‵ (flft κ q) ⊛ ‵ ftrue) ∷ [])) ((Step 𝓛 mem run).requires to)
   asked = qed 𝓛 (‵ Held ∷ (‵ (flft κ q) ⊛ ‵ ftrue) ∷ []) ∵ nothing ! $ move ! (1 ∷ 0 ∷ []) $ fjoin ! $ move ! (1 ∷ 0 ∷ []) $ join ! $ frame ! $ done !
 
   -- what the parameters own gives what the callee asks, and is kept
-  together : ent 𝓤 (on_entry 𝓛 read.signature (κ, tt) (q, tt) (e, (s, (n, tt))) at) (sep 𝓤 ((Step 𝓛 mem run).pre to) (sem 𝓛 Owns))
+  together : ent 𝓤 (on_entry 𝓛 read.signature (κ, tt) (q, tt) (e, (s, (n, tt))) at) (sep 𝓤 ((Step 𝓛 mem run).requires to) (sem 𝓛 Owns))
   together =
       qed 𝓛 ((‵ (flft κ q) ⊛ ‵ ftrue) ∷ ‵ Owns ∷ []) ∵
       move ! (1 ∷ []) $ fsplit ! $ move ! (1 ∷ []) $ fsplit ! $ use1 𝓛 (‵ Own ⊛ ‵ Own) ((shr_slice_copy 𝓛 (named 0) κ u8).twice s (v ∷ [])) $ split ! $ move ! (0 ∷ 2 ∷ []) $ fjoin ! $ move ! (2 ∷ 0 ∷ []) $ fjoin ! $
       -- [what they own; what src owns; the token]
       move ! (1 ∷ []) $ nothing ! $ owned ! u32 (Is u32) (uint_Makes 𝓛 w32) e _ (refl, low) $ fjoin ! $ owned ! usize (Is usize) (uint_Makes 𝓛 w64) n _ (refl, ok) $ fjoin ! $ move ! (1 ∷ 0 ∷ []) $ fjoin ! $
       use1 𝓛 (‵ Held) (own_shut 𝓛 (T.the_type α) (T'.the_laws α) (s, (n, (e, tt)))) $
-      move ! (0 ∷ 2 ∷ []) $ use2 𝓛 (raw ((Step 𝓛 mem run).pre to)) asked $ frame ! $ done !
+      move ! (0 ∷ 2 ∷ []) $ use2 𝓛 (raw ((Step 𝓛 mem run).requires to)) asked $ frame ! $ done !
 
   said : (r : Decoded) → ent 𝓤 (ensured 𝓛 step.ended (step.clauses 𝓛 mem run) (κ, tt) (made, tt) tt r) (fact 𝓤 (reading r ≡ found))
   said r = ex_e 𝓤 _ (λ ws. snd∗ 𝓤 (sem 𝓛 (lasts step.ended (κ, tt) (made, tt) ws)) (fact 𝓤 (reading r ≡ found)))
@@ -131,7 +131,7 @@ module _ {M : Type 1} {𝓤 : Ura M} (𝓛 : Logic 𝓤) (mem : Memory → SProp
         qed 𝓛 (raw (on_entry 𝓛 read.signature (κ, tt) (q, tt) (e, (s, (n, tt))) at) ∷ []) ∵ enter ! C Λ code.function (vint w32 e ∷ v ∷ vint w64 n ∷ []) _ $
         alloc1 ! (λ l₀. alloc1 ! (λ l₁. alloc1 ! (λ l₂. alloc1 ! (λ l₃. alloc1 ! (λ l₄. alloc0 ! $ params1 ! $ pass1 ! (init ! 6 refl (tt, record { fits = low })) $ pass1 ! (init ! 4 refl ((shr_slice_Lawful 𝓛 (named 0) κ u8).typed s (v ∷ []) p).0) $ pass1 ! (init ! 2 refl (tt, record { fits = ok })) $ pass0 ! $
         assigns ! (agg ! (and_then ! (load ! (from ! (stop !)) (look ! 4 refl)) (and_then ! (load ! (from ! (stop !)) (look ! 2 refl)) (and_then ! (load ! (from ! (stop !)) (look ! 6 refl)) (no_more !))))) (from ! (stop !)) (init ! 0 refl (tt, (((shr_slice_Lawful 𝓛 (named 0) κ u8).typed s (v ∷ []) p).0.1, (record { fits = ok }, (record { fits = low }, tt))))) $
-        move ! (10 ∷ []) $ use1 𝓛 (raw ((Step 𝓛 mem run).pre to) ⊛ ‵ Owns) together $ split ! $
+        move ! (10 ∷ []) $ use1 𝓛 (raw ((Step 𝓛 mem run).requires to) ⊛ ‵ Owns) together $ split ! $
         calls_at ! fm (Step 𝓛 mem run) known to (and_then ! (load ! (from ! (stop !)) (look ! 2 refl)) (no_more !)) (λ u.
         use1 𝓛 (later (some (λ (r : Decoded). ((‵ (flft κ q) ⊛ ‵ ftrue) ⊛ ‵ ((S.the_row).own_val r (u ∷ []))) ⊛ raw (ensured 𝓛 step.ended (step.clauses 𝓛 mem run) (κ, tt) (made, tt) tt r)))) (id⊢ 𝓤 _) $ await ! tt $ pick ! (λ r.
         split ! $ move ! (1 ∷ []) $ use1 𝓛 (raw (fact 𝓤 (reading r ≡ found))) (said r) $ heard ! (reading r ≡ found) (λ f. split ! $ move ! (1 ∷ []) $

@@ -107,11 +107,11 @@ module _ {M : Type 1} {𝓤 : Ura M} (𝓛 : Logic 𝓤) (mem : Memory → SProp
   abbrev to : (DecodeAt 𝓛 mem run).Ghost
   to = (((κ, tt), (q, tt), tt, (d.edition, (d.src, (d.at, tt))), passed), tt)
 
-  asked : ent 𝓤 (on_entry 𝓛 dec.signature (κ, tt) (q, tt) (d.edition, (d.src, (d.at, tt))) passed) ((DecodeAt 𝓛 mem run).pre to)
+  asked : ent 𝓤 (on_entry 𝓛 dec.signature (κ, tt) (q, tt) (d.edition, (d.src, (d.at, tt))) passed) ((DecodeAt 𝓛 mem run).requires to)
   asked = qed 𝓛 ((‵ (flft κ q) ⊛ ‵ ftrue) ∷ ‵ (owns (u32 ∷ ShrSlice (named 0) κ u8 ∷ usize ∷ []) (d.edition, (d.src, (d.at, tt))) passed) ∷ []) ∵ join ! $ frame ! $ done !
 
   -- what the struct owns gives what the callee asks, and is kept
-  apart : d.at < 2 ^ 64 → d.edition < 2 ^ 32 → ent 𝓤 (on_entry 𝓛 step.signature (κ, tt) (q, tt) (d, tt) (mach ∷ [], tt)) (sep 𝓤 ((DecodeAt 𝓛 mem run).pre to) (sem 𝓛 Own))
+  apart : d.at < 2 ^ 64 → d.edition < 2 ^ 32 → ent 𝓤 (on_entry 𝓛 step.signature (κ, tt) (q, tt) (d, tt) (mach ∷ [], tt)) (sep 𝓤 ((DecodeAt 𝓛 mem run).requires to) (sem 𝓛 Own))
   apart fits low =
       qed 𝓛 ((‵ (flft κ q) ⊛ ‵ ftrue) ∷ ‵ (owns (B (κ, tt) ∷ []) (d, tt) (mach ∷ [], tt)) ∷ []) ∵
       move ! (1 ∷ []) $ fsplit ! $ move ! (1 ∷ []) $ drop ! $ use1 𝓛 (‵ Own ⊛ ‵ Own) ((LL.copy D (T'.the_copy (named_lft 1 0 tt (κ, tt))) 𝓛).twice d (mach ∷ [])) $ split ! $
@@ -119,7 +119,7 @@ module _ {M : Type 1} {𝓤 : Ura M} (𝓛 : Logic 𝓤) (mem : Memory → SProp
       -- [what src owns; what at and edition own; what the struct owns; the token]
       move ! (1 ∷ []) $ drop ! $ nothing ! $ owned ! usize (Is usize) (uint_Makes 𝓛 w64) d.at _ (refl, fits) $ fjoin ! $ move ! (1 ∷ 0 ∷ []) $ fjoin ! $
       owned ! u32 (Is u32) (uint_Makes 𝓛 w32) d.edition _ (refl, low) $ fjoin ! $
-      move ! (2 ∷ 0 ∷ []) $ use2 𝓛 (raw ((DecodeAt 𝓛 mem run).pre to)) asked $ frame ! $ done !)
+      move ! (2 ∷ 0 ∷ []) $ use2 𝓛 (raw ((DecodeAt 𝓛 mem run).requires to)) asked $ frame ! $ done !)
 
   -- of the callee's `ensured`, the clause alone: it has no `&mut`, so what is said of last values is dropped
   said : (r : Decoded) → ent 𝓤 (ensured 𝓛 dec.ended (dec.clauses 𝓛 mem run) (κ, tt) (d.edition, (d.src, (d.at, tt))) tt r) (fact 𝓤 (reading r ≡ found))
@@ -139,7 +139,7 @@ module _ {M : Type 1} {𝓤 : Ura M} (𝓛 : Logic 𝓤) (mem : Memory → SProp
         assigns ! (of_opd ! (load ! (from ! (fld ! refl (stop !))) (look_in ! 6 (sub ! 2 refl (whole !))))) (from ! (stop !)) (init ! 4 refl (tt, wt.1.1.1.0)) $
         assigns ! (of_opd ! (load ! (from ! (fld ! refl (stop !))) (look_in ! 6 (sub ! 0 refl (whole !))))) (from ! (stop !)) (init ! 2 refl (tt, wt.1.0)) $
         assigns ! (of_opd ! (load ! (from ! (fld ! refl (stop !))) (look_in ! 6 (sub ! 1 refl (whole !))))) (from ! (stop !)) (init ! 0 refl (tt, wt.1.1.0)) $
-        move ! (10 ∷ []) $ use1 𝓛 (raw ((DecodeAt 𝓛 mem run).pre to) ⊛ ‵ Own) (apart wt.1.1.0.fits wt.1.1.1.0.fits) $ split ! $
+        move ! (10 ∷ []) $ use1 𝓛 (raw ((DecodeAt 𝓛 mem run).requires to) ⊛ ‵ Own) (apart wt.1.1.0.fits wt.1.1.1.0.fits) $ split ! $
         calls_at ! fm (DecodeAt 𝓛 mem run) known to (and_then ! (load ! (from ! (stop !)) (look ! 6 refl)) (and_then ! (load ! (from ! (stop !)) (look ! 4 refl)) (and_then ! (load ! (from ! (stop !)) (look ! 2 refl)) (no_more !)))) (λ u.
         use1 𝓛 (later (some (λ (r : Decoded). ((‵ (flft κ q) ⊛ ‵ ftrue) ⊛ ‵ ((S.the_row).own_val r (u ∷ []))) ⊛ raw (ensured 𝓛 dec.ended (dec.clauses 𝓛 mem run) (κ, tt) (d.edition, (d.src, (d.at, tt))) tt r)))) (id⊢ 𝓤 _) $ await ! tt $ pick ! (λ r.
         split ! $ move ! (1 ∷ []) $ use1 𝓛 (raw (fact 𝓤 (reading r ≡ found))) (said r) $ heard ! (reading r ≡ found) (λ e. split ! $ move ! (1 ∷ []) $

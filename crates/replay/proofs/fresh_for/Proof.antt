@@ -7,14 +7,14 @@ use borrow.Author.Rules.{rules}
 use Rattle.replay.proofs.fresh_for.Statement.{statement}
 use Rattle.replay.proofs.fresh_for.Tie as tie
 
-returns : tie.Need-returns
-returns c = c.of_edition.ensures ∙ sym (ap (λ e. stored (fresh_model e)) (edition_bad _ (sym c.before.before.before.header.ensures ∙ ap opening c.before.enum_told.given.1)))
+returns : tie.Need-returns-in_default
+returns c = c.of_edition.ensures ∙ sym (ap (λ e. stored (fresh_model e)) (edition_bad _ (sym c.before.before.before.header-h.ensures ∙ ap opening c.before.in_default.is)))
 
-returns-2 : tie.Need-returns-2
-returns-2 c = c.of-edition2.ensures ∙ sym (ap (λ e. stored (fresh_model e)) (edition_good _ (sym c.before.before.before.before.header.ensures ∙ ap opening c.before.before.h.given.1)))
+returns-2 : tie.Need-returns
+returns-2 c = c.of_edition-2.ensures ∙ sym (ap (λ e. stored (fresh_model e)) (edition_good _ (sym c.before.before.before.before.header-h.ensures ∙ ap opening c.before.before.in-Records.is)))
 
-pub fresh-for-spec : {M : Type 1} → statement M
-fresh-for-spec =
+pub fresh_for_spec : {M : Type 1} → statement M
+fresh_for_spec =
     tie.close
     (tie.spec
     (λ c κs. search rules)

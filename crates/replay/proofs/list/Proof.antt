@@ -5,17 +5,17 @@ use borrow.Author.Rules.{rules}
 use Rattle.replay.proofs.list.Statement.{statement}
 use Rattle.replay.proofs.list.Tie as tie
 
-returns : tie.Need-returns
-returns c = at_once _ c.before.before.before.before.before.before.before.before.before.requires.1 c.before.before.before.walk.ensures.1 (omega arith) c.before.before.before.before.before.before.if1.true c.before.before.before.before.before.if2.true (omega arith)
+returns : tie.Need-returns-then-out-s
+returns c = at_once _ c.before.before.before.before.before.before.before.before.before.requires.1 c.before.before.before.walk-all.ensures.wrote (omega arith) c.before.before.before.before.before.before.if-out-ge-ROOM.true c.before.before.before.before.before.if-out-s.true-raw (omega arith)
 
-returns-2 : tie.Need-returns-2
-returns-2 c = no_space c.before.before.before.before.walk2.ensures.1 c.if3.true
+returns-2 : tie.Need-returns-then-p
+returns-2 c = no_space c.before.before.before.before.walk-dry.ensures.wrote c.if-p.true
 
-returns-3 : tie.Need-returns-3
-returns-3 c = in_space c.before.before.before.before.before.before.before.before.before.walk2.ensures.1 c.before.before.before.before.before.if3.false c.before.before.before.walk3.ensures.1
+returns-3 : tie.Need-returns
+returns-3 c = in_space c.before.before.before.before.before.before.before.before.before.walk-dry.ensures.wrote c.before.before.before.before.before.if-p.false c.before.before.before.walk-wet.ensures.wrote
 
-pub list-spec : {M : Type 1} → statement M
-list-spec =
+pub list_spec : {M : Type 1} → statement M
+list_spec =
     tie.close
     (tie.spec
     (λ c. search rules)

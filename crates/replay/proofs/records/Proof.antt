@@ -38,381 +38,381 @@ use Rattle.table.specs.Tables.{insert}
 use Rattle.replay.proofs.records.Statement.{statement}
 use Rattle.replay.proofs.records.Tie as tie
 
-abbrev invariant-loop2 : tie.invariant-loop2
+abbrev invariant-loop2 : tie.invariant-loop-j
 invariant-loop2 s out ink first accounts invoices offers₀ totals settings pen at k next id io ii ia ib one t n slot j₀ offers j =
     Moves offers₀ slot offers j
 
-abbrev decreases-loop2 : tie.decreases-loop2
+abbrev decreases-loop2 : tie.decreases-loop-j
 decreases-loop2 s out ink first accounts invoices offers₀ totals settings pen at k next id io ii ia ib one t n slot j₀ offers j =
     j
 
-abbrev invariant-loop : tie.invariant-loop
+abbrev invariant-loop : tie.invariant-loop-c
 invariant-loop s out₀ ink first accounts₀ invoices₀ offers₀ totals₀ settings₀ pen₀ at₀ k₀ out accounts invoices offers totals settings pen at k =
     Going ink s (replay_from s first (model_of (book_by accounts₀ invoices₀ offers₀ totals₀ settings₀))) out₀ pen₀ out at k (book_by accounts invoices offers totals settings) pen
 
-abbrev decreases-loop : tie.decreases-loop
+abbrev decreases-loop : tie.decreases-loop-c
 decreases-loop s out₀ ink first accounts₀ invoices₀ offers₀ totals₀ settings₀ pen₀ at₀ k₀ out accounts invoices offers totals settings pen at k =
     length s - at
 
-record-read : (c : tie.After-names invariant-loop2 decreases-loop2 invariant-loop decreases-loop) → read_at c.before.before.before.before.before.loop.settings.edition c.before.before.before.before.before.before.before.before.before.before.before.before.before.args.s.now c.before.before.before.before.before.loop.at ≡ found c.before.before.d.given.0.0 c.before.before.d.given.0.1.0
-record-read c = sym c.before.before.before.before.read.ensures ∙ ap reading c.before.before.d.given.1
+record-read : (c : tie.After-names-names invariant-loop2 decreases-loop2 invariant-loop decreases-loop) → read_at c.before.before.before.before.before.loop-c.settings-1.edition c.before.before.before.before.before.before.before.before.before.before.before.before.before.args.s.now c.before.before.before.before.before.loop-c.at-seen ≡ found c.before.before.in-Command.c c.before.before.in-Command.next
+record-read c = sym c.before.before.before.before.read-d.ensures ∙ ap reading c.before.before.in-Command.is
 
-shelved : (c : tie.After-names invariant-loop2 decreases-loop2 invariant-loop decreases-loop) → Shelved (book_by c.before.before.before.before.before.loop.accounts c.before.before.before.before.before.loop.invoices c.before.before.before.before.before.loop.offers c.before.before.before.before.before.loop.totals c.before.before.before.before.before.loop.settings)
-shelved c = c.before.before.before.before.before.loop.invariant.plays.stand.shelved
+shelved : (c : tie.After-names-names invariant-loop2 decreases-loop2 invariant-loop decreases-loop) → Shelved (book_by c.before.before.before.before.before.loop-c.accounts-1 c.before.before.before.before.before.loop-c.invoices-1 c.before.before.before.before.before.loop-c.offers-1 c.before.before.before.before.before.loop-c.totals-1 c.before.before.before.before.before.loop-c.settings-1)
+shelved c = c.before.before.before.before.before.loop-c.invariant.plays.stand.shelved
 
-more : (c : tie.After-names invariant-loop2 decreases-loop2 invariant-loop decreases-loop) → Fits w64 (c.before.before.before.before.before.loop.k + 1)
-more c = omega (arith, c.before.before.before.before.before.loop.invariant.plays.stand.few, ahead _ _ _ (record-read c))
+more : (c : tie.After-names-names invariant-loop2 decreases-loop2 invariant-loop decreases-loop) → Fits w64 (c.before.before.before.before.before.loop-c.k + 1)
+more c = omega (arith, c.before.before.before.before.before.loop-c.invariant.plays.stand.few, ahead _ _ _ (record-read c))
 
-below-o : (c : tie.After-spot-by invariant-loop2 decreases-loop2 invariant-loop decreases-loop) → c.spot-by.result.at < 64
-below-o c = spot_below (shelved c.before.before.before.before).offers.shelf (omega arith) c.before.before.before.before.names.result.offer c.spot-by.ensures
+below-o : (c : tie.After-spot_by-po invariant-loop2 decreases-loop2 invariant-loop decreases-loop) → c.spot_by-po.result.at-seen < 64
+below-o c = spot_below (shelved c.before.before.before.before).offers-1.shelf (omega arith) c.before.before.before.before.names-names.result.offer-1 c.spot_by-po.ensures
 
-seen-o : (c : tie.Joined1 invariant-loop2 decreases-loop2 invariant-loop decreases-loop) → seen_as c.before.before.spot-by.result.here c.if1.deal ≡ offer_by (model_of (book_by c.before.before.before.before.before.before.before.before.before.before.before.loop.accounts c.before.before.before.before.before.before.before.before.before.before.before.loop.invoices c.before.before.before.before.before.before.before.before.before.before.before.loop.offers c.before.before.before.before.before.before.before.before.before.before.before.loop.totals c.before.before.before.before.before.before.before.before.before.before.before.loop.settings)) c.before.before.before.before.before.before.names.result.offer
-seen-o c = ⊎_elim (λ t. deal_here (shelved c.before.before.before.before.before.before).offers _ _ _ c.before.before.before.before.before.before.names.result.offer c.before.before.spot-by.ensures t.0.taken t.4) (λ l. deal_away (shelved c.before.before.before.before.before.before).offers no_deal.offer no_deal.negotiation no_deal.schedule c.before.before.before.before.before.before.names.result.offer c.before.before.spot-by.ensures l.0.left (l.1 ∙ c.before.none.ensures)) c.if1.branch
+seen-o : (c : tie.Joined-po invariant-loop2 decreases-loop2 invariant-loop decreases-loop) → seen_as c.before.before.spot_by-po.result.here c.if-po.deal ≡ offer_by (model_of (book_by c.before.before.before.before.before.before.before.before.before.before.before.loop-c.accounts-1 c.before.before.before.before.before.before.before.before.before.before.before.loop-c.invoices-1 c.before.before.before.before.before.before.before.before.before.before.before.loop-c.offers-1 c.before.before.before.before.before.before.before.before.before.before.before.loop-c.totals-1 c.before.before.before.before.before.before.before.before.before.before.before.loop-c.settings-1)) c.before.before.before.before.before.before.names-names.result.offer-1
+seen-o c = ⊎_elim (λ t. deal_here (shelved c.before.before.before.before.before.before).offers-1 _ _ _ c.before.before.before.before.before.before.names-names.result.offer-1 c.before.before.spot_by-po.ensures t.0.taken t.4) (λ l. deal_away (shelved c.before.before.before.before.before.before).offers-1 no_deal.offer-1 no_deal.negotiation no_deal.schedule c.before.before.before.before.before.before.names-names.result.offer-1 c.before.before.spot_by-po.ensures l.0.left (l.1 ∙ c.before.none-deal.ensures)) c.if-po.branch
 
-below-i : (c : tie.After-spot-by2 invariant-loop2 decreases-loop2 invariant-loop decreases-loop) → c.spot-by2.result.at < 64
-below-i c = spot_below (shelved c.before.before.before.before.before.before.before.before.before.before.before).invoices (omega arith) c.before.before.before.before.key.result c.spot-by2.ensures
+below-i : (c : tie.After-spot_by-pi invariant-loop2 decreases-loop2 invariant-loop decreases-loop) → c.spot_by-pi.result.at-seen < 64
+below-i c = spot_below (shelved c.before.before.before.before.before.before.before.before.before.before.before).invoices-1 (omega arith) c.before.before.before.before.key-key.result c.spot_by-pi.ensures
 
-seen-i : (c : tie.After-at invariant-loop2 decreases-loop2 invariant-loop decreases-loop) → c.at.result ≡ invoice_by (model_of (book_by c.before.before.before.before.before.before.before.before.before.before.before.before.before.before.before.before.before.before.loop.accounts c.before.before.before.before.before.before.before.before.before.before.before.before.before.before.before.before.before.before.loop.invoices c.before.before.before.before.before.before.before.before.before.before.before.before.before.before.before.before.before.before.loop.offers c.before.before.before.before.before.before.before.before.before.before.before.before.before.before.before.before.before.before.loop.totals c.before.before.before.before.before.before.before.before.before.before.before.before.before.before.before.before.before.before.loop.settings)) c.before.before.before.before.before.before.key.result
-seen-i c = c.at.ensures ∙ ap seen_invoice (sym (spot_found (shelved c.before.before.before.before.before.before.before.before.before.before.before.before.before).invoices (omega arith) c.before.before.before.before.before.before.key.result c.before.before.spot-by2.ensures))
+seen-i : (c : tie.After-at-seen invariant-loop2 decreases-loop2 invariant-loop decreases-loop) → c.at-seen.result ≡ invoice_by (model_of (book_by c.before.before.before.before.before.before.before.before.before.before.before.before.before.before.before.before.before.before.loop-c.accounts-1 c.before.before.before.before.before.before.before.before.before.before.before.before.before.before.before.before.before.before.loop-c.invoices-1 c.before.before.before.before.before.before.before.before.before.before.before.before.before.before.before.before.before.before.loop-c.offers-1 c.before.before.before.before.before.before.before.before.before.before.before.before.before.before.before.before.before.before.loop-c.totals-1 c.before.before.before.before.before.before.before.before.before.before.before.before.before.before.before.before.before.before.loop-c.settings-1)) c.before.before.before.before.before.before.key-key.result
+seen-i c = c.at-seen.ensures ∙ ap seen_invoice (sym (spot_found (shelved c.before.before.before.before.before.before.before.before.before.before.before.before.before).invoices-1 (omega arith) c.before.before.before.before.before.before.key-key.result c.before.before.spot_by-pi.ensures))
 
-below-a : (c : tie.After-spot-by3 invariant-loop2 decreases-loop2 invariant-loop decreases-loop) → c.spot-by3.result.at < 64
-below-a c = spot_below (shelved c.before.before.before.before.before.before.before.before.before.before.before.before.before.before.before.before.before.before).accounts (omega arith) c.before.before.before.before.before.before.before.before.before.before.before.before.before.before.before.before.before.before.names.result.first c.spot-by3.ensures
+below-a : (c : tie.After-spot_by-pa invariant-loop2 decreases-loop2 invariant-loop decreases-loop) → c.spot_by-pa.result.at-seen < 64
+below-a c = spot_below (shelved c.before.before.before.before.before.before.before.before.before.before.before.before.before.before.before.before.before.before).accounts-1 (omega arith) c.before.before.before.before.before.before.before.before.before.before.before.before.before.before.before.before.before.before.names-names.result.first c.spot_by-pa.ensures
 
-seen-a : (c : tie.After-at2 invariant-loop2 decreases-loop2 invariant-loop decreases-loop) → c.at2.result ≡ account_by (model_of (book_by c.before.before.before.before.before.before.before.before.before.before.before.before.before.before.before.before.before.before.before.before.before.before.before.before.before.loop.accounts c.before.before.before.before.before.before.before.before.before.before.before.before.before.before.before.before.before.before.before.before.before.before.before.before.before.loop.invoices c.before.before.before.before.before.before.before.before.before.before.before.before.before.before.before.before.before.before.before.before.before.before.before.before.before.loop.offers c.before.before.before.before.before.before.before.before.before.before.before.before.before.before.before.before.before.before.before.before.before.before.before.before.before.loop.totals c.before.before.before.before.before.before.before.before.before.before.before.before.before.before.before.before.before.before.before.before.before.before.before.before.before.loop.settings)) c.before.before.before.before.before.before.before.before.before.before.before.before.before.before.before.before.before.before.before.before.names.result.first
-seen-a c = c.at2.ensures ∙ ap seen_account (sym (spot_found (shelved c.before.before.before.before.before.before.before.before.before.before.before.before.before.before.before.before.before.before.before.before).accounts (omega arith) c.before.before.before.before.before.before.before.before.before.before.before.before.before.before.before.before.before.before.before.before.names.result.first c.before.before.spot-by3.ensures))
+seen-a : (c : tie.After-at-sa invariant-loop2 decreases-loop2 invariant-loop decreases-loop) → c.at-sa.result ≡ account_by (model_of (book_by c.before.before.before.before.before.before.before.before.before.before.before.before.before.before.before.before.before.before.before.before.before.before.before.before.before.loop-c.accounts-1 c.before.before.before.before.before.before.before.before.before.before.before.before.before.before.before.before.before.before.before.before.before.before.before.before.before.loop-c.invoices-1 c.before.before.before.before.before.before.before.before.before.before.before.before.before.before.before.before.before.before.before.before.before.before.before.before.before.loop-c.offers-1 c.before.before.before.before.before.before.before.before.before.before.before.before.before.before.before.before.before.before.before.before.before.before.before.before.before.loop-c.totals-1 c.before.before.before.before.before.before.before.before.before.before.before.before.before.before.before.before.before.before.before.before.before.before.before.before.before.loop-c.settings-1)) c.before.before.before.before.before.before.before.before.before.before.before.before.before.before.before.before.before.before.before.before.names-names.result.first
+seen-a c = c.at-sa.ensures ∙ ap seen_account (sym (spot_found (shelved c.before.before.before.before.before.before.before.before.before.before.before.before.before.before.before.before.before.before.before.before).accounts-1 (omega arith) c.before.before.before.before.before.before.before.before.before.before.before.before.before.before.before.before.before.before.before.before.names-names.result.first c.before.before.spot_by-pa.ensures))
 
-below-b : (c : tie.After-spot-by4 invariant-loop2 decreases-loop2 invariant-loop decreases-loop) → c.spot-by4.result.at < 64
-below-b c = spot_below (shelved c.before.before.before.before.before.before.before.before.before.before.before.before.before.before.before.before.before.before.before.before.before.before.before.before).accounts (omega arith) c.before.before.before.before.before.before.before.before.before.before.key2.result c.spot-by4.ensures
+below-b : (c : tie.After-spot_by-pb invariant-loop2 decreases-loop2 invariant-loop decreases-loop) → c.spot_by-pb.result.at-seen < 64
+below-b c = spot_below (shelved c.before.before.before.before.before.before.before.before.before.before.before.before.before.before.before.before.before.before.before.before.before.before.before.before).accounts-1 (omega arith) c.before.before.before.before.before.before.before.before.before.before.key-kb.result c.spot_by-pb.ensures
 
-seen_b : (c : tie.After-at3 invariant-loop2 decreases-loop2 invariant-loop decreases-loop) → c.at3.result ≡ account_by (model_of (book_by c.before.before.before.before.before.before.before.before.before.before.before.before.before.before.before.before.before.before.before.before.before.before.before.before.before.before.before.before.before.before.before.loop.accounts c.before.before.before.before.before.before.before.before.before.before.before.before.before.before.before.before.before.before.before.before.before.before.before.before.before.before.before.before.before.before.before.loop.invoices c.before.before.before.before.before.before.before.before.before.before.before.before.before.before.before.before.before.before.before.before.before.before.before.before.before.before.before.before.before.before.before.loop.offers c.before.before.before.before.before.before.before.before.before.before.before.before.before.before.before.before.before.before.before.before.before.before.before.before.before.before.before.before.before.before.before.loop.totals c.before.before.before.before.before.before.before.before.before.before.before.before.before.before.before.before.before.before.before.before.before.before.before.before.before.before.before.before.before.before.before.loop.settings)) c.before.before.before.before.before.before.before.before.before.before.before.before.key2.result
-seen_b c = c.at3.ensures ∙ ap seen_account (sym (spot_found (shelved c.before.before.before.before.before.before.before.before.before.before.before.before.before.before.before.before.before.before.before.before.before.before.before.before.before.before).accounts (omega arith) c.before.before.before.before.before.before.before.before.before.before.before.before.key2.result c.before.before.spot-by4.ensures))
+seen_b : (c : tie.After-at-sb invariant-loop2 decreases-loop2 invariant-loop decreases-loop) → c.at-sb.result ≡ account_by (model_of (book_by c.before.before.before.before.before.before.before.before.before.before.before.before.before.before.before.before.before.before.before.before.before.before.before.before.before.before.before.before.before.before.before.loop-c.accounts-1 c.before.before.before.before.before.before.before.before.before.before.before.before.before.before.before.before.before.before.before.before.before.before.before.before.before.before.before.before.before.before.before.loop-c.invoices-1 c.before.before.before.before.before.before.before.before.before.before.before.before.before.before.before.before.before.before.before.before.before.before.before.before.before.before.before.before.before.before.before.loop-c.offers-1 c.before.before.before.before.before.before.before.before.before.before.before.before.before.before.before.before.before.before.before.before.before.before.before.before.before.before.before.before.before.before.before.loop-c.totals-1 c.before.before.before.before.before.before.before.before.before.before.before.before.before.before.before.before.before.before.before.before.before.before.before.before.before.before.before.before.before.before.before.loop-c.settings-1)) c.before.before.before.before.before.before.before.before.before.before.before.before.key-kb.result
+seen_b c = c.at-sb.ensures ∙ ap seen_account (sym (spot_found (shelved c.before.before.before.before.before.before.before.before.before.before.before.before.before.before.before.before.before.before.before.before.before.before.before.before.before.before).accounts-1 (omega arith) c.before.before.before.before.before.before.before.before.before.before.before.before.key-kb.result c.before.before.spot_by-pb.ensures))
 
-step : (c : tie.After-turn invariant-loop2 decreases-loop2 invariant-loop decreases-loop) → Turned (book_by c.before.before.before.before.before.before.before.before.before.before.before.before.before.before.before.before.before.before.before.before.before.before.before.before.before.before.before.before.before.before.before.before.before.loop.accounts c.before.before.before.before.before.before.before.before.before.before.before.before.before.before.before.before.before.before.before.before.before.before.before.before.before.before.before.before.before.before.before.before.before.loop.invoices c.before.before.before.before.before.before.before.before.before.before.before.before.before.before.before.before.before.before.before.before.before.before.before.before.before.before.before.before.before.before.before.before.before.loop.offers c.before.before.before.before.before.before.before.before.before.before.before.before.before.before.before.before.before.before.before.before.before.before.before.before.before.before.before.before.before.before.before.before.before.loop.totals c.before.before.before.before.before.before.before.before.before.before.before.before.before.before.before.before.before.before.before.before.before.before.before.before.before.before.before.before.before.before.before.before.before.loop.settings) c.before.before.before.before.before.before.before.before.before.before.before.before.before.before.before.before.before.before.before.before.before.before.before.before.before.before.before.before.before.before.d.given.0.0 (keys_by c.before.before.before.before.before.before.before.before.before.before.before.before.before.before.before.before.before.before.before.before.before.before.before.before.before.before.before.before.names.result.first c.before.before.before.before.before.before.before.before.before.before.before.before.before.before.key2.result c.before.before.before.before.before.before.before.before.before.before.before.before.before.before.before.before.before.before.before.before.before.key.result c.before.before.before.before.before.before.before.before.before.before.before.before.before.before.before.before.before.before.before.before.before.before.before.before.before.before.before.before.names.result.offer) c.turn.result
-step c = turned (shelved c.before.before.before.before.before.before.before.before.before.before.before.before.before.before.before.before.before.before.before.before.before.before.before.before.before.before.before.before) (fetched c.before.before.before.before.before.before.before.before.before.before.before.before.before.before.before.before.before.before.before.before.before.before.before.before.before.before.before.before.names.ensures (seen-o c.before.before.before.before.before.before.before.before.before.before.before.before.before.before.before.before.before.before.before.before.before.before) c.before.before.before.before.before.before.before.before.before.before.before.before.before.before.before.before.before.before.before.before.before.key.ensures (seen-i c.before.before.before.before.before.before.before.before.before.before.before.before.before.before.before) c.before.before.before.before.before.before.before.before.before.before.before.before.before.before.key2.ensures (seen-a c.before.before.before.before.before.before.before.before) (seen_b c.before.before) c.before.same.ensures) (counts_by_lem (shelved c.before.before.before.before.before.before.before.before.before.before.before.before.before.before.before.before.before.before.before.before.before.before.before.before.before.before.before.before)) c.turn.ensures
+step : (c : tie.After-turn-turn invariant-loop2 decreases-loop2 invariant-loop decreases-loop) → Turned (book_by c.before.before.before.before.before.before.before.before.before.before.before.before.before.before.before.before.before.before.before.before.before.before.before.before.before.before.before.before.before.before.before.before.before.loop-c.accounts-1 c.before.before.before.before.before.before.before.before.before.before.before.before.before.before.before.before.before.before.before.before.before.before.before.before.before.before.before.before.before.before.before.before.before.loop-c.invoices-1 c.before.before.before.before.before.before.before.before.before.before.before.before.before.before.before.before.before.before.before.before.before.before.before.before.before.before.before.before.before.before.before.before.before.loop-c.offers-1 c.before.before.before.before.before.before.before.before.before.before.before.before.before.before.before.before.before.before.before.before.before.before.before.before.before.before.before.before.before.before.before.before.before.loop-c.totals-1 c.before.before.before.before.before.before.before.before.before.before.before.before.before.before.before.before.before.before.before.before.before.before.before.before.before.before.before.before.before.before.before.before.before.loop-c.settings-1) c.before.before.before.before.before.before.before.before.before.before.before.before.before.before.before.before.before.before.before.before.before.before.before.before.before.before.before.before.before.before.in-Command.c (keys_by c.before.before.before.before.before.before.before.before.before.before.before.before.before.before.before.before.before.before.before.before.before.before.before.before.before.before.before.before.names-names.result.first c.before.before.before.before.before.before.before.before.before.before.before.before.before.before.key-kb.result c.before.before.before.before.before.before.before.before.before.before.before.before.before.before.before.before.before.before.before.before.before.key-key.result c.before.before.before.before.before.before.before.before.before.before.before.before.before.before.before.before.before.before.before.before.before.before.before.before.before.before.before.before.names-names.result.offer-1) c.turn-turn.result
+step c = turned (shelved c.before.before.before.before.before.before.before.before.before.before.before.before.before.before.before.before.before.before.before.before.before.before.before.before.before.before.before.before) (fetched c.before.before.before.before.before.before.before.before.before.before.before.before.before.before.before.before.before.before.before.before.before.before.before.before.before.before.before.before.names-names.ensures (seen-o c.before.before.before.before.before.before.before.before.before.before.before.before.before.before.before.before.before.before.before.before.before.before) c.before.before.before.before.before.before.before.before.before.before.before.before.before.before.before.before.before.before.before.before.before.key-key.ensures (seen-i c.before.before.before.before.before.before.before.before.before.before.before.before.before.before.before) c.before.before.before.before.before.before.before.before.before.before.before.before.before.before.key-kb.ensures (seen-a c.before.before.before.before.before.before.before.before) (seen_b c.before.before) c.before.same-one.ensures) (counts_by_lem (shelved c.before.before.before.before.before.before.before.before.before.before.before.before.before.before.before.before.before.before.before.before.before.before.before.before.before.before.before.before)) c.turn-turn.ensures
 
-left-a : (c : tie.After-turn invariant-loop2 decreases-loop2 invariant-loop decreases-loop) → Left 64 account_row (accounts_of c.before.before.before.before.before.before.before.before.before.before.before.before.before.before.before.before.before.before.before.before.before.before.before.before.before.before.before.before.before.before.before.before.before.loop.accounts) (next (step c)).accounts c.before.before.before.before.before.before.before.before.before.before.before.before.before.before.before.before.before.before.before.before.before.before.before.before.before.before.before.before.names.result.first c.before.before.before.before.before.before.before.before.before.before.before.before.before.before.key2.result c.before.before.before.before.before.before.before.before.before.before.spot-by3.result.here c.turn.result.near.parties.first.here c.turn.result.near.parties.first.row c.turn.result.near.parties.second.row
-left-a c = accounts_left (step c) (was_by _ _ (spot_found (shelved c.before.before.before.before.before.before.before.before.before.before.before.before.before.before.before.before.before.before.before.before.before.before.before.before.before.before.before.before).accounts (omega arith) c.before.before.before.before.before.before.before.before.before.before.before.before.before.before.before.before.before.before.before.before.before.before.before.before.before.before.before.before.names.result.first c.before.before.before.before.before.before.before.before.before.before.spot-by3.ensures))
+left-a : (c : tie.After-turn-turn invariant-loop2 decreases-loop2 invariant-loop decreases-loop) → Left 64 account_row (accounts_of c.before.before.before.before.before.before.before.before.before.before.before.before.before.before.before.before.before.before.before.before.before.before.before.before.before.before.before.before.before.before.before.before.before.loop-c.accounts-1) (next (step c)).accounts-1 c.before.before.before.before.before.before.before.before.before.before.before.before.before.before.before.before.before.before.before.before.before.before.before.before.before.before.before.before.names-names.result.first c.before.before.before.before.before.before.before.before.before.before.before.before.before.before.key-kb.result c.before.before.before.before.before.before.before.before.before.before.spot_by-pa.result.here c.turn-turn.result.near.parties.first.here c.turn-turn.result.near.parties.first.row c.turn-turn.result.near.parties.second.row
+left-a c = accounts_left (step c) (was_by _ _ (spot_found (shelved c.before.before.before.before.before.before.before.before.before.before.before.before.before.before.before.before.before.before.before.before.before.before.before.before.before.before.before.before).accounts-1 (omega arith) c.before.before.before.before.before.before.before.before.before.before.before.before.before.before.before.before.before.before.before.before.before.before.before.before.before.before.before.before.names-names.result.first c.before.before.before.before.before.before.before.before.before.before.spot_by-pa.ensures))
 
-left-i : (c : tie.After-turn invariant-loop2 decreases-loop2 invariant-loop decreases-loop) → Left 64 invoice_row (invoices_of c.before.before.before.before.before.before.before.before.before.before.before.before.before.before.before.before.before.before.before.before.before.before.before.before.before.before.before.before.before.before.before.before.before.loop.invoices) (next (step c)).invoices c.before.before.before.before.before.before.before.before.before.before.before.before.before.before.before.before.before.before.before.before.before.key.result c.before.before.before.before.before.before.before.before.before.before.before.before.before.before.before.before.before.before.before.before.before.key.result c.before.before.before.before.before.before.before.before.before.before.before.before.before.before.before.before.before.spot-by2.result.here c.turn.result.near.paper.here c.turn.result.near.paper.row c.turn.result.near.paper.row
-left-i c = invoices_left (step c) (was_by _ _ (spot_found (shelved c.before.before.before.before.before.before.before.before.before.before.before.before.before.before.before.before.before.before.before.before.before.before.before.before.before.before.before.before).invoices (omega arith) c.before.before.before.before.before.before.before.before.before.before.before.before.before.before.before.before.before.before.before.before.before.key.result c.before.before.before.before.before.before.before.before.before.before.before.before.before.before.before.before.before.spot-by2.ensures))
+left-i : (c : tie.After-turn-turn invariant-loop2 decreases-loop2 invariant-loop decreases-loop) → Left 64 invoice_row (invoices_of c.before.before.before.before.before.before.before.before.before.before.before.before.before.before.before.before.before.before.before.before.before.before.before.before.before.before.before.before.before.before.before.before.before.loop-c.invoices-1) (next (step c)).invoices-1 c.before.before.before.before.before.before.before.before.before.before.before.before.before.before.before.before.before.before.before.before.before.key-key.result c.before.before.before.before.before.before.before.before.before.before.before.before.before.before.before.before.before.before.before.before.before.key-key.result c.before.before.before.before.before.before.before.before.before.before.before.before.before.before.before.before.before.spot_by-pi.result.here c.turn-turn.result.near.paper.here c.turn-turn.result.near.paper.row c.turn-turn.result.near.paper.row
+left-i c = invoices_left (step c) (was_by _ _ (spot_found (shelved c.before.before.before.before.before.before.before.before.before.before.before.before.before.before.before.before.before.before.before.before.before.before.before.before.before.before.before.before).invoices-1 (omega arith) c.before.before.before.before.before.before.before.before.before.before.before.before.before.before.before.before.before.before.before.before.before.key-key.result c.before.before.before.before.before.before.before.before.before.before.before.before.before.before.before.before.before.spot_by-pi.ensures))
 
-left-o : (c : tie.After-turn invariant-loop2 decreases-loop2 invariant-loop decreases-loop) → Left 64 deal_row (deals_of c.before.before.before.before.before.before.before.before.before.before.before.before.before.before.before.before.before.before.before.before.before.before.before.before.before.before.before.before.before.before.before.before.before.loop.offers) (next (step c)).offers c.before.before.before.before.before.before.before.before.before.before.before.before.before.before.before.before.before.before.before.before.before.before.before.before.before.before.before.before.names.result.offer c.before.before.before.before.before.before.before.before.before.before.before.before.before.before.before.before.before.before.before.before.before.before.before.before.before.before.before.before.names.result.offer c.before.before.before.before.before.before.before.before.before.before.before.before.before.before.before.before.before.before.before.before.before.before.before.before.spot-by.result.here c.turn.result.near.deal.here c.turn.result.near.deal.row c.turn.result.near.deal.row
-left-o c = offers_left (step c) (was_by _ _ (deal_read_lem (shelved c.before.before.before.before.before.before.before.before.before.before.before.before.before.before.before.before.before.before.before.before.before.before.before.before.before.before.before.before).offers no_deal.offer no_deal.negotiation no_deal.schedule c.before.before.before.before.before.before.before.before.before.before.before.before.before.before.before.before.before.before.before.before.before.before.before.before.before.before.before.before.names.result.offer c.before.before.before.before.before.before.before.before.before.before.before.before.before.before.before.before.before.before.before.before.before.before.before.before.spot-by.ensures))
+left-o : (c : tie.After-turn-turn invariant-loop2 decreases-loop2 invariant-loop decreases-loop) → Left 64 deal_row (deals_of c.before.before.before.before.before.before.before.before.before.before.before.before.before.before.before.before.before.before.before.before.before.before.before.before.before.before.before.before.before.before.before.before.before.loop-c.offers-1) (next (step c)).offers-1 c.before.before.before.before.before.before.before.before.before.before.before.before.before.before.before.before.before.before.before.before.before.before.before.before.before.before.before.before.names-names.result.offer-1 c.before.before.before.before.before.before.before.before.before.before.before.before.before.before.before.before.before.before.before.before.before.before.before.before.before.before.before.before.names-names.result.offer-1 c.before.before.before.before.before.before.before.before.before.before.before.before.before.before.before.before.before.before.before.before.before.before.before.before.spot_by-po.result.here c.turn-turn.result.near.deal.here c.turn-turn.result.near.deal.row c.turn-turn.result.near.deal.row
+left-o c = offers_left (step c) (was_by _ _ (deal_read_lem (shelved c.before.before.before.before.before.before.before.before.before.before.before.before.before.before.before.before.before.before.before.before.before.before.before.before.before.before.before.before).offers-1 no_deal.offer-1 no_deal.negotiation no_deal.schedule c.before.before.before.before.before.before.before.before.before.before.before.before.before.before.before.before.before.before.before.before.before.before.before.before.before.before.before.before.names-names.result.offer-1 c.before.before.before.before.before.before.before.before.before.before.before.before.before.before.before.before.before.before.before.before.before.before.before.before.spot_by-po.ensures))
 
-wrote-a : (c : tie.After-over2 invariant-loop2 decreases-loop2 invariant-loop decreases-loop) → as_accounts c.before.before.before.before.before.before.before.before.before.before.before.before.before.before.before.before.before.before.before.before.before.before.before.before.before.before.before.before.before.before.before.before.before.before.before.before.before.before.before.before.before.before.before.before.loop.accounts.ids (set (set c.before.before.before.before.before.before.before.before.before.before.before.before.before.before.before.before.before.before.before.before.before.before.before.before.before.before.before.before.before.before.before.before.before.before.before.before.before.before.before.before.before.before.before.before.loop.accounts.rows c.before.before.before.before.before.before.before.before.before.before.before.before.before.before.before.spot-by4.result.at c.before.before.before.over.result) c.before.before.before.before.before.before.before.before.before.before.before.before.before.before.before.before.before.before.before.before.before.spot-by3.result.at c.over2.result) c.before.before.before.before.before.before.before.before.before.before.before.before.before.before.before.before.before.before.before.before.before.before.before.before.before.before.before.before.before.before.before.before.before.before.before.before.before.before.before.before.before.before.before.before.loop.accounts.count ≡ stored_accounts (put_by (put_by (accounts_of c.before.before.before.before.before.before.before.before.before.before.before.before.before.before.before.before.before.before.before.before.before.before.before.before.before.before.before.before.before.before.before.before.before.before.before.before.before.before.before.before.before.before.before.before.loop.accounts) c.before.before.before.before.before.before.before.before.before.before.before.before.before.before.before.before.before.before.before.before.before.before.before.before.before.key2.result c.before.before.before.before.before.before.before.before.before.before.before.turn.result.near.parties.second.row) c.before.before.before.before.before.before.before.before.before.before.before.before.before.before.before.before.before.before.before.before.before.before.before.before.before.before.before.before.before.before.before.before.before.before.before.before.before.before.before.names.result.first c.before.before.before.before.before.before.before.before.before.before.before.turn.result.near.parties.first.row)
-wrote-a c = accounts_wrote (shelved c.before.before.before.before.before.before.before.before.before.before.before.before.before.before.before.before.before.before.before.before.before.before.before.before.before.before.before.before.before.before.before.before.before.before.before.before.before.before.before).accounts c.before.before.before.before.before.before.before.before.before.before.before.before.before.before.before.before.before.before.before.before.before.before.before.before.before.before.before.before.before.before.before.before.before.before.before.before.before.before.before.names.result.first c.before.before.before.before.before.before.before.before.before.before.before.before.before.before.before.before.before.before.before.before.before.before.before.before.before.key2.result c.before.before.before.before.before.before.before.before.before.before.before.before.before.before.before.before.before.before.before.before.before.spot-by3.ensures c.before.before.before.before.before.before.before.before.before.before.before.before.before.before.before.spot-by4.ensures c.before.before.before.before.before.before.before.before.before.before.before.turn.result.near.parties.first.row c.before.before.before.before.before.before.before.before.before.before.before.turn.result.near.parties.second.row c.before.before.before.over.ensures c.over2.ensures
+wrote-a : (c : tie.After-over-ma invariant-loop2 decreases-loop2 invariant-loop decreases-loop) → as_accounts c.before.before.before.before.before.before.before.before.before.before.before.before.before.before.before.before.before.before.before.before.before.before.before.before.before.before.before.before.before.before.before.before.before.before.before.before.before.before.before.before.before.before.before.before.loop-c.accounts-1.ids (set (set c.before.before.before.before.before.before.before.before.before.before.before.before.before.before.before.before.before.before.before.before.before.before.before.before.before.before.before.before.before.before.before.before.before.before.before.before.before.before.before.before.before.before.before.before.loop-c.accounts-1.rows c.before.before.before.before.before.before.before.before.before.before.before.before.before.before.before.spot_by-pb.result.at-seen c.before.before.before.over-mb.result) c.before.before.before.before.before.before.before.before.before.before.before.before.before.before.before.before.before.before.before.before.before.spot_by-pa.result.at-seen c.over-ma.result) c.before.before.before.before.before.before.before.before.before.before.before.before.before.before.before.before.before.before.before.before.before.before.before.before.before.before.before.before.before.before.before.before.before.before.before.before.before.before.before.before.before.before.before.before.loop-c.accounts-1.count ≡ stored_accounts (put_by (put_by (accounts_of c.before.before.before.before.before.before.before.before.before.before.before.before.before.before.before.before.before.before.before.before.before.before.before.before.before.before.before.before.before.before.before.before.before.before.before.before.before.before.before.before.before.before.before.before.loop-c.accounts-1) c.before.before.before.before.before.before.before.before.before.before.before.before.before.before.before.before.before.before.before.before.before.before.before.before.before.key-kb.result c.before.before.before.before.before.before.before.before.before.before.before.turn-turn.result.near.parties.second.row) c.before.before.before.before.before.before.before.before.before.before.before.before.before.before.before.before.before.before.before.before.before.before.before.before.before.before.before.before.before.before.before.before.before.before.before.before.before.before.before.names-names.result.first c.before.before.before.before.before.before.before.before.before.before.before.turn-turn.result.near.parties.first.row)
+wrote-a c = accounts_wrote (shelved c.before.before.before.before.before.before.before.before.before.before.before.before.before.before.before.before.before.before.before.before.before.before.before.before.before.before.before.before.before.before.before.before.before.before.before.before.before.before.before).accounts-1 c.before.before.before.before.before.before.before.before.before.before.before.before.before.before.before.before.before.before.before.before.before.before.before.before.before.before.before.before.before.before.before.before.before.before.before.before.before.before.before.names-names.result.first c.before.before.before.before.before.before.before.before.before.before.before.before.before.before.before.before.before.before.before.before.before.before.before.before.before.key-kb.result c.before.before.before.before.before.before.before.before.before.before.before.before.before.before.before.before.before.before.before.before.before.spot_by-pa.ensures c.before.before.before.before.before.before.before.before.before.before.before.before.before.before.before.spot_by-pb.ensures c.before.before.before.before.before.before.before.before.before.before.before.turn-turn.result.near.parties.first.row c.before.before.before.before.before.before.before.before.before.before.before.turn-turn.result.near.parties.second.row c.before.before.before.over-mb.ensures c.over-ma.ensures
 
-wrote-i : (c : tie.After-over3 invariant-loop2 decreases-loop2 invariant-loop decreases-loop) → as_invoices c.before.before.before.before.before.before.before.before.before.before.before.before.before.before.before.before.before.before.before.before.before.before.before.before.before.before.before.before.before.before.before.before.before.before.before.before.before.before.before.before.before.before.before.before.before.before.loop.invoices.ids (set c.before.before.before.before.before.before.before.before.before.before.before.before.before.before.before.before.before.before.before.before.before.before.before.before.before.before.before.before.before.before.before.before.before.before.before.before.before.before.before.before.before.before.before.before.before.before.loop.invoices.rows c.before.before.before.before.before.before.before.before.before.before.before.before.before.before.before.before.before.before.before.before.before.before.before.before.before.before.before.before.before.before.spot-by2.result.at c.over3.result) c.before.before.before.before.before.before.before.before.before.before.before.before.before.before.before.before.before.before.before.before.before.before.before.before.before.before.before.before.before.before.before.before.before.before.before.before.before.before.before.before.before.before.before.before.before.before.loop.invoices.count ≡ stored_invoices (put_by (put_by (invoices_of c.before.before.before.before.before.before.before.before.before.before.before.before.before.before.before.before.before.before.before.before.before.before.before.before.before.before.before.before.before.before.before.before.before.before.before.before.before.before.before.before.before.before.before.before.before.before.loop.invoices) c.before.before.before.before.before.before.before.before.before.before.before.before.before.before.before.before.before.before.before.before.before.before.before.before.before.before.before.before.before.before.before.before.before.before.key.result c.before.before.before.before.before.before.before.before.before.before.before.before.before.turn.result.near.paper.row) c.before.before.before.before.before.before.before.before.before.before.before.before.before.before.before.before.before.before.before.before.before.before.before.before.before.before.before.before.before.before.before.before.before.before.key.result c.before.before.before.before.before.before.before.before.before.before.before.before.before.turn.result.near.paper.row)
-wrote-i c = once stored_invoices (invoices_of c.before.before.before.before.before.before.before.before.before.before.before.before.before.before.before.before.before.before.before.before.before.before.before.before.before.before.before.before.before.before.before.before.before.before.before.before.before.before.before.before.before.before.before.before.before.before.loop.invoices) c.before.before.before.before.before.before.before.before.before.before.before.before.before.before.before.before.before.before.before.before.before.before.before.before.before.before.before.before.before.before.before.before.before.before.key.result c.before.before.before.before.before.before.before.before.before.before.before.before.before.turn.result.near.paper.row (invoice_wrote (shelved c.before.before.before.before.before.before.before.before.before.before.before.before.before.before.before.before.before.before.before.before.before.before.before.before.before.before.before.before.before.before.before.before.before.before.before.before.before.before.before.before.before).invoices c.before.before.before.before.before.before.before.before.before.before.before.before.before.before.before.before.before.before.before.before.before.before.before.before.before.before.before.before.before.before.before.before.before.before.key.result c.before.before.before.before.before.before.before.before.before.before.before.before.before.before.before.before.before.before.before.before.before.before.before.before.before.before.before.before.before.before.spot-by2.ensures c.before.before.before.before.before.before.before.before.before.before.before.before.before.turn.result.near.paper.row c.over3.ensures)
+wrote-i : (c : tie.After-over-mi invariant-loop2 decreases-loop2 invariant-loop decreases-loop) → as_invoices c.before.before.before.before.before.before.before.before.before.before.before.before.before.before.before.before.before.before.before.before.before.before.before.before.before.before.before.before.before.before.before.before.before.before.before.before.before.before.before.before.before.before.before.before.before.before.loop-c.invoices-1.ids (set c.before.before.before.before.before.before.before.before.before.before.before.before.before.before.before.before.before.before.before.before.before.before.before.before.before.before.before.before.before.before.before.before.before.before.before.before.before.before.before.before.before.before.before.before.before.before.loop-c.invoices-1.rows c.before.before.before.before.before.before.before.before.before.before.before.before.before.before.before.before.before.before.before.before.before.before.before.before.before.before.before.before.before.before.spot_by-pi.result.at-seen c.over-mi.result) c.before.before.before.before.before.before.before.before.before.before.before.before.before.before.before.before.before.before.before.before.before.before.before.before.before.before.before.before.before.before.before.before.before.before.before.before.before.before.before.before.before.before.before.before.before.before.loop-c.invoices-1.count ≡ stored_invoices (put_by (put_by (invoices_of c.before.before.before.before.before.before.before.before.before.before.before.before.before.before.before.before.before.before.before.before.before.before.before.before.before.before.before.before.before.before.before.before.before.before.before.before.before.before.before.before.before.before.before.before.before.before.loop-c.invoices-1) c.before.before.before.before.before.before.before.before.before.before.before.before.before.before.before.before.before.before.before.before.before.before.before.before.before.before.before.before.before.before.before.before.before.before.key-key.result c.before.before.before.before.before.before.before.before.before.before.before.before.before.turn-turn.result.near.paper.row) c.before.before.before.before.before.before.before.before.before.before.before.before.before.before.before.before.before.before.before.before.before.before.before.before.before.before.before.before.before.before.before.before.before.before.key-key.result c.before.before.before.before.before.before.before.before.before.before.before.before.before.turn-turn.result.near.paper.row)
+wrote-i c = once stored_invoices (invoices_of c.before.before.before.before.before.before.before.before.before.before.before.before.before.before.before.before.before.before.before.before.before.before.before.before.before.before.before.before.before.before.before.before.before.before.before.before.before.before.before.before.before.before.before.before.before.before.loop-c.invoices-1) c.before.before.before.before.before.before.before.before.before.before.before.before.before.before.before.before.before.before.before.before.before.before.before.before.before.before.before.before.before.before.before.before.before.before.key-key.result c.before.before.before.before.before.before.before.before.before.before.before.before.before.turn-turn.result.near.paper.row (invoice_wrote (shelved c.before.before.before.before.before.before.before.before.before.before.before.before.before.before.before.before.before.before.before.before.before.before.before.before.before.before.before.before.before.before.before.before.before.before.before.before.before.before.before.before.before).invoices-1 c.before.before.before.before.before.before.before.before.before.before.before.before.before.before.before.before.before.before.before.before.before.before.before.before.before.before.before.before.before.before.before.before.before.before.key-key.result c.before.before.before.before.before.before.before.before.before.before.before.before.before.before.before.before.before.before.before.before.before.before.before.before.before.before.before.before.before.before.spot_by-pi.ensures c.before.before.before.before.before.before.before.before.before.before.before.before.before.turn-turn.result.near.paper.row c.over-mi.ensures)
 
-wrote-o : (c : tie.Joined2 invariant-loop2 decreases-loop2 invariant-loop decreases-loop) → c.if2.offers ≡ stored_deals (put_by (put_by (deals_of c.before.before.before.before.before.before.before.before.before.before.before.before.before.before.before.before.before.before.before.before.before.before.before.before.before.before.before.before.before.before.before.before.before.before.before.before.before.before.before.before.before.before.before.before.before.before.before.loop.offers) c.before.before.before.before.before.before.before.before.before.before.before.before.before.before.before.before.before.before.before.before.before.before.before.before.before.before.before.before.before.before.before.before.before.before.before.before.before.before.before.before.before.before.names.result.offer c.before.before.before.before.before.before.before.before.before.before.before.before.before.before.turn.result.near.deal.row) c.before.before.before.before.before.before.before.before.before.before.before.before.before.before.before.before.before.before.before.before.before.before.before.before.before.before.before.before.before.before.before.before.before.before.before.before.before.before.before.before.before.before.names.result.offer c.before.before.before.before.before.before.before.before.before.before.before.before.before.before.turn.result.near.deal.row)
-wrote-o c = once stored_deals (deals_of c.before.before.before.before.before.before.before.before.before.before.before.before.before.before.before.before.before.before.before.before.before.before.before.before.before.before.before.before.before.before.before.before.before.before.before.before.before.before.before.before.before.before.before.before.before.before.before.loop.offers) c.before.before.before.before.before.before.before.before.before.before.before.before.before.before.before.before.before.before.before.before.before.before.before.before.before.before.before.before.before.before.before.before.before.before.before.before.before.before.before.before.before.before.names.result.offer c.before.before.before.before.before.before.before.before.before.before.before.before.before.before.turn.result.near.deal.row (⊎_elim (λ t. t.4 ∙ deal_there (shelved c.before.before.before.before.before.before.before.before.before.before.before.before.before.before.before.before.before.before.before.before.before.before.before.before.before.before.before.before.before.before.before.before.before.before.before.before.before.before.before.before.before.before).offers no_deal.offer no_deal.negotiation no_deal.schedule c.before.before.before.before.before.before.before.before.before.before.before.before.before.before.before.before.before.before.before.before.before.before.before.before.before.before.before.before.before.before.before.before.before.before.before.before.before.before.before.before.before.before.names.result.offer c.before.before.before.before.before.before.before.before.before.before.before.before.before.before.before.before.before.before.before.before.before.before.before.before.before.before.before.before.before.before.before.before.before.before.before.before.before.before.spot-by.ensures c.before.before.before.before.before.before.before.before.before.before.before.before.before.before.turn.result.near.deal.row t.0.taken) (λ l. l.1 ∙ deal_gone (shelved c.before.before.before.before.before.before.before.before.before.before.before.before.before.before.before.before.before.before.before.before.before.before.before.before.before.before.before.before.before.before.before.before.before.before.before.before.before.before.before.before.before.before).offers no_deal.offer no_deal.negotiation no_deal.schedule c.before.before.before.before.before.before.before.before.before.before.before.before.before.before.before.before.before.before.before.before.before.before.before.before.before.before.before.before.before.before.before.before.before.before.before.before.before.before.before.before.before.before.names.result.offer c.before.before.before.before.before.before.before.before.before.before.before.before.before.before.before.before.before.before.before.before.before.before.before.before.before.before.before.before.before.before.before.before.before.before.before.before.before.before.spot-by.ensures c.before.before.before.before.before.before.before.before.before.before.before.before.before.before.turn.result.near.deal.row l.0.left) c.if2.branch)
+wrote-o : (c : tie.Joined-po-2 invariant-loop2 decreases-loop2 invariant-loop decreases-loop) → c.if-po-2.offers-1 ≡ stored_deals (put_by (put_by (deals_of c.before.before.before.before.before.before.before.before.before.before.before.before.before.before.before.before.before.before.before.before.before.before.before.before.before.before.before.before.before.before.before.before.before.before.before.before.before.before.before.before.before.before.before.before.before.before.before.loop-c.offers-1) c.before.before.before.before.before.before.before.before.before.before.before.before.before.before.before.before.before.before.before.before.before.before.before.before.before.before.before.before.before.before.before.before.before.before.before.before.before.before.before.before.before.before.names-names.result.offer-1 c.before.before.before.before.before.before.before.before.before.before.before.before.before.before.turn-turn.result.near.deal.row) c.before.before.before.before.before.before.before.before.before.before.before.before.before.before.before.before.before.before.before.before.before.before.before.before.before.before.before.before.before.before.before.before.before.before.before.before.before.before.before.before.before.before.names-names.result.offer-1 c.before.before.before.before.before.before.before.before.before.before.before.before.before.before.turn-turn.result.near.deal.row)
+wrote-o c = once stored_deals (deals_of c.before.before.before.before.before.before.before.before.before.before.before.before.before.before.before.before.before.before.before.before.before.before.before.before.before.before.before.before.before.before.before.before.before.before.before.before.before.before.before.before.before.before.before.before.before.before.before.loop-c.offers-1) c.before.before.before.before.before.before.before.before.before.before.before.before.before.before.before.before.before.before.before.before.before.before.before.before.before.before.before.before.before.before.before.before.before.before.before.before.before.before.before.before.before.before.names-names.result.offer-1 c.before.before.before.before.before.before.before.before.before.before.before.before.before.before.turn-turn.result.near.deal.row (⊎_elim (λ t. t.4 ∙ deal_there (shelved c.before.before.before.before.before.before.before.before.before.before.before.before.before.before.before.before.before.before.before.before.before.before.before.before.before.before.before.before.before.before.before.before.before.before.before.before.before.before.before.before.before.before).offers-1 no_deal.offer-1 no_deal.negotiation no_deal.schedule c.before.before.before.before.before.before.before.before.before.before.before.before.before.before.before.before.before.before.before.before.before.before.before.before.before.before.before.before.before.before.before.before.before.before.before.before.before.before.before.before.before.before.names-names.result.offer-1 c.before.before.before.before.before.before.before.before.before.before.before.before.before.before.before.before.before.before.before.before.before.before.before.before.before.before.before.before.before.before.before.before.before.before.before.before.before.before.spot_by-po.ensures c.before.before.before.before.before.before.before.before.before.before.before.before.before.before.turn-turn.result.near.deal.row t.0.taken) (λ l. l.1 ∙ deal_gone (shelved c.before.before.before.before.before.before.before.before.before.before.before.before.before.before.before.before.before.before.before.before.before.before.before.before.before.before.before.before.before.before.before.before.before.before.before.before.before.before.before.before.before.before).offers-1 no_deal.offer-1 no_deal.negotiation no_deal.schedule c.before.before.before.before.before.before.before.before.before.before.before.before.before.before.before.before.before.before.before.before.before.before.before.before.before.before.before.before.before.before.before.before.before.before.before.before.before.before.before.before.before.before.names-names.result.offer-1 c.before.before.before.before.before.before.before.before.before.before.before.before.before.before.before.before.before.before.before.before.before.before.before.before.before.before.before.before.before.before.before.before.before.before.before.before.before.before.spot_by-po.ensures c.before.before.before.before.before.before.before.before.before.before.before.before.before.before.turn-turn.result.near.deal.row l.0.left) c.if-po-2.branch)
 
-ids-o : (c : tie.Joined2 invariant-loop2 decreases-loop2 invariant-loop decreases-loop) → c.if2.offers.ids ≡ c.before.before.before.before.before.before.before.before.before.before.before.before.before.before.before.before.before.before.before.before.before.before.before.before.before.before.before.before.before.before.before.before.before.before.before.before.before.before.before.before.before.before.before.before.before.before.before.loop.offers.ids
-ids-o c = ⊎_elim (λ t. ap (λ z. z.ids) t.4) (λ l. ap (λ z. z.ids) l.1) c.if2.branch
+ids-o : (c : tie.Joined-po-2 invariant-loop2 decreases-loop2 invariant-loop decreases-loop) → c.if-po-2.offers-1.ids ≡ c.before.before.before.before.before.before.before.before.before.before.before.before.before.before.before.before.before.before.before.before.before.before.before.before.before.before.before.before.before.before.before.before.before.before.before.before.before.before.before.before.before.before.before.before.before.before.before.loop-c.offers-1.ids
+ids-o c = ⊎_elim (λ t. ap (λ z. z.ids) t.4) (λ l. ap (λ z. z.ids) l.1) c.if-po-2.branch
 
-count-o : (c : tie.Joined2 invariant-loop2 decreases-loop2 invariant-loop decreases-loop) → c.if2.offers.count ≡ c.before.before.before.before.before.before.before.before.before.before.before.before.before.before.before.before.before.before.before.before.before.before.before.before.before.before.before.before.before.before.before.before.before.before.before.before.before.before.before.before.before.before.before.before.before.before.before.loop.offers.count
-count-o c = ⊎_elim (λ t. ap (λ z. z.count) t.4) (λ l. ap (λ z. z.count) l.1) c.if2.branch
+count-o : (c : tie.Joined-po-2 invariant-loop2 decreases-loop2 invariant-loop decreases-loop) → c.if-po-2.offers-1.count ≡ c.before.before.before.before.before.before.before.before.before.before.before.before.before.before.before.before.before.before.before.before.before.before.before.before.before.before.before.before.before.before.before.before.before.before.before.before.before.before.before.before.before.before.before.before.before.before.before.loop-c.offers-1.count
+count-o c = ⊎_elim (λ t. ap (λ z. z.count) t.4) (λ l. ap (λ z. z.count) l.1) c.if-po-2.branch
 
-stored-a : (c : tie.Joined3 invariant-loop2 decreases-loop2 invariant-loop decreases-loop) → c.if3.accounts ≡ stored_accounts (next (step c.before.before.before.before.before.before.before.before.before.before.before.before.before.before.before.before.before)).accounts
-stored-a c = ⊎_elim (λ x. grows accounts_keeping account_row (λ r. refl) (left-a c.before.before.before.before.before.before.before.before.before.before.before.before.before.before.before.before.before) (wrote-a c.before.before.before.before.before.before) x.0.taken (x.3 ∙ (simp x.1.ensures at x.2.ensures) (room accounts_keeping account_row (λ r. refl) (left-a c.before.before.before.before.before.before.before.before.before.before.before.before.before.before.before.before.before) (wrote-a c.before.before.before.before.before.before) x.0.taken))) (λ x. x.1 ∙ stays accounts_keeping account_row (λ r. refl) (left-a c.before.before.before.before.before.before.before.before.before.before.before.before.before.before.before.before.before) (wrote-a c.before.before.before.before.before.before) x.0.left) c.if3.branch
+stored-a : (c : tie.Joined-pa-turn invariant-loop2 decreases-loop2 invariant-loop decreases-loop) → c.if-pa-turn.accounts-1 ≡ stored_accounts (next (step c.before.before.before.before.before.before.before.before.before.before.before.before.before.before.before.before.before)).accounts-1
+stored-a c = ⊎_elim (λ x. grows accounts_keeping account_row (λ r. refl) (left-a c.before.before.before.before.before.before.before.before.before.before.before.before.before.before.before.before.before) (wrote-a c.before.before.before.before.before.before) x.0.taken (x.3 ∙ (simp x.1.ensures at x.2.ensures) (room accounts_keeping account_row (λ r. refl) (left-a c.before.before.before.before.before.before.before.before.before.before.before.before.before.before.before.before.before) (wrote-a c.before.before.before.before.before.before) x.0.taken))) (λ x. x.1 ∙ stays accounts_keeping account_row (λ r. refl) (left-a c.before.before.before.before.before.before.before.before.before.before.before.before.before.before.before.before.before) (wrote-a c.before.before.before.before.before.before) x.0.left) c.if-pa-turn.branch
 
-stored-i : (c : tie.Joined4 invariant-loop2 decreases-loop2 invariant-loop decreases-loop) → c.if4.invoices ≡ stored_invoices (next (step c.before.before.before.before.before.before.before.before.before.before.before.before.before.before.before.before.before.before.before.before)).invoices
-stored-i c = ⊎_elim (λ x. grows invoices_keeping invoice_row (λ r. refl) (left-i c.before.before.before.before.before.before.before.before.before.before.before.before.before.before.before.before.before.before.before.before) (wrote-i c.before.before.before.before.before.before.before) x.0.taken (x.3 ∙ (simp x.1.ensures at x.2.ensures) (room invoices_keeping invoice_row (λ r. refl) (left-i c.before.before.before.before.before.before.before.before.before.before.before.before.before.before.before.before.before.before.before.before) (wrote-i c.before.before.before.before.before.before.before) x.0.taken))) (λ x. x.1 ∙ stays invoices_keeping invoice_row (λ r. refl) (left-i c.before.before.before.before.before.before.before.before.before.before.before.before.before.before.before.before.before.before.before.before) (wrote-i c.before.before.before.before.before.before.before) x.0.left) c.if4.branch
+stored-i : (c : tie.Joined-pi-turn invariant-loop2 decreases-loop2 invariant-loop decreases-loop) → c.if-pi-turn.invoices-1 ≡ stored_invoices (next (step c.before.before.before.before.before.before.before.before.before.before.before.before.before.before.before.before.before.before.before.before)).invoices-1
+stored-i c = ⊎_elim (λ x. grows invoices_keeping invoice_row (λ r. refl) (left-i c.before.before.before.before.before.before.before.before.before.before.before.before.before.before.before.before.before.before.before.before) (wrote-i c.before.before.before.before.before.before.before) x.0.taken (x.3 ∙ (simp x.1.ensures at x.2.ensures) (room invoices_keeping invoice_row (λ r. refl) (left-i c.before.before.before.before.before.before.before.before.before.before.before.before.before.before.before.before.before.before.before.before) (wrote-i c.before.before.before.before.before.before.before) x.0.taken))) (λ x. x.1 ∙ stays invoices_keeping invoice_row (λ r. refl) (left-i c.before.before.before.before.before.before.before.before.before.before.before.before.before.before.before.before.before.before.before.before) (wrote-i c.before.before.before.before.before.before.before) x.0.left) c.if-pi-turn.branch
 
-few-o : (c : tie.Then5 invariant-loop2 decreases-loop2 invariant-loop decreases-loop) → c.before.before.before.before.before.before.before.before.before.if2.offers.count < 64
-few-o c = room_count (good deals_keeping deal_row (λ r. refl) (left-o c.before.before.before.before.before.before.before.before.before.before.before.before.before.before.before.before.before.before.before.before.before.before.before) (wrote-o c.before.before.before.before.before.before.before.before.before)) (room deals_keeping deal_row (λ r. refl) (left-o c.before.before.before.before.before.before.before.before.before.before.before.before.before.before.before.before.before.before.before.before.before.before.before) (wrote-o c.before.before.before.before.before.before.before.before.before) c.if5.true)
+few-o : (c : tie.Then-po-turn invariant-loop2 decreases-loop2 invariant-loop decreases-loop) → c.before.before.before.before.before.before.before.before.before.if-po-2.offers-1.count < 64
+few-o c = room_count (good deals_keeping deal_row (λ r. refl) (left-o c.before.before.before.before.before.before.before.before.before.before.before.before.before.before.before.before.before.before.before.before.before.before.before) (wrote-o c.before.before.before.before.before.before.before.before.before)) (room deals_keeping deal_row (λ r. refl) (left-o c.before.before.before.before.before.before.before.before.before.before.before.before.before.before.before.before.before.before.before.before.before.before.before) (wrote-o c.before.before.before.before.before.before.before.before.before) c.if-po-turn.true)
 
-slot-o : (c : tie.Then5 invariant-loop2 decreases-loop2 invariant-loop decreases-loop) → find_in (take c.before.before.before.before.before.before.before.before.before.if2.offers.count c.before.before.before.before.before.before.before.before.before.if2.offers.ids) (id_of c.before.before.before.before.before.before.before.before.before.before.before.before.before.before.before.before.before.before.before.before.before.before.before.before.before.before.before.before.before.before.before.before.before.before.before.before.before.before.before.before.before.before.before.before.before.before.before.before.before.before.before.names.result.offer) ≡ Absent c.before.before.before.before.before.before.before.before.before.before.before.before.before.before.before.before.before.before.before.before.before.before.before.before.before.before.before.before.before.before.before.before.before.before.before.before.before.before.before.before.before.before.before.before.before.before.before.spot-by.result.slot
-slot-o c = ap (λ n. find_in (take n c.before.before.before.before.before.before.before.before.before.if2.offers.ids) (id_of c.before.before.before.before.before.before.before.before.before.before.before.before.before.before.before.before.before.before.before.before.before.before.before.before.before.before.before.before.before.before.before.before.before.before.before.before.before.before.before.before.before.before.before.before.before.before.before.before.before.before.before.names.result.offer)) (count-o c.before.before.before.before.before.before.before.before.before) ∙ ap (λ l. find_in (take c.before.before.before.before.before.before.before.before.before.before.before.before.before.before.before.before.before.before.before.before.before.before.before.before.before.before.before.before.before.before.before.before.before.before.before.before.before.before.before.before.before.before.before.before.before.before.before.before.before.before.before.before.before.before.before.before.loop.offers.count l) (id_of c.before.before.before.before.before.before.before.before.before.before.before.before.before.before.before.before.before.before.before.before.before.before.before.before.before.before.before.before.before.before.before.before.before.before.before.before.before.before.before.before.before.before.before.before.before.before.before.before.before.before.before.names.result.offer)) (ids-o c.before.before.before.before.before.before.before.before.before) ∙ spot_slot _ c.before.before.before.before.before.before.before.before.before.before.before.before.before.before.before.before.before.before.before.before.before.before.before.before.before.before.before.before.before.before.before.before.before.before.before.before.before.before.before.before.before.before.before.before.before.before.before.before.before.before.before.names.result.offer c.before.before.before.before.before.before.before.before.before.before.before.before.before.before.before.before.before.before.before.before.before.before.before.before.before.before.before.before.before.before.before.before.before.before.before.before.before.before.before.before.before.before.before.before.before.before.before.spot-by.ensures (named deals_keeping deal_row (λ r. refl) (left-o c.before.before.before.before.before.before.before.before.before.before.before.before.before.before.before.before.before.before.before.before.before.before.before) (wrote-o c.before.before.before.before.before.before.before.before.before) c.if5.true) (came_new _ _ c.if5.true)
+slot-o : (c : tie.Then-po-turn invariant-loop2 decreases-loop2 invariant-loop decreases-loop) → find_in (take c.before.before.before.before.before.before.before.before.before.if-po-2.offers-1.count c.before.before.before.before.before.before.before.before.before.if-po-2.offers-1.ids) (id_of c.before.before.before.before.before.before.before.before.before.before.before.before.before.before.before.before.before.before.before.before.before.before.before.before.before.before.before.before.before.before.before.before.before.before.before.before.before.before.before.before.before.before.before.before.before.before.before.before.before.before.before.names-names.result.offer-1) ≡ Absent c.before.before.before.before.before.before.before.before.before.before.before.before.before.before.before.before.before.before.before.before.before.before.before.before.before.before.before.before.before.before.before.before.before.before.before.before.before.before.before.before.before.before.before.before.before.before.before.spot_by-po.result.slot
+slot-o c = ap (λ n. find_in (take n c.before.before.before.before.before.before.before.before.before.if-po-2.offers-1.ids) (id_of c.before.before.before.before.before.before.before.before.before.before.before.before.before.before.before.before.before.before.before.before.before.before.before.before.before.before.before.before.before.before.before.before.before.before.before.before.before.before.before.before.before.before.before.before.before.before.before.before.before.before.before.names-names.result.offer-1)) (count-o c.before.before.before.before.before.before.before.before.before) ∙ ap (λ l. find_in (take c.before.before.before.before.before.before.before.before.before.before.before.before.before.before.before.before.before.before.before.before.before.before.before.before.before.before.before.before.before.before.before.before.before.before.before.before.before.before.before.before.before.before.before.before.before.before.before.before.before.before.before.before.before.before.before.before.loop-c.offers-1.count l) (id_of c.before.before.before.before.before.before.before.before.before.before.before.before.before.before.before.before.before.before.before.before.before.before.before.before.before.before.before.before.before.before.before.before.before.before.before.before.before.before.before.before.before.before.before.before.before.before.before.before.before.before.before.names-names.result.offer-1)) (ids-o c.before.before.before.before.before.before.before.before.before) ∙ spot_slot _ c.before.before.before.before.before.before.before.before.before.before.before.before.before.before.before.before.before.before.before.before.before.before.before.before.before.before.before.before.before.before.before.before.before.before.before.before.before.before.before.before.before.before.before.before.before.before.before.before.before.before.before.names-names.result.offer-1 c.before.before.before.before.before.before.before.before.before.before.before.before.before.before.before.before.before.before.before.before.before.before.before.before.before.before.before.before.before.before.before.before.before.before.before.before.before.before.before.before.before.before.before.before.before.before.before.spot_by-po.ensures (named deals_keeping deal_row (λ r. refl) (left-o c.before.before.before.before.before.before.before.before.before.before.before.before.before.before.before.before.before.before.before.before.before.before.before) (wrote-o c.before.before.before.before.before.before.before.before.before) c.if-po-turn.true) (came_new _ _ c.if-po-turn.true)
 
-stored-o : (c : tie.Joined5 invariant-loop2 decreases-loop2 invariant-loop decreases-loop) → c.if5.offers ≡ stored_deals (next (step c.before.before.before.before.before.before.before.before.before.before.before.before.before.before.before.before.before.before.before.before.before.before.before)).offers
-stored-o c = ⊎_elim (λ x. grows deals_keeping deal_row (λ r. refl) (left-o c.before.before.before.before.before.before.before.before.before.before.before.before.before.before.before.before.before.before.before.before.before.before.before) (wrote-o c.before.before.before.before.before.before.before.before.before) x.0.taken (x.7 ∙ deal_let_in x.1.inv (good deals_keeping deal_row (λ r. refl) (left-o c.before.before.before.before.before.before.before.before.before.before.before.before.before.before.before.before.before.before.before.before.before.before.before) (wrote-o c.before.before.before.before.before.before.before.before.before)) x.6.result c.before.before.before.before.before.before.before.before.before.before.before.before.before.before.before.before.before.before.before.before.before.before.before.turn.result.near.deal.row (few-o (record { before = c.before; if5 = x.0 })) (rw x.6.ensures (slot-o (record { before = c.before; if5 = x.0 }))) (omega (arith, x.2.left)) ∙ ap (λ z. stored_deals (insert (deals_of c.before.before.before.before.before.before.before.before.before.if2.offers) z c.before.before.before.before.before.before.before.before.before.before.before.before.before.before.before.before.before.before.before.before.before.before.before.turn.result.near.deal.row)) x.6.ensures)) (λ x. x.1 ∙ stays deals_keeping deal_row (λ r. refl) (left-o c.before.before.before.before.before.before.before.before.before.before.before.before.before.before.before.before.before.before.before.before.before.before.before) (wrote-o c.before.before.before.before.before.before.before.before.before) x.0.left) c.if5.branch
+stored-o : (c : tie.Joined-po-turn invariant-loop2 decreases-loop2 invariant-loop decreases-loop) → c.if-po-turn.offers-1 ≡ stored_deals (next (step c.before.before.before.before.before.before.before.before.before.before.before.before.before.before.before.before.before.before.before.before.before.before.before)).offers-1
+stored-o c = ⊎_elim (λ x. grows deals_keeping deal_row (λ r. refl) (left-o c.before.before.before.before.before.before.before.before.before.before.before.before.before.before.before.before.before.before.before.before.before.before.before) (wrote-o c.before.before.before.before.before.before.before.before.before) x.0.taken (x.7 ∙ deal_let_in x.1.inv (good deals_keeping deal_row (λ r. refl) (left-o c.before.before.before.before.before.before.before.before.before.before.before.before.before.before.before.before.before.before.before.before.before.before.before) (wrote-o c.before.before.before.before.before.before.before.before.before)) x.6.result c.before.before.before.before.before.before.before.before.before.before.before.before.before.before.before.before.before.before.before.before.before.before.before.turn-turn.result.near.deal.row (few-o (record { before = c.before; if5 = x.0 })) (rw x.6.ensures (slot-o (record { before = c.before; if5 = x.0 }))) (omega (arith, x.2.left)) ∙ ap (λ z. stored_deals (insert (deals_of c.before.before.before.before.before.before.before.before.before.if-po-2.offers-1) z c.before.before.before.before.before.before.before.before.before.before.before.before.before.before.before.before.before.before.before.before.before.before.before.turn-turn.result.near.deal.row)) x.6.ensures)) (λ x. x.1 ∙ stays deals_keeping deal_row (λ r. refl) (left-o c.before.before.before.before.before.before.before.before.before.before.before.before.before.before.before.before.before.before.before.before.before.before.before) (wrote-o c.before.before.before.before.before.before.before.before.before) x.0.left) c.if-po-turn.branch
 
-loop-holds : tie.Need-loop-init invariant-loop2 decreases-loop2 invariant-loop decreases-loop
+loop-holds : tie.Need-loop-c-init invariant-loop2 decreases-loop2 invariant-loop decreases-loop
 loop-holds c = going c.before.before.before.before.before.before.before.requires.0 (held c.before.before.before.before.before.before.before.requires.1)
 
-read-requires : tie.Need-read-requires invariant-loop2 decreases-loop2 invariant-loop decreases-loop
+read-requires : tie.Need-read-d-requires invariant-loop2 decreases-loop2 invariant-loop decreases-loop
 read-requires c κs = search rules
 
-enum-known-d : tie.Need-enum-known-d invariant-loop2 decreases-loop2 invariant-loop decreases-loop
+enum-known-d : tie.Need-enum_known-d invariant-loop2 decreases-loop2 invariant-loop decreases-loop
 enum-known-d c = search rules
 
-names-requires : tie.Need-names-requires invariant-loop2 decreases-loop2 invariant-loop decreases-loop
+names-requires : tie.Need-names-names-requires invariant-loop2 decreases-loop2 invariant-loop decreases-loop
 names-requires c κs = search rules
 
-spot-by-requires : tie.Need-spot-by-requires invariant-loop2 decreases-loop2 invariant-loop decreases-loop
+spot-by-requires : tie.Need-spot_by-po-requires invariant-loop2 decreases-loop2 invariant-loop decreases-loop
 spot-by-requires c κs = search rules
 
-none-requires : tie.Need-none-requires invariant-loop2 decreases-loop2 invariant-loop decreases-loop
+none-requires : tie.Need-none-deal-requires invariant-loop2 decreases-loop2 invariant-loop decreases-loop
 none-requires c κs = search rules
 
-mul-o : tie.Need-overflow-mul-o invariant-loop2 decreases-loop2 invariant-loop decreases-loop
+mul-o : tie.Need-offset_bounds-offers-io invariant-loop2 decreases-loop2 invariant-loop decreases-loop
 mul-o c = omega (arith, below-o c.before.before)
 
-element-copy-out-o : tie.Need-element-copy-out-o invariant-loop2 decreases-loop2 invariant-loop decreases-loop
+element-copy-out-o : tie.Need-bounds-offers-io invariant-loop2 decreases-loop2 invariant-loop decreases-loop
 element-copy-out-o c = omega (arith, below-o c.before.before)
 
-mul-g : tie.Need-overflow-mul-g invariant-loop2 decreases-loop2 invariant-loop decreases-loop
+mul-g : tie.Need-offset_bounds-offers-io-then-po invariant-loop2 decreases-loop2 invariant-loop decreases-loop
 mul-g c = omega (arith, below-o c.before.before.before)
 
-element-copy-out-g : tie.Need-element-copy-out-g invariant-loop2 decreases-loop2 invariant-loop decreases-loop
+element-copy-out-g : tie.Need-bounds-offers-io-then-po invariant-loop2 decreases-loop2 invariant-loop decreases-loop
 element-copy-out-g c = omega (arith, below-o c.before.before.before)
 
-mul-p : tie.Need-overflow-mul-p invariant-loop2 decreases-loop2 invariant-loop decreases-loop
+mul-p : tie.Need-offset_bounds-offers-io-then-po-2 invariant-loop2 decreases-loop2 invariant-loop decreases-loop
 mul-p c = omega (arith, below-o c.before.before.before.before)
 
-element-copy-out-p : tie.Need-element-copy-out-p invariant-loop2 decreases-loop2 invariant-loop decreases-loop
+element-copy-out-p : tie.Need-bounds-offers-io-then-po-2 invariant-loop2 decreases-loop2 invariant-loop decreases-loop
 element-copy-out-p c = omega (arith, below-o c.before.before.before.before)
 
-key-requires : tie.Need-key-requires invariant-loop2 decreases-loop2 invariant-loop decreases-loop
+key-requires : tie.Need-key-key-requires invariant-loop2 decreases-loop2 invariant-loop decreases-loop
 key-requires c κs = search rules
 
-spot-by-requires-2 : tie.Need-spot-by-requires-2 invariant-loop2 decreases-loop2 invariant-loop decreases-loop
+spot-by-requires-2 : tie.Need-spot_by-pi-requires invariant-loop2 decreases-loop2 invariant-loop decreases-loop
 spot-by-requires-2 c κs = search rules
 
-mul-v : tie.Need-overflow-mul-v invariant-loop2 decreases-loop2 invariant-loop decreases-loop
+mul-v : tie.Need-offset_bounds-invoices-ii invariant-loop2 decreases-loop2 invariant-loop decreases-loop
 mul-v c = omega (arith, below-i c)
 
-element-copy-out-v : tie.Need-element-copy-out-v invariant-loop2 decreases-loop2 invariant-loop decreases-loop
+element-copy-out-v : tie.Need-bounds-invoices-ii invariant-loop2 decreases-loop2 invariant-loop decreases-loop
 element-copy-out-v c = omega (arith, below-i c)
 
-at-requires : tie.Need-at-requires invariant-loop2 decreases-loop2 invariant-loop decreases-loop
+at-requires : tie.Need-at-seen-requires invariant-loop2 decreases-loop2 invariant-loop decreases-loop
 at-requires c κs = search rules
 
-key-requires-2 : tie.Need-key-requires-2 invariant-loop2 decreases-loop2 invariant-loop decreases-loop
+key-requires-2 : tie.Need-key-kb-requires invariant-loop2 decreases-loop2 invariant-loop decreases-loop
 key-requires-2 c κs = search rules
 
-spot-by-requires-3 : tie.Need-spot-by-requires-3 invariant-loop2 decreases-loop2 invariant-loop decreases-loop
+spot-by-requires-3 : tie.Need-spot_by-pa-requires invariant-loop2 decreases-loop2 invariant-loop decreases-loop
 spot-by-requires-3 c κs = search rules
 
-mul-va : tie.Need-overflow-mul-va invariant-loop2 decreases-loop2 invariant-loop decreases-loop
+mul-va : tie.Need-offset_bounds-accounts-ia invariant-loop2 decreases-loop2 invariant-loop decreases-loop
 mul-va c = omega (arith, below-a c)
 
-element-copy-out-va : tie.Need-element-copy-out-va invariant-loop2 decreases-loop2 invariant-loop decreases-loop
+element-copy-out-va : tie.Need-bounds-accounts-ia invariant-loop2 decreases-loop2 invariant-loop decreases-loop
 element-copy-out-va c = omega (arith, below-a c)
 
-at-requires-2 : tie.Need-at-requires-2 invariant-loop2 decreases-loop2 invariant-loop decreases-loop
+at-requires-2 : tie.Need-at-sa-requires invariant-loop2 decreases-loop2 invariant-loop decreases-loop
 at-requires-2 c κs = search rules
 
-spot-by-requires-4 : tie.Need-spot-by-requires-4 invariant-loop2 decreases-loop2 invariant-loop decreases-loop
+spot-by-requires-4 : tie.Need-spot_by-pb-requires invariant-loop2 decreases-loop2 invariant-loop decreases-loop
 spot-by-requires-4 c κs = search rules
 
-mul-vb : tie.Need-overflow-mul-vb invariant-loop2 decreases-loop2 invariant-loop decreases-loop
+mul-vb : tie.Need-offset_bounds-accounts-ib invariant-loop2 decreases-loop2 invariant-loop decreases-loop
 mul-vb c = omega (arith, below-b c)
 
-element-copy-out-vb : tie.Need-element-copy-out-vb invariant-loop2 decreases-loop2 invariant-loop decreases-loop
+element-copy-out-vb : tie.Need-bounds-accounts-ib invariant-loop2 decreases-loop2 invariant-loop decreases-loop
 element-copy-out-vb c = omega (arith, below-b c)
 
-at-requires-3 : tie.Need-at-requires-3 invariant-loop2 decreases-loop2 invariant-loop decreases-loop
+at-requires-3 : tie.Need-at-sb-requires invariant-loop2 decreases-loop2 invariant-loop decreases-loop
 at-requires-3 c κs = search rules
 
-same-requires : tie.Need-same-requires invariant-loop2 decreases-loop2 invariant-loop decreases-loop
+same-requires : tie.Need-same-one-requires invariant-loop2 decreases-loop2 invariant-loop decreases-loop
 same-requires c κs = search rules
 
-turn-requires : tie.Need-turn-requires invariant-loop2 decreases-loop2 invariant-loop decreases-loop
+turn-requires : tie.Need-turn-turn-requires invariant-loop2 decreases-loop2 invariant-loop decreases-loop
 turn-requires c κs = search rules
 
-add-put-answer : tie.Need-overflow-add-put-answer invariant-loop2 decreases-loop2 invariant-loop decreases-loop
+add-put-answer : tie.Need-overflow_add-k invariant-loop2 decreases-loop2 invariant-loop decreases-loop
 add-put-answer c = more c.before.before.before.before.before.before.before.before.before.before.before.before.before.before.before.before.before.before.before.before.before.before.before.before.before.before.before.before.before
 
-put-answer-requires : tie.Need-put-answer-requires invariant-loop2 decreases-loop2 invariant-loop decreases-loop
+put-answer-requires : tie.Need-put_answer-pen-requires invariant-loop2 decreases-loop2 invariant-loop decreases-loop
 put-answer-requires c κs = search rules
 
-over-requires : tie.Need-over-requires invariant-loop2 decreases-loop2 invariant-loop decreases-loop
+over-requires : tie.Need-over-mb-requires invariant-loop2 decreases-loop2 invariant-loop decreases-loop
 over-requires c κs = search rules
 
-mul-mb : tie.Need-overflow-mul-mb invariant-loop2 decreases-loop2 invariant-loop decreases-loop
+mul-mb : tie.Need-offset_bounds-accounts-ib-in-Command invariant-loop2 decreases-loop2 invariant-loop decreases-loop
 mul-mb c = omega (arith, below-b c.before.before.before.before.before.before.before.before.before.before.before.before)
 
-element-set-from-mb : tie.Need-element-set-from-mb invariant-loop2 decreases-loop2 invariant-loop decreases-loop
+element-set-from-mb : tie.Need-bounds-accounts-ib-in-Command invariant-loop2 decreases-loop2 invariant-loop decreases-loop
 element-set-from-mb c = omega (arith, below-b c.before.before.before.before.before.before.before.before.before.before.before.before)
 
-mul-old : tie.Need-overflow-mul-old invariant-loop2 decreases-loop2 invariant-loop decreases-loop
+mul-old : tie.Need-offset_bounds-accounts-ia-in-Command invariant-loop2 decreases-loop2 invariant-loop decreases-loop
 mul-old c = omega (arith, below-a c.before.before.before.before.before.before.before.before.before.before.before.before.before.before.before.before.before.before)
 
-element-copy-out-old : tie.Need-element-copy-out-old invariant-loop2 decreases-loop2 invariant-loop decreases-loop
+element-copy-out-old : tie.Need-bounds-accounts-ia-in-Command invariant-loop2 decreases-loop2 invariant-loop decreases-loop
 element-copy-out-old c = omega (arith, below-a c.before.before.before.before.before.before.before.before.before.before.before.before.before.before.before.before.before.before)
 
-over-requires-2 : tie.Need-over-requires-2 invariant-loop2 decreases-loop2 invariant-loop decreases-loop
+over-requires-2 : tie.Need-over-ma-requires invariant-loop2 decreases-loop2 invariant-loop decreases-loop
 over-requires-2 c κs = search rules
 
-mul-ma : tie.Need-overflow-mul-ma invariant-loop2 decreases-loop2 invariant-loop decreases-loop
+mul-ma : tie.Need-offset_bounds-accounts-ia-in-Command-2 invariant-loop2 decreases-loop2 invariant-loop decreases-loop
 mul-ma c = omega (arith, below-a c.before.before.before.before.before.before.before.before.before.before.before.before.before.before.before.before.before.before.before.before.before)
 
-element-set-from-ma : tie.Need-element-set-from-ma invariant-loop2 decreases-loop2 invariant-loop decreases-loop
+element-set-from-ma : tie.Need-bounds-accounts-ia-in-Command-2 invariant-loop2 decreases-loop2 invariant-loop decreases-loop
 element-set-from-ma c = omega (arith, below-a c.before.before.before.before.before.before.before.before.before.before.before.before.before.before.before.before.before.before.before.before.before)
 
-over-requires-3 : tie.Need-over-requires-3 invariant-loop2 decreases-loop2 invariant-loop decreases-loop
+over-requires-3 : tie.Need-over-mi-requires invariant-loop2 decreases-loop2 invariant-loop decreases-loop
 over-requires-3 c κs = search rules
 
-mul-mi : tie.Need-overflow-mul-mi invariant-loop2 decreases-loop2 invariant-loop decreases-loop
+mul-mi : tie.Need-offset_bounds-invoices-ii-in-Command invariant-loop2 decreases-loop2 invariant-loop decreases-loop
 mul-mi c = omega (arith, below-i c.before.before.before.before.before.before.before.before.before.before.before.before.before.before.before.before.before.before.before.before.before.before.before.before.before.before.before.before.before.before)
 
-element-set-from-mi : tie.Need-element-set-from-mi invariant-loop2 decreases-loop2 invariant-loop decreases-loop
+element-set-from-mi : tie.Need-bounds-invoices-ii-in-Command invariant-loop2 decreases-loop2 invariant-loop decreases-loop
 element-set-from-mi c = omega (arith, below-i c.before.before.before.before.before.before.before.before.before.before.before.before.before.before.before.before.before.before.before.before.before.before.before.before.before.before.before.before.before.before)
 
-mul-offer : tie.Need-overflow-mul-offer invariant-loop2 decreases-loop2 invariant-loop decreases-loop
+mul-offer : tie.Need-offset_bounds-offers-io-then-po-2-2 invariant-loop2 decreases-loop2 invariant-loop decreases-loop
 mul-offer c = omega (arith, below-o c.before.before.before.before.before.before.before.before.before.before.before.before.before.before.before.before.before.before.before.before.before.before.before.before.before.before.before.before.before.before.before.before.before.before.before.before.before.before.before.before.before)
 
-element-set-from-offer : tie.Need-element-set-from-offer invariant-loop2 decreases-loop2 invariant-loop decreases-loop
+element-set-from-offer : tie.Need-bounds-offers-io-then-po-2-2 invariant-loop2 decreases-loop2 invariant-loop decreases-loop
 element-set-from-offer c = omega (arith, below-o c.before.before.before.before.before.before.before.before.before.before.before.before.before.before.before.before.before.before.before.before.before.before.before.before.before.before.before.before.before.before.before.before.before.before.before.before.before.before.before.before.before)
 
-mul-talk : tie.Need-overflow-mul-talk invariant-loop2 decreases-loop2 invariant-loop decreases-loop
+mul-talk : tie.Need-offset_bounds-offers-io-then-po-2-3 invariant-loop2 decreases-loop2 invariant-loop decreases-loop
 mul-talk c = omega (arith, below-o c.before.before.before.before.before.before.before.before.before.before.before.before.before.before.before.before.before.before.before.before.before.before.before.before.before.before.before.before.before.before.before.before.before.before.before.before.before.before.before.before.before)
 
-element-set-from-talk : tie.Need-element-set-from-talk invariant-loop2 decreases-loop2 invariant-loop decreases-loop
+element-set-from-talk : tie.Need-bounds-offers-io-then-po-2-3 invariant-loop2 decreases-loop2 invariant-loop decreases-loop
 element-set-from-talk c = omega (arith, below-o c.before.before.before.before.before.before.before.before.before.before.before.before.before.before.before.before.before.before.before.before.before.before.before.before.before.before.before.before.before.before.before.before.before.before.before.before.before.before.before.before.before)
 
-mul-plan : tie.Need-overflow-mul-plan invariant-loop2 decreases-loop2 invariant-loop decreases-loop
+mul-plan : tie.Need-offset_bounds-offers-io-then-po-2-4 invariant-loop2 decreases-loop2 invariant-loop decreases-loop
 mul-plan c = omega (arith, below-o c.before.before.before.before.before.before.before.before.before.before.before.before.before.before.before.before.before.before.before.before.before.before.before.before.before.before.before.before.before.before.before.before.before.before.before.before.before.before.before.before.before)
 
-element-set-from-plan : tie.Need-element-set-from-plan invariant-loop2 decreases-loop2 invariant-loop decreases-loop
+element-set-from-plan : tie.Need-bounds-offers-io-then-po-2-4 invariant-loop2 decreases-loop2 invariant-loop decreases-loop
 element-set-from-plan c = omega (arith, below-o c.before.before.before.before.before.before.before.before.before.before.before.before.before.before.before.before.before.before.before.before.before.before.before.before.before.before.before.before.before.before.before.before.before.before.before.before.before.before.before.before.before)
 
 id-requires : tie.Need-id-requires invariant-loop2 decreases-loop2 invariant-loop decreases-loop
 id-requires c κs = search rules
 
-let-in-requires : tie.Need-let-in-requires invariant-loop2 decreases-loop2 invariant-loop decreases-loop
+let-in-requires : tie.Need-let_in-more-requires invariant-loop2 decreases-loop2 invariant-loop decreases-loop
 let-in-requires c κs = good accounts_keeping account_row (λ r. refl) (left-a c.before.before.before.before.before.before.before.before.before.before.before.before.before.before.before.before.before.before) (wrote-a c.before.before.before.before.before.before.before)
 
-id-requires-2 : tie.Need-id-requires-2 invariant-loop2 decreases-loop2 invariant-loop decreases-loop
+id-requires-2 : tie.Need-id-requires-then-pi-turn invariant-loop2 decreases-loop2 invariant-loop decreases-loop
 id-requires-2 c κs = search rules
 
-let-in-requires-2 : tie.Need-let-in-requires-2 invariant-loop2 decreases-loop2 invariant-loop decreases-loop
+let-in-requires-2 : tie.Need-let_in-more-requires-then-pi-turn invariant-loop2 decreases-loop2 invariant-loop decreases-loop
 let-in-requires-2 c κs = good invoices_keeping invoice_row (λ r. refl) (left-i c.before.before.before.before.before.before.before.before.before.before.before.before.before.before.before.before.before.before.before.before.before) (wrote-i c.before.before.before.before.before.before.before.before)
 
-loop2-holds : tie.Need-loop2-init invariant-loop2 decreases-loop2 invariant-loop decreases-loop
+loop2-holds : tie.Need-loop-j-init invariant-loop2 decreases-loop2 invariant-loop decreases-loop
 loop2-holds c = moves (good deals_keeping deal_row (λ r. refl) (left-o c.before.before.before.before.before.before.before.before.before.before.before.before.before.before.before.before.before.before.before.before.before.before.before) (wrote-o c.before.before.before.before.before.before.before.before.before)) (slot_inside _ _ _ _ (slot-o c))
 
-sub-i : tie.Need-overflow-sub-i invariant-loop2 decreases-loop2 invariant-loop decreases-loop
-sub-i c = omega (arith, c.loop2-test.true)
+sub-i : tie.Need-overflow_sub-i invariant-loop2 decreases-loop2 invariant-loop decreases-loop
+sub-i c = omega (arith, c.loop-j-test.true)
 
-mul-offers : tie.Need-overflow-mul-offers invariant-loop2 decreases-loop2 invariant-loop decreases-loop
-mul-offers c = omega (arith, c.loop2-test.true, c.before.loop2.invariant.place.within, few-o c.before.before)
+mul-offers : tie.Need-offset_bounds-offers-i invariant-loop2 decreases-loop2 invariant-loop decreases-loop
+mul-offers c = omega (arith, c.loop-j-test.true, c.before.loop-j.invariant.place.within, few-o c.before.before)
 
-element-copy-out-offers : tie.Need-element-copy-out-offers invariant-loop2 decreases-loop2 invariant-loop decreases-loop
-element-copy-out-offers c = omega (arith, c.loop2-test.true, c.before.loop2.invariant.place.within, few-o c.before.before)
+element-copy-out-offers : tie.Need-bounds-offers-i invariant-loop2 decreases-loop2 invariant-loop decreases-loop
+element-copy-out-offers c = omega (arith, c.loop-j-test.true, c.before.loop-j.invariant.place.within, few-o c.before.before)
 
-mul-offers-2 : tie.Need-overflow-mul-offers-2 invariant-loop2 decreases-loop2 invariant-loop decreases-loop
-mul-offers-2 c = omega (arith, c.before.loop2-test.true, c.before.before.loop2.invariant.place.within, few-o c.before.before.before)
+mul-offers-2 : tie.Need-offset_bounds-offers-j invariant-loop2 decreases-loop2 invariant-loop decreases-loop
+mul-offers-2 c = omega (arith, c.before.loop-j-test.true, c.before.before.loop-j.invariant.place.within, few-o c.before.before.before)
 
-element-write-offers : tie.Need-element-write-offers invariant-loop2 decreases-loop2 invariant-loop decreases-loop
-element-write-offers c = omega (arith, c.before.loop2-test.true, c.before.before.loop2.invariant.place.within, few-o c.before.before.before)
+element-write-offers : tie.Need-bounds-offers-j invariant-loop2 decreases-loop2 invariant-loop decreases-loop
+element-write-offers c = omega (arith, c.before.loop-j-test.true, c.before.before.loop-j.invariant.place.within, few-o c.before.before.before)
 
-mul-offers-3 : tie.Need-overflow-mul-offers-3 invariant-loop2 decreases-loop2 invariant-loop decreases-loop
-mul-offers-3 c = omega (arith, c.before.loop2-test.true, c.before.before.loop2.invariant.place.within, few-o c.before.before.before)
+mul-offers-3 : tie.Need-offset_bounds-offers-i-in-loop-j invariant-loop2 decreases-loop2 invariant-loop decreases-loop
+mul-offers-3 c = omega (arith, c.before.loop-j-test.true, c.before.before.loop-j.invariant.place.within, few-o c.before.before.before)
 
-element-copy-out-offers-2 : tie.Need-element-copy-out-offers-2 invariant-loop2 decreases-loop2 invariant-loop decreases-loop
-element-copy-out-offers-2 c = omega (arith, c.before.loop2-test.true, c.before.before.loop2.invariant.place.within, few-o c.before.before.before)
+element-copy-out-offers-2 : tie.Need-bounds-offers-i-in-loop-j invariant-loop2 decreases-loop2 invariant-loop decreases-loop
+element-copy-out-offers-2 c = omega (arith, c.before.loop-j-test.true, c.before.before.loop-j.invariant.place.within, few-o c.before.before.before)
 
-mul-t130 : tie.Need-overflow-mul-t130 invariant-loop2 decreases-loop2 invariant-loop decreases-loop
-mul-t130 c = omega (arith, c.before.before.loop2-test.true, c.before.before.before.loop2.invariant.place.within, few-o c.before.before.before.before)
+mul-t130 : tie.Need-offset_bounds-offers-j-in-loop-j invariant-loop2 decreases-loop2 invariant-loop decreases-loop
+mul-t130 c = omega (arith, c.before.before.loop-j-test.true, c.before.before.before.loop-j.invariant.place.within, few-o c.before.before.before.before)
 
-element-set-from-offers : tie.Need-element-set-from-offers invariant-loop2 decreases-loop2 invariant-loop decreases-loop
-element-set-from-offers c = omega (arith, c.before.before.loop2-test.true, c.before.before.before.loop2.invariant.place.within, few-o c.before.before.before.before)
+element-set-from-offers : tie.Need-bounds-offers-j-in-loop-j invariant-loop2 decreases-loop2 invariant-loop decreases-loop
+element-set-from-offers c = omega (arith, c.before.before.loop-j-test.true, c.before.before.before.loop-j.invariant.place.within, few-o c.before.before.before.before)
 
-mul-offers-4 : tie.Need-overflow-mul-offers-4 invariant-loop2 decreases-loop2 invariant-loop decreases-loop
-mul-offers-4 c = omega (arith, c.before.before.loop2-test.true, c.before.before.before.loop2.invariant.place.within, few-o c.before.before.before.before)
+mul-offers-4 : tie.Need-offset_bounds-offers-i-in-loop-j-2 invariant-loop2 decreases-loop2 invariant-loop decreases-loop
+mul-offers-4 c = omega (arith, c.before.before.loop-j-test.true, c.before.before.before.loop-j.invariant.place.within, few-o c.before.before.before.before)
 
-element-copy-out-offers-3 : tie.Need-element-copy-out-offers-3 invariant-loop2 decreases-loop2 invariant-loop decreases-loop
-element-copy-out-offers-3 c = omega (arith, c.before.before.loop2-test.true, c.before.before.before.loop2.invariant.place.within, few-o c.before.before.before.before)
+element-copy-out-offers-3 : tie.Need-bounds-offers-i-in-loop-j-2 invariant-loop2 decreases-loop2 invariant-loop decreases-loop
+element-copy-out-offers-3 c = omega (arith, c.before.before.loop-j-test.true, c.before.before.before.loop-j.invariant.place.within, few-o c.before.before.before.before)
 
-mul-t130-2 : tie.Need-overflow-mul-t130-2 invariant-loop2 decreases-loop2 invariant-loop decreases-loop
-mul-t130-2 c = omega (arith, c.before.before.before.loop2-test.true, c.before.before.before.before.loop2.invariant.place.within, few-o c.before.before.before.before.before)
+mul-t130-2 : tie.Need-offset_bounds-offers-j-in-loop-j-2 invariant-loop2 decreases-loop2 invariant-loop decreases-loop
+mul-t130-2 c = omega (arith, c.before.before.before.loop-j-test.true, c.before.before.before.before.loop-j.invariant.place.within, few-o c.before.before.before.before.before)
 
-element-set-from-offers-2 : tie.Need-element-set-from-offers-2 invariant-loop2 decreases-loop2 invariant-loop decreases-loop
-element-set-from-offers-2 c = omega (arith, c.before.before.before.loop2-test.true, c.before.before.before.before.loop2.invariant.place.within, few-o c.before.before.before.before.before)
+element-set-from-offers-2 : tie.Need-bounds-offers-j-in-loop-j-2 invariant-loop2 decreases-loop2 invariant-loop decreases-loop
+element-set-from-offers-2 c = omega (arith, c.before.before.before.loop-j-test.true, c.before.before.before.before.loop-j.invariant.place.within, few-o c.before.before.before.before.before)
 
-mul-offers-5 : tie.Need-overflow-mul-offers-5 invariant-loop2 decreases-loop2 invariant-loop decreases-loop
-mul-offers-5 c = omega (arith, c.before.before.before.loop2-test.true, c.before.before.before.before.loop2.invariant.place.within, few-o c.before.before.before.before.before)
+mul-offers-5 : tie.Need-offset_bounds-offers-i-in-loop-j-3 invariant-loop2 decreases-loop2 invariant-loop decreases-loop
+mul-offers-5 c = omega (arith, c.before.before.before.loop-j-test.true, c.before.before.before.before.loop-j.invariant.place.within, few-o c.before.before.before.before.before)
 
-element-copy-out-offers-4 : tie.Need-element-copy-out-offers-4 invariant-loop2 decreases-loop2 invariant-loop decreases-loop
-element-copy-out-offers-4 c = omega (arith, c.before.before.before.loop2-test.true, c.before.before.before.before.loop2.invariant.place.within, few-o c.before.before.before.before.before)
+element-copy-out-offers-4 : tie.Need-bounds-offers-i-in-loop-j-3 invariant-loop2 decreases-loop2 invariant-loop decreases-loop
+element-copy-out-offers-4 c = omega (arith, c.before.before.before.loop-j-test.true, c.before.before.before.before.loop-j.invariant.place.within, few-o c.before.before.before.before.before)
 
-mul-t130-3 : tie.Need-overflow-mul-t130-3 invariant-loop2 decreases-loop2 invariant-loop decreases-loop
-mul-t130-3 c = omega (arith, c.before.before.before.before.loop2-test.true, c.before.before.before.before.before.loop2.invariant.place.within, few-o c.before.before.before.before.before.before)
+mul-t130-3 : tie.Need-offset_bounds-offers-j-in-loop-j-3 invariant-loop2 decreases-loop2 invariant-loop decreases-loop
+mul-t130-3 c = omega (arith, c.before.before.before.before.loop-j-test.true, c.before.before.before.before.before.loop-j.invariant.place.within, few-o c.before.before.before.before.before.before)
 
-element-set-from-offers-3 : tie.Need-element-set-from-offers-3 invariant-loop2 decreases-loop2 invariant-loop decreases-loop
-element-set-from-offers-3 c = omega (arith, c.before.before.before.before.loop2-test.true, c.before.before.before.before.before.loop2.invariant.place.within, few-o c.before.before.before.before.before.before)
+element-set-from-offers-3 : tie.Need-bounds-offers-j-in-loop-j-3 invariant-loop2 decreases-loop2 invariant-loop decreases-loop
+element-set-from-offers-3 c = omega (arith, c.before.before.before.before.loop-j-test.true, c.before.before.before.before.before.loop-j.invariant.place.within, few-o c.before.before.before.before.before.before)
 
-loop2-less : tie.Need-loop2-smaller invariant-loop2 decreases-loop2 invariant-loop decreases-loop
-loop2-less c = omega (arith, c.before.before.before.before.loop2-test.true)
+loop2-less : tie.Need-loop-j-smaller invariant-loop2 decreases-loop2 invariant-loop decreases-loop
+loop2-less c = omega (arith, c.before.before.before.before.loop-j-test.true)
 
-loop2-again : tie.Need-loop2-preserved invariant-loop2 decreases-loop2 invariant-loop decreases-loop
-loop2-again c = moves_on c.before.before.before.before.before.loop2.invariant _ _ _ _ (omega (arith, c.before.before.before.before.loop2-test.true)) c.before.before.before.before.loop2-test.true
+loop2-again : tie.Need-loop-j-preserved invariant-loop2 decreases-loop2 invariant-loop decreases-loop
+loop2-again c = moves_on c.before.before.before.before.before.loop-j.invariant _ _ _ _ (omega (arith, c.before.before.before.before.loop-j-test.true)) c.before.before.before.before.loop-j-test.true
 
-id-requires-3 : tie.Need-id-requires-3 invariant-loop2 decreases-loop2 invariant-loop decreases-loop
+id-requires-3 : tie.Need-id-requires-then-po-turn invariant-loop2 decreases-loop2 invariant-loop decreases-loop
 id-requires-3 c κs = search rules
 
-mul-offers-6 : tie.Need-overflow-mul-offers-6 invariant-loop2 decreases-loop2 invariant-loop decreases-loop
-mul-offers-6 c = omega (arith, c.before.before.before.before.before.loop2.invariant.place.within, few-o c.before.before.before.before.before.before)
+mul-offers-6 : tie.Need-offset_bounds-offers-j-then-po-turn invariant-loop2 decreases-loop2 invariant-loop decreases-loop
+mul-offers-6 c = omega (arith, c.before.before.before.before.before.loop-j.invariant.place.within, few-o c.before.before.before.before.before.before)
 
-element-write-offers-2 : tie.Need-element-write-offers-2 invariant-loop2 decreases-loop2 invariant-loop decreases-loop
-element-write-offers-2 c = omega (arith, c.before.before.before.before.before.loop2.invariant.place.within, few-o c.before.before.before.before.before.before)
+element-write-offers-2 : tie.Need-bounds-offers-j-then-po-turn invariant-loop2 decreases-loop2 invariant-loop decreases-loop
+element-write-offers-2 c = omega (arith, c.before.before.before.before.before.loop-j.invariant.place.within, few-o c.before.before.before.before.before.before)
 
-mul-new-offer : tie.Need-overflow-mul-new-offer invariant-loop2 decreases-loop2 invariant-loop decreases-loop
-mul-new-offer c = omega (arith, c.before.before.before.before.before.loop2.invariant.place.within, few-o c.before.before.before.before.before.before)
+mul-new-offer : tie.Need-offset_bounds-offers-j-then-po-turn-2 invariant-loop2 decreases-loop2 invariant-loop decreases-loop
+mul-new-offer c = omega (arith, c.before.before.before.before.before.loop-j.invariant.place.within, few-o c.before.before.before.before.before.before)
 
-element-set-from-new-offer : tie.Need-element-set-from-new-offer invariant-loop2 decreases-loop2 invariant-loop decreases-loop
-element-set-from-new-offer c = omega (arith, c.before.before.before.before.before.loop2.invariant.place.within, few-o c.before.before.before.before.before.before)
+element-set-from-new-offer : tie.Need-bounds-offers-j-then-po-turn-2 invariant-loop2 decreases-loop2 invariant-loop decreases-loop
+element-set-from-new-offer c = omega (arith, c.before.before.before.before.before.loop-j.invariant.place.within, few-o c.before.before.before.before.before.before)
 
-mul-new-talk : tie.Need-overflow-mul-new-talk invariant-loop2 decreases-loop2 invariant-loop decreases-loop
-mul-new-talk c = omega (arith, c.before.before.before.before.before.loop2.invariant.place.within, few-o c.before.before.before.before.before.before)
+mul-new-talk : tie.Need-offset_bounds-offers-j-then-po-turn-3 invariant-loop2 decreases-loop2 invariant-loop decreases-loop
+mul-new-talk c = omega (arith, c.before.before.before.before.before.loop-j.invariant.place.within, few-o c.before.before.before.before.before.before)
 
-element-set-from-new-talk : tie.Need-element-set-from-new-talk invariant-loop2 decreases-loop2 invariant-loop decreases-loop
-element-set-from-new-talk c = omega (arith, c.before.before.before.before.before.loop2.invariant.place.within, few-o c.before.before.before.before.before.before)
+element-set-from-new-talk : tie.Need-bounds-offers-j-then-po-turn-3 invariant-loop2 decreases-loop2 invariant-loop decreases-loop
+element-set-from-new-talk c = omega (arith, c.before.before.before.before.before.loop-j.invariant.place.within, few-o c.before.before.before.before.before.before)
 
-mul-new-plan : tie.Need-overflow-mul-new-plan invariant-loop2 decreases-loop2 invariant-loop decreases-loop
-mul-new-plan c = omega (arith, c.before.before.before.before.before.loop2.invariant.place.within, few-o c.before.before.before.before.before.before)
+mul-new-plan : tie.Need-offset_bounds-offers-j-then-po-turn-4 invariant-loop2 decreases-loop2 invariant-loop decreases-loop
+mul-new-plan c = omega (arith, c.before.before.before.before.before.loop-j.invariant.place.within, few-o c.before.before.before.before.before.before)
 
-element-set-from-new-plan : tie.Need-element-set-from-new-plan invariant-loop2 decreases-loop2 invariant-loop decreases-loop
-element-set-from-new-plan c = omega (arith, c.before.before.before.before.before.loop2.invariant.place.within, few-o c.before.before.before.before.before.before)
+element-set-from-new-plan : tie.Need-bounds-offers-j-then-po-turn-4 invariant-loop2 decreases-loop2 invariant-loop decreases-loop
+element-set-from-new-plan c = omega (arith, c.before.before.before.before.before.loop-j.invariant.place.within, few-o c.before.before.before.before.before.before)
 
-add-offers : tie.Need-overflow-add-offers invariant-loop2 decreases-loop2 invariant-loop decreases-loop
+add-offers : tie.Need-overflow_add-offers invariant-loop2 decreases-loop2 invariant-loop decreases-loop
 add-offers c = omega (arith, few-o c.before.before.before.before.before.before)
 
-add-k : tie.Need-overflow-add-k invariant-loop2 decreases-loop2 invariant-loop decreases-loop
+add-k : tie.Need-overflow_add-k-in-Command invariant-loop2 decreases-loop2 invariant-loop decreases-loop
 add-k c = more c.before.before.before.before.before.before.before.before.before.before.before.before.before.before.before.before.before.before.before.before.before.before.before.before.before.before.before.before.before.before.before.before.before.before.before.before.before.before.before.before.before.before.before.before.before.before.before.before.before.before.before
 
-loop-less : tie.Need-loop-smaller invariant-loop2 decreases-loop2 invariant-loop decreases-loop
+loop-less : tie.Need-loop-c-smaller invariant-loop2 decreases-loop2 invariant-loop decreases-loop
 loop-less c = omega (arith, ahead _ _ _ (record-read c.before.before.before.before.before.before.before.before.before.before.before.before.before.before.before.before.before.before.before.before.before.before.before.before.before.before.before.before.before.before.before.before.before.before.before.before.before.before.before.before.before.before.before.before.before.before.before.before.before.before.before))
 
-loop-again : tie.Need-loop-preserved invariant-loop2 decreases-loop2 invariant-loop decreases-loop
-loop-again c = going_on c.before.before.before.before.before.before.before.before.before.before.before.before.before.before.before.before.before.before.before.before.before.before.before.before.before.before.before.before.before.before.before.before.before.before.before.before.before.before.before.before.before.before.before.before.before.before.before.before.before.before.before.before.before.before.before.before.loop.invariant (record-read c.before.before.before.before.before.before.before.before.before.before.before.before.before.before.before.before.before.before.before.before.before.before.before.before.before.before.before.before.before.before.before.before.before.before.before.before.before.before.before.before.before.before.before.before.before.before.before.before.before.before.before) (stepped (shelved c.before.before.before.before.before.before.before.before.before.before.before.before.before.before.before.before.before.before.before.before.before.before.before.before.before.before.before.before.before.before.before.before.before.before.before.before.before.before.before.before.before.before.before.before.before.before.before.before.before.before.before) (steps (step c.before.before.before.before.before.before.before.before.before.before.before.before.before.before.before.before.before.before.before.before.before.before.before) (stored-a c.before.before.before.before.before.before) (stored-i c.before.before.before) (stored-o c))) c.before.before.before.before.before.before.before.before.before.before.before.before.before.before.before.before.before.before.before.before.before.put-answer.ensures
+loop-again : tie.Need-loop-c-preserved invariant-loop2 decreases-loop2 invariant-loop decreases-loop
+loop-again c = going_on c.before.before.before.before.before.before.before.before.before.before.before.before.before.before.before.before.before.before.before.before.before.before.before.before.before.before.before.before.before.before.before.before.before.before.before.before.before.before.before.before.before.before.before.before.before.before.before.before.before.before.before.before.before.before.before.before.loop-c.invariant (record-read c.before.before.before.before.before.before.before.before.before.before.before.before.before.before.before.before.before.before.before.before.before.before.before.before.before.before.before.before.before.before.before.before.before.before.before.before.before.before.before.before.before.before.before.before.before.before.before.before.before.before.before) (stepped (shelved c.before.before.before.before.before.before.before.before.before.before.before.before.before.before.before.before.before.before.before.before.before.before.before.before.before.before.before.before.before.before.before.before.before.before.before.before.before.before.before.before.before.before.before.before.before.before.before.before.before.before.before) (steps (step c.before.before.before.before.before.before.before.before.before.before.before.before.before.before.before.before.before.before.before.before.before.before.before) (stored-a c.before.before.before.before.before.before) (stored-i c.before.before.before) (stored-o c))) c.before.before.before.before.before.before.before.before.before.before.before.before.before.before.before.before.before.before.before.before.before.put_answer-pen.ensures
 
-enum-known-d-2 : tie.Need-enum-known-d-2 invariant-loop2 decreases-loop2 invariant-loop decreases-loop
+enum-known-d-2 : tie.Need-enum_known-d-in-Malformed-1 invariant-loop2 decreases-loop2 invariant-loop decreases-loop
 enum-known-d-2 c = search rules
 
-add-put-mark : tie.Need-overflow-add-put-mark invariant-loop2 decreases-loop2 invariant-loop decreases-loop
-add-put-mark c = omega (arith, c.before.before.before.before.before.loop.invariant.plays.stand.few, inside _ _ _ (sym c.before.before.before.before.read.ensures ∙ ap reading c.before.before.d2.given.1))
+add-put-mark : tie.Need-overflow_add-k-in-Malformed invariant-loop2 decreases-loop2 invariant-loop decreases-loop
+add-put-mark c = omega (arith, c.before.before.before.before.before.loop-c.invariant.plays.stand.few, inside _ _ _ (sym c.before.before.before.before.read-d.ensures ∙ ap reading c.before.before.in-Malformed.is))
 
-put-mark-requires : tie.Need-put-mark-requires invariant-loop2 decreases-loop2 invariant-loop decreases-loop
+put-mark-requires : tie.Need-put_mark-p-requires invariant-loop2 decreases-loop2 invariant-loop decreases-loop
 put-mark-requires c κs = search rules
 
 finish-requires : tie.Need-finish-requires invariant-loop2 decreases-loop2 invariant-loop decreases-loop
 finish-requires c κs = search rules
 
-same_length : tie.Need-same-length invariant-loop2 decreases-loop2 invariant-loop decreases-loop
-same_length c = kept (gone_bad c.before.before.before.before.before.before.before.before.before.before.before.before.loop.invariant (sym c.before.before.before.before.before.before.before.before.before.before.before.read.ensures ∙ ap reading c.before.before.before.before.before.before.before.before.before.d2.given.1) refl c.before.before.before.before.before.before.put-mark.ensures c.before.before.finish.ensures).wrote
+same_length : tie.Need-shape_of-out-in-Malformed invariant-loop2 decreases-loop2 invariant-loop decreases-loop
+same_length c = kept (gone_bad c.before.before.before.before.before.before.before.before.before.before.before.before.loop-c.invariant (sym c.before.before.before.before.before.before.before.before.before.before.before.read-d.ensures ∙ ap reading c.before.before.before.before.before.before.before.before.before.in-Malformed.is) refl c.before.before.before.before.before.before.put_mark-p.ensures c.before.before.finish.ensures).wrote
 
-returns : tie.Need-returns invariant-loop2 decreases-loop2 invariant-loop decreases-loop
-returns c = let g = gone_bad c.before.before.before.before.before.before.before.before.before.before.before.before.loop.invariant (sym c.before.before.before.before.before.before.before.before.before.before.before.read.ensures ∙ ap reading c.before.before.before.before.before.before.before.before.before.d2.given.1) refl c.before.before.before.before.before.before.put-mark.ensures c.before.before.finish.ensures in (g.outcome, g.wrote)
+returns : tie.Need-returns-in-Malformed invariant-loop2 decreases-loop2 invariant-loop decreases-loop
+returns c = let g = gone_bad c.before.before.before.before.before.before.before.before.before.before.before.before.loop-c.invariant (sym c.before.before.before.before.before.before.before.before.before.before.before.read-d.ensures ∙ ap reading c.before.before.before.before.before.before.before.before.before.in-Malformed.is) refl c.before.before.before.before.before.before.put_mark-p.ensures c.before.before.finish.ensures in (g.outcome, g.wrote)
 
-enum_told : tie.Need-enum-told invariant-loop2 decreases-loop2 invariant-loop decreases-loop
+enum_told : tie.Need-enum_told-1 invariant-loop2 decreases-loop2 invariant-loop decreases-loop
 enum_told c = search rules
 
-finish-requires-2 : tie.Need-finish-requires-2 invariant-loop2 decreases-loop2 invariant-loop decreases-loop
+finish-requires-2 : tie.Need-finish-requires-in-End invariant-loop2 decreases-loop2 invariant-loop decreases-loop
 finish-requires-2 c κs = search rules
 
-same-length-2 : tie.Need-same-length-2 invariant-loop2 decreases-loop2 invariant-loop decreases-loop
-same-length-2 c = kept (gone c.before.before.before.before.before.before.before.loop.invariant (sym c.before.before.before.before.before.before.read.ensures ∙ ap reading c.before.before.before.before.enum_told.given.1) refl c.before.before.finish2.ensures).wrote
+same-length-2 : tie.Need-shape_of-out-in-End invariant-loop2 decreases-loop2 invariant-loop decreases-loop
+same-length-2 c = kept (gone c.before.before.before.before.before.before.before.loop-c.invariant (sym c.before.before.before.before.before.before.read-d.ensures ∙ ap reading c.before.before.before.before.in-End.is) refl c.before.before.finish-in-End.ensures).wrote
 
-returns-2 : tie.Need-returns-2 invariant-loop2 decreases-loop2 invariant-loop decreases-loop
-returns-2 c = let g = gone c.before.before.before.before.before.before.before.loop.invariant (sym c.before.before.before.before.before.before.read.ensures ∙ ap reading c.before.before.before.before.enum_told.given.1) refl c.before.before.finish2.ensures in (g.outcome, g.wrote)
+returns-2 : tie.Need-returns-in-End invariant-loop2 decreases-loop2 invariant-loop decreases-loop
+returns-2 c = let g = gone c.before.before.before.before.before.before.before.loop-c.invariant (sym c.before.before.before.before.before.before.read-d.ensures ∙ ap reading c.before.before.before.before.in-End.is) refl c.before.before.finish-in-End.ensures in (g.outcome, g.wrote)
 
-pub records-spec : {M : Type 1} → statement M
-records-spec =
+pub records_spec : {M : Type 1} → statement M
+records_spec =
     tie.close
     (tie.spec
     invariant-loop2

@@ -14,24 +14,24 @@ use Rattle.replay.proofs.walk.Statement.{statement}
 use Rattle.replay.proofs.walk.Tie as tie
 
 records-requires : tie.Need-records-requires
-records-requires c κs = ((opened _ (sym c.before.before.before.before.before.before.before.before.before.before.header.ensures ∙ ap opening c.before.before.before.before.before.before.before.before.h.given.1)).within, c.before.before.before.before.before.before.before.before.before.before.before.before.before.before.requires)
+records-requires c κs = ((opened _ (sym c.before.before.before.before.before.before.before.before.before.before.header-h.ensures ∙ ap opening c.before.before.before.before.before.before.before.before.in-Records.is)).within, c.before.before.before.before.before.before.before.before.before.before.before.before.before.before.requires)
 
-returns : tie.Need-returns
+returns : tie.Need-returns-then-edition-settings
 returns c =
-    let o = sym c.before.before.before.before.before.before.before.before.before.before.before.before.before.header.ensures ∙ ap opening c.before.before.before.before.before.before.before.before.before.before.before.h.given.1 in
-    let t = c.before.before.before.before.before.before.before.before.if1.true in
-    (c.before.before.records.ensures.0 ∙ sym (ap (outcome_of 0) (replay_headed _ _ o t)), tells_headed c.before.before.before.before.before.before.before.before.before.before.before.before.before.before.before.before.before.args.book _ o t c.before.before.before.before.before.before.put-edition.ensures c.before.before.records.ensures.1)
+    let o = sym c.before.before.before.before.before.before.before.before.before.before.before.before.before.header-h.ensures ∙ ap opening c.before.before.before.before.before.before.before.before.before.before.before.in-Records.is in
+    let t = c.before.before.before.before.before.before.before.before.if-edition-settings.true in
+    (c.before.before.records.ensures.outcome ∙ sym (ap (outcome_of 0) (replay_headed _ _ o t)), tells_headed c.before.before.before.before.before.before.before.before.before.before.before.before.before.before.before.before.before.args.book _ o t c.before.before.before.before.before.before.put_edition-past.ensures c.before.before.records.ensures.wrote)
 
-returns-2 : tie.Need-returns-2
+returns-2 : tie.Need-returns
 returns-2 c =
-    let n = c.before.before.before.before.before.before.before.before.before.before.before.before.before.args.book.settings.edition in
+    let n = c.before.before.before.before.before.before.before.before.before.before.before.before.before.args.book.settings-1.edition in
     let s = c.before.before.before.before.before.before.before.before.before.before.before.before.before.args.s.now in
-    let q = c.before.before.before.before.before.before.before.before.before.header in
-    let h : headed n s ≡ false = ⊎_elim (λ t. headed_good s n (sym q.ensures ∙ ap opening t.1.given.1) ∙ ne_eqb _ n t.4.left) (λ l. headed_bad s n (sym q.ensures ∙ ap opening l.1.given.1)) c.before.before.before.before.before.before.before.before.match.branch in
-    (c.before.before.finish.ensures.0 ∙ play_bare _ h c.before.before.before.before.before.before.before.before.before.before.before.before.before.requires, tells_bare c.before.before.before.before.before.before.before.before.before.before.before.before.before.args.book _ h c.before.before.before.before.before.before.put-mark.ensures c.before.before.finish.ensures.1)
+    let q = c.before.before.before.before.before.before.before.before.before.header-h in
+    let h : headed n s ≡ false = ⊎_elim (λ t. headed_good s n (sym q.ensures ∙ ap opening t.1.given.1) ∙ ne_eqb _ n t.4.left) (λ l. headed_bad s n (sym q.ensures ∙ ap opening l.1.given.1)) c.before.before.before.before.before.before.before.before.in-Records.branch in
+    (c.before.before.finish.ensures.outcome ∙ play_bare _ h c.before.before.before.before.before.before.before.before.before.before.before.before.before.requires, tells_bare c.before.before.before.before.before.before.before.before.before.before.before.before.before.args.book _ h c.before.before.before.before.before.before.put_mark-p.ensures c.before.before.finish.ensures.wrote)
 
-pub walk-spec : {M : Type 1} → statement M
-walk-spec =
+pub walk_spec : {M : Type 1} → statement M
+walk_spec =
     tie.close
     (tie.spec
     (λ c κs. search rules)

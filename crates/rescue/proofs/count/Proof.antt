@@ -7,20 +7,20 @@ use Rattle.rescue.specs.Sweep.{Counting, counting, count_on, count_done}
 use Rattle.rescue.proofs.count.Statement.{statement}
 use Rattle.rescue.proofs.count.Tie as tie
 
-abbrev invariant-loop : tie.invariant-loop
+abbrev invariant-loop : tie.invariant-loop-edition
 invariant-loop edition s first at₀ n₀ at n = Counting edition s first at n
 
-abbrev decreases-loop : tie.decreases-loop
+abbrev decreases-loop : tie.decreases-loop-edition
 decreases-loop edition s first at₀ n₀ at n = length s - at
 
-returns : tie.Need-returns invariant-loop decreases-loop
-returns c = count_done c.before.before.loop.invariant (stopped _ c.before.step.ensures c.if1.true)
+returns : tie.Need-returns-then-size-eq0 invariant-loop decreases-loop
+returns c = count_done c.before.before.loop-edition.invariant (stopped _ c.before.step-size.ensures c.if-size-eq0.true)
 
-onward : (c : tie.Else1 invariant-loop decreases-loop) → Steps (drop c.before.before.loop.at c.before.before.before.before.args.s.now) c.before.step.result
-onward c = stepped _ c.before.step.ensures c.if1.false
+onward : (c : tie.Else-size-eq0 invariant-loop decreases-loop) → Steps (drop c.before.before.loop-edition.at c.before.before.before.before.args.s.now) c.before.step-size.result
+onward c = stepped _ c.before.step-size.ensures c.if-size-eq0.false
 
-loop-again : tie.Need-loop-preserved invariant-loop decreases-loop
-loop-again c = count_on c.before.before.before.before.loop.invariant (onward c.before.before) c.before.stands.ensures c.missing.ensures
+loop-again : tie.Need-loop-edition-preserved invariant-loop decreases-loop
+loop-again c = count_on c.before.before.before.before.loop-edition.invariant (onward c.before.before) c.before.stands.ensures c.missing-n.ensures
 
 pub count_spec : {M : Type 1} → statement M
 count_spec =
@@ -33,7 +33,7 @@ count_spec =
     returns
     (λ c κs. search rules)
     (λ c κs. search rules)
-    (λ c. omega (arith, c.missing.ensures, c.before.before.before.before.loop.invariant))
+    (λ c. omega (arith, c.missing-n.ensures, c.before.before.before.before.loop-edition.invariant))
     (λ c. let n = loop-again c in omega (arith, n))
     (λ c. let n = loop-again c in omega (arith, n))
     loop-again)

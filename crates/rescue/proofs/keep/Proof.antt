@@ -11,7 +11,7 @@ use Rattle.rescue.specs.Sweep.{no_copy, a_copy}
 use Rattle.rescue.proofs.keep.Statement.{statement}
 use Rattle.rescue.proofs.keep.Tie as tie
 
-abbrev start : tie.Else1 → tie.Start
+abbrev start : tie.Else-not-good → tie.Start
 start c = c.before.before.before
 
 abbrev w : tie.Start → List ℕ
@@ -20,16 +20,16 @@ w s = take s.args.size (drop s.args.at s.args.s.now)
 long : (s : tie.Start) → length (w s) ≡ s.args.size
 long s = length-take-le s.args.size (drop s.args.at s.args.s.now) (omega (arith, s.requires.0, length-drop s.args.at s.args.s.now))
 
-returns : tie.Need-returns
-returns c = let s = c.before.before.before in no_copy s.args.out.now s.args.p (w s) (not-true _ c.if1.true)
+returns : tie.Need-returns-then-not-good
+returns c = let s = c.before.before.before in no_copy s.args.out-1.now s.args.p (w s) (not-true _ c.if-not-good.true-raw)
 
-returns-2 : tie.Need-returns-2
+returns-2 : tie.Need-returns
 returns-2 c =
     let e = c.before.before.before.before.before in
     let s = start e in
     let z : s.args.at + s.args.size - s.args.at ≡ s.args.size = omega arith in
-    a_copy s.args.out.now s.args.p (w s) (not-false _ e.if1.false) (omega (arith, long s))
-    (placed_mid s.args.p (w s) s.args.out.now c.before.before.copy.new.1.0 (omega (arith, long s, s.pre.1)) (rw (take-length (w s)) at (rw z at c.before.before.copy.ensures.1)))
+    a_copy s.args.out-1.now s.args.p (w s) (not-false _ e.if-not-good.false-raw) (omega (arith, long s))
+    (placed_mid s.args.p (w s) s.args.out-1.now c.before.before.copy.new.1.0 (omega (arith, long s, s.requires.1)) (rw (take-length (w s)) at (rw z at c.before.before.copy.ensures.value)))
 
 pub keep_spec : {M : Type 1} → statement M
 keep_spec =

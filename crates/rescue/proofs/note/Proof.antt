@@ -8,15 +8,15 @@ use Rattle.rescue.specs.Sweep.{no_more, one_more, one_set}
 use Rattle.rescue.proofs.note.Statement.{statement}
 use Rattle.rescue.proofs.note.Tie as tie
 
-returns : tie.Need-returns
-returns c = let a = c.before.args in no_more a.report.now a.k (a.at ∷ []) c.if1.true
+returns : tie.Need-returns-then-good
+returns c = let a = c.before.args in no_more a.report.now a.k (a.at ∷ []) c.if-good.true
 
-room : (c : tie.Else1) → c.before.args.k < length c.before.args.report.now
-room c = c.before.requires c.if1.false
+room : (c : tie.Else-good) → c.before.args.k < length c.before.args.report.now
+room c = c.before.requires c.if-good.false
 
-returns-2 : tie.Need-returns-2
-returns-2 c = let a = c.before.args in one_more a.report.now a.k (a.at ∷ []) c.if1.false refl (one_set a.report.now a.k a.at (room c))
+returns-2 : tie.Need-returns
+returns-2 c = let a = c.before.args in one_more a.report.now a.k (a.at ∷ []) c.if-good.false refl (one_set a.report.now a.k a.at (room c))
 
-pub note-spec : {M : Type 1} → statement M
-note-spec =
+pub note_spec : {M : Type 1} → statement M
+note_spec =
     tie.close (tie.spec returns (λ c. omega (arith, room c)) (λ c. omega (arith, room c)) (λ c. omega (arith, room c)) (λ c. search rules) returns-2)

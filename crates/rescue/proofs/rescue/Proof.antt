@@ -11,79 +11,79 @@ use Rattle.rescue.specs.Answers.{Opens, opened, not_opened, bad_header_lem, shor
 use Rattle.rescue.proofs.rescue.Statement.{statement}
 use Rattle.rescue.proofs.rescue.Tie as tie
 
-abbrev start : tie.After-known-told → tie.Start
+abbrev start : tie.In-Records → tie.Start
 start c = c.before.before.before.before.before.before.before
 
-abbrev first : tie.After-known-told → ℕ
-first c = c.before.h.given.0.1.0
+abbrev first : tie.In-Records → ℕ
+first c = c.before.in-Records.first
 
-good : (c : tie.After-known-told) → Opens (start c).args.s.now c.before.h.given.0.0 (first c)
-good c = opened (start c).args.s.now (sym c.before.before.before.header.ensures ∙ ap opening c.before.h.given.1)
+good : (c : tie.In-Records) → Opens (start c).args.s.now c.before.in-Records.edition (first c)
+good c = opened (start c).args.s.now (sym c.before.before.before.header-h.ensures ∙ ap opening c.before.in-Records.is)
 
-long : (c : tie.After-known-told) → length (take (first c) (start c).args.s.now) ≡ first c
+long : (c : tie.In-Records) → length (take (first c) (start c).args.s.now) ≡ first c
 long c = let o = good c in length-take-le (first c) (start c).args.s.now (omega (arith, o))
 
-returns : tie.Need-returns
+returns : tie.Need-returns-in_default
 returns c =
     let a = c.before.before.before.before.before.before.args in
-    let w = bad_header_lem a.s.now a.out.now a.report.now (not_opened a.s.now (sym c.before.before.header.ensures ∙ ap opening c.enum_told.given.1)) in
+    let w = bad_header_lem a.s.now a.out-1.now a.report-1.now (not_opened a.s.now (sym c.before.before.header-h.ensures ∙ ap opening c.in_default.is)) in
     (w.says, (w.clean, w.offsets))
 
-returns-2 : tie.Need-returns-2
+returns-2 : tie.Need-returns-then-out-s
 returns-2 c =
     let k = c.before in
     let o = good k in
     let a = (start k).args in
-    let w = short_out a.s.now a.out.now a.report.now o.good c.if1.true in
+    let w = short_out a.s.now a.out-1.now a.report-1.now o.good c.if-out-s.true in
     (w.says, (w.clean, w.offsets))
 
-returns-3 : tie.Need-returns-3
+returns-3 : tie.Need-returns-then-report-count
 returns-3 c =
     let k = c.before.before.before in
     let o = good k in
     let a = (start k).args in
-    let n = count-is a.s.now a.out.now a.report.now o c.before.before.if1.false c.before.count.ensures in
-    let w = short_report a.s.now a.out.now a.report.now o.good c.before.before.if1.false (omega (arith, n, c.if2.true)) in
+    let n = count-is a.s.now a.out-1.now a.report-1.now o c.before.before.if-out-s.false c.before.count.ensures in
+    let w = short_report a.s.now a.out-1.now a.report-1.now o.good c.before.before.if-out-s.false (omega (arith, n, c.if-report-count.true)) in
     (w.says, (w.clean, w.offsets))
 
-copied : tie.Need-slice-aggregate-copy
+copied : tie.Need-slice_bounds-copy-end
 copied c = let k = c.before.before.before.before in sym (long k)
 
 copy-requires : tie.Need-copy-requires
-copy-requires c κs = let k = c.before.before.before.before.before in let o = good k in omega (arith, o, long k, c.before.before.before.before.if1.false)
+copy-requires c κs = let k = c.before.before.before.before.before in let o = good k in omega (arith, o, long k, c.before.before.before.before.if-out-s.false)
 
 -- the header's bytes
-head : (c : tie.After-copy) → c.copy.new.1.0 ≡ placed 0 (take (first c.before.before.before.before.before.before) (start c.before.before.before.before.before.before).args.s.now) (start c.before.before.before.before.before.before).args.out.now
+head : (c : tie.After-copy) → c.copy.new.1.0 ≡ placed 0 (take (first c.before.before.before.before.before.before) (start c.before.before.before.before.before.before).args.s.now) (start c.before.before.before.before.before.before).args.out-1.now
 head c =
     let k = c.before.before.before.before.before.before in
     let a = (start k).args in
-    head_is a.s.now a.out.now a.report.now (good k) c.before.before.before.before.before.if1.false c.copy.ensures.1
+    head_is a.s.now a.out-1.now a.report-1.now (good k) c.before.before.before.before.before.if-out-s.false c.copy.ensures.value
 
-enough : (c : tie.Else2) → length (report_of (start c.before.before.before).args.s.now) ≤ length (start c.before.before.before).args.report.now
+enough : (c : tie.Else-report-count) → length (report_of (start c.before.before.before).args.s.now) ≤ length (start c.before.before.before).args.report-1.now
 enough c =
     let k = c.before.before.before in
     let a = (start k).args in
-    omega (arith, c.if2.false, count-is a.s.now a.out.now a.report.now (good k) c.before.before.if1.false c.before.count.ensures)
+    omega (arith, c.if-report-count.false, count-is a.s.now a.out-1.now a.report-1.now (good k) c.before.before.if-out-s.false c.before.count.ensures)
 
 sweep-requires : tie.Need-sweep-requires
 sweep-requires c κs =
     let y = c.before.before.before.before in
     let k = y.before.before.before.before.before.before in
     let a = (start k).args in
-    let l = head_long a.s.now a.out.now a.report.now (good k) y.before.before.before.before.before.if1.false (head y) in
+    let l = head_long a.s.now a.out-1.now a.report-1.now (good k) y.before.before.before.before.before.if-out-s.false (head y) in
     let o = good k in
-    ((omega (arith, o), omega (arith, l, y.before.before.before.before.before.if1.false)), omega (arith, y.before.before.before.if2.false, y.before.before.before.before.count.ensures))
+    ((omega (arith, o), omega (arith, l, y.before.before.before.before.before.if-out-s.false)), omega (arith, y.before.before.before.if-report-count.false, y.before.before.before.before.count.ensures))
 
-returns-4 : tie.Need-returns-4
+returns-4 : tie.Need-returns
 returns-4 c =
     let y = c.before.before.before.before.before.before.before.before.before in
     let k = y.before.before.before.before.before.before in
     let a = (start k).args in
-    let w = rescued a.s.now a.out.now a.report.now (good k) y.before.before.before.before.before.if1.false (enough y.before.before.before) (head y) c.before.before.before.before.sweep.ensures in
+    let w = rescued a.s.now a.out-1.now a.report-1.now (good k) y.before.before.before.before.before.if-out-s.false (enough y.before.before.before) (head y) c.before.before.before.before.sweep.ensures in
     (w.says, (w.clean, w.offsets))
 
-pub rescue-spec : {M : Type 1} → statement M
-rescue-spec =
+pub rescue_spec : {M : Type 1} → statement M
+rescue_spec =
     tie.close
     (tie.spec
     (λ c κs. search rules)

@@ -5,16 +5,16 @@ use Rattle.rescue.specs.Walk.{stands_is}
 use Rattle.rescue.proofs.stands.Statement.{statement}
 use Rattle.rescue.proofs.stands.Tie as tie
 
-returns : tie.Need-returns
-returns c = stands_is _ _ _ (sym c.before.before.decode.ensures ∙ ap reading c.enum_told.given.1)
+returns : tie.Need-returns-in-Command
+returns c = stands_is _ _ _ (sym c.before.before.decode-d.ensures ∙ ap reading c.in-Command.is)
 
-returns-2 : tie.Need-returns-2
-returns-2 c = stands_is _ _ _ (sym c.before.before.decode.ensures ∙ ap reading c.enum-told2.given.1)
+returns-2 : tie.Need-returns-in-Malformed
+returns-2 c = stands_is _ _ _ (sym c.before.before.decode-d.ensures ∙ ap reading c.in-Malformed.is)
 
-returns-3 : tie.Need-returns-3
-returns-3 c = stands_is _ _ _ (sym c.before.before.decode.ensures ∙ ap reading c.enum-told3.given.1)
+returns-3 : tie.Need-returns-in-End
+returns-3 c = stands_is _ _ _ (sym c.before.before.decode-d.ensures ∙ ap reading c.in-End.is)
 
-pub stands-spec : {M : Type 1} → statement M
-stands-spec =
+pub stands_spec : {M : Type 1} → statement M
+stands_spec =
     tie.close
     (tie.spec (λ c κs. search rules) (λ c. search rules) (λ c. search rules) (λ c. search rules) returns returns-2 returns-3)

@@ -7,31 +7,31 @@ use Rattle.rescue.specs.Sweep.{Sweeping, sweeping, room_out, room_report, sweep_
 use Rattle.rescue.proofs.sweep.Statement.{statement}
 use Rattle.rescue.proofs.sweep.Tie as tie
 
-abbrev invariant-loop : tie.invariant-loop
+abbrev invariant-loop : tie.invariant-loop-edition
 invariant-loop edition s first out₀ report₀ at₀ p₀ k₀ out report at p k = Sweeping edition s first out₀ report₀ at p k out report
 
-abbrev decreases-loop : tie.decreases-loop
+abbrev decreases-loop : tie.decreases-loop-edition
 decreases-loop edition s first out₀ report₀ at₀ p₀ k₀ out report at p k = length s - at
 
-returns : tie.Need-returns invariant-loop decreases-loop
-returns c = sweep_done c.before.before.loop.invariant (stopped _ c.before.step.ensures c.if1.true)
+returns : tie.Need-returns-then-size-eq0 invariant-loop decreases-loop
+returns c = sweep_done c.before.before.loop-edition.invariant (stopped _ c.before.step-size.ensures c.if-size-eq0.true)
 
-onward : (c : tie.Else1 invariant-loop decreases-loop) → Steps (drop c.before.before.loop.at c.before.before.before.before.before.before.args.s.now) c.before.step.result
-onward c = stepped _ c.before.step.ensures c.if1.false
+onward : (c : tie.Else-size-eq0 invariant-loop decreases-loop) → Steps (drop c.before.before.loop-edition.at c.before.before.before.before.before.before.args.s.now) c.before.step-size.result
+onward c = stepped _ c.before.step-size.ensures c.if-size-eq0.false
 
-keep-requires : tie.Need-keep-requires invariant-loop decreases-loop
-keep-requires c κs = let e = c.before.before in room_out e.before.before.loop.invariant (onward e) c.before.stands.ensures e.before.before.before.before.before.before.requires.0.1
+keep-requires : tie.Need-keep-p-requires invariant-loop decreases-loop
+keep-requires c κs = let e = c.before.before in room_out e.before.before.loop-edition.invariant (onward e) c.before.stands-good.ensures e.before.before.before.before.before.before.requires.0.1
 
-note-requires : tie.Need-note-requires invariant-loop decreases-loop
-note-requires c κs = let e = c.before.before.before.before.before.before in room_report e.before.before.loop.invariant (onward e) c.before.before.before.before.before.stands.ensures
+note-requires : tie.Need-note-k-requires invariant-loop decreases-loop
+note-requires c κs = let e = c.before.before.before.before.before.before in room_report e.before.before.loop-edition.invariant (onward e) c.before.before.before.before.before.stands-good.ensures
 
-loop-again : tie.Need-loop-preserved invariant-loop decreases-loop
+loop-again : tie.Need-loop-edition-preserved invariant-loop decreases-loop
 loop-again c =
     let e = c.before.before.before.before.before.before.before.before.before in
-    sweep_on e.before.before.loop.invariant (onward e) c.before.before.before.before.before.before.before.before.stands.ensures c.before.before.before.before.before.before.keep.ensures c.before.before.note.ensures
+    sweep_on e.before.before.loop-edition.invariant (onward e) c.before.before.before.before.before.before.before.before.stands-good.ensures c.before.before.before.before.before.before.keep-p.ensures c.before.before.note-k.ensures
 
-pub sweep-spec : {M : Type 1} → statement M
-sweep-spec =
+pub sweep_spec : {M : Type 1} → statement M
+sweep_spec =
     tie.close
     (tie.spec
     invariant-loop
@@ -39,8 +39,8 @@ sweep-spec =
     (λ c. let s = c.before.before.before in sweeping _ _ _ _ _ s.requires.0.0 s.requires.0.1 s.requires.1)
     (λ c κs. search rules)
     (λ c. search rules)
-    (λ c. c.before.before.loop.invariant.clean.same)
-    (λ c. c.before.before.loop.invariant.offsets.same)
+    (λ c. c.before.before.loop-edition.invariant.clean.same)
+    (λ c. c.before.before.loop-edition.invariant.offsets.same)
     returns
     (λ c κs. search rules)
     keep-requires

@@ -4,11 +4,11 @@ use borrow.Author.Rules.{rules}
 use Rattle.scribe.proofs.show.Statement.{statement}
 use Rattle.scribe.proofs.show.Tie as tie
 
-slice-aggregate-write-all : tie.Need-slice-aggregate-write-all
-slice-aggregate-write-all c = sym (length-take-le _ _ (c.before.before.before.before.before.before.requires _ c.before.before.r.given.1))
+slice-aggregate-write-all : tie.Need-slice_bounds-write_all-end
+slice-aggregate-write-all c = sym (length-take-le _ _ (c.before.before.before.before.before.before.requires _ c.before.before.in-Done.is))
 
-pub show-spec : {M : Type 1} → statement M
-show-spec =
+pub show_spec : {M : Type 1} → statement M
+show_spec =
     tie.close
     (tie.spec
     (λ c. search rules)

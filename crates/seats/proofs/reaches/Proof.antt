@@ -10,5 +10,5 @@ returns : tie.Need-returns
 unfolding reaches_of
 returns c = ap (λ (n : ℕ). leb c.before.args.threshold n) c.present.ensures
 
-pub reaches-spec : {M : Type 1} → statement M
-reaches-spec = tie.close (tie.spec (λ c κs. search rules) returns)
+pub reaches_spec : {M : Type 1} → statement M
+reaches_spec = tie.close (tie.spec (λ c κs. search rules) returns)

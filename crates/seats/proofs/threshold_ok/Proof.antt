@@ -5,13 +5,13 @@ use borrow.Author.Rules.{rules}
 use Rattle.seats.proofs.threshold_ok.Statement.{statement}
 use Rattle.seats.proofs.threshold_ok.Tie as tie
 
-returns : tie.Need-returns
+returns : tie.Need-returns-then-next-gt4294967295
 unfolding threshold_ok
-returns c = simp (lt-leb _ _ c.if1.true)
+returns c = simp (lt-leb _ _ c.if-next-gt4294967295.true)
 
-returns-2 : tie.Need-returns-2
+returns-2 : tie.Need-returns
 unfolding threshold_ok reaches_of
-returns-2 c = simp (le-leb _ _ c.before.if1.false, c.reaches.ensures, all-present)
+returns-2 c = simp (le-leb _ _ c.before.if-next-gt4294967295.false, c.reaches.ensures, all-present)
 
-pub threshold-ok-spec : {M : Type 1} → statement M
-threshold-ok-spec = tie.close (tie.spec returns (λ c. search rules) (λ c κs. search rules) returns-2)
+pub threshold_ok_spec : {M : Type 1} → statement M
+threshold_ok_spec = tie.close (tie.spec returns (λ c. search rules) (λ c κs. search rules) returns-2)

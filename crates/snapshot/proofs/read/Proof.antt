@@ -13,46 +13,46 @@ use Rattle.snapshot.proofs.read.Statement.{statement}
 use Rattle.snapshot.proofs.read.Tie as tie
 
 -- the model that was read, and the book of its arrays
-module _ (c : tie.After-read-offers) where
+module _ (c : tie.After-read_offers-o) where
   abbrev model : Model
-  model = model_from (c.before.before.before.before.read-settings.result.row, (c.before.before.before.read-totals.result.row, (c.before.before.read-accounts.ensures.all, (c.before.read-invoices.ensures.all, c.read-offers.ensures.all))))
+  model = model_from (c.before.before.before.before.read_settings-p.result.row, (c.before.before.before.read_totals-t.result.row, (c.before.before.read_accounts-a.ensures.all, (c.before.read_invoices-i.ensures.all, c.read_offers-o.ensures.all))))
 
   abbrev made : Book
-  made = record { accounts = c.before.before.read-accounts.result.table; invoices = c.before.read-invoices.result.table; offers = c.read-offers.result.table; totals = c.before.before.before.read-totals.result.row; settings = c.before.before.before.before.read-settings.result.row }
+  made = record { accounts = c.before.before.read_accounts-a.result.table; invoices = c.before.read_invoices-i.result.table; offers = c.read_offers-o.result.table; totals = c.before.before.before.read_totals-t.result.row; settings = c.before.before.before.before.read_settings-p.result.row }
 
   made-stored : made ≡ stored model
-  made-stored = rw (c.before.before.read-accounts.ensures.is, c.before.read-invoices.ensures.is, c.read-offers.ensures.is)
+  made-stored = rw (c.before.before.read_accounts-a.ensures.is, c.before.read_invoices-i.ensures.is, c.read_offers-o.ensures.is)
 
-  takes : Takes c.before.before.before.before.before.before.before.args.s.now c.before.before.before.before.before.read-edition.result.c (fields c.before.before.before.before.before.read-edition.result.edition) c.read-offers.result.c model
+  takes : Takes c.before.before.before.before.before.before.before.args.s.now c.before.before.before.before.before.read_edition-e.result.c-1 (fields c.before.before.before.before.before.read_edition-e.result.edition) c.read_offers-o.result.c-1 model
   unfolding fields
-  takes = takes_via model_from model_parts (λ x _. refl) (takes_then c.before.before.before.before.read-settings.ensures (takes_then c.before.before.before.read-totals.ensures (takes_then c.before.before.read-accounts.ensures.takes (takes_then c.before.read-invoices.ensures.takes c.read-offers.ensures.takes))))
+  takes = takes_via model_from model_parts (λ x _. refl) (takes_then c.before.before.before.before.read_settings-p.ensures (takes_then c.before.before.before.read_totals-t.ensures (takes_then c.before.before.read_accounts-a.ensures.takes (takes_then c.before.read_invoices-i.ensures.takes c.read_offers-o.ensures.takes))))
 
   -- what the bytes give
-  given : shows c.read-offers.result.c model ≡ book_in c.before.before.before.before.before.before.before.args.s.now
-  given = c.before.before.before.before.before.read-edition.ensures.on takes
+  given : shows c.read_offers-o.result.c-1 model ≡ book_in c.before.before.before.before.before.before.before.args.s.now
+  given = c.before.before.before.before.before.read_edition-e.ensures.on takes
 
-returns : tie.Need-returns
-returns c = let d = c.before.before.before.before.before.before.before.before.before in c.refused.ensures ∙ read-refused _ _ (model d) (given d) c.before.if1.true
+returns : tie.Need-returns-then-c-ne0
+returns c = let d = c.before.before.before.before.before.before.before.before.before in c.refused.ensures ∙ read-refused _ _ (model d) (given d) c.before.if-c-ne0.true
 
-returns-2 : tie.Need-returns-2
-returns-2 c = let d = c.before.before.before.before.before.before.before.before.before.before.before in c.refused2.ensures ∙ read_past _ _ (model d) (given d) c.before.before.before.if1.false c.before.if2.true
+returns-2 : tie.Need-returns-then-c-s
+returns-2 c = let d = c.before.before.before.before.before.before.before.before.before.before.before in c.refused-then-c-s.ensures ∙ read_past _ _ (model d) (given d) c.before.before.before.if-c-ne0.false c.before.if-c-s.true
 
 -- the code's test
-test : (c : tie.After-sound) → c.before.before.before.before.before.before.before.before.before.before.before.read-offers.result.c.ok && c.sound.result ≡ c.before.before.before.before.before.before.before.before.before.before.before.read-offers.result.c.ok && book_test (stored (model c.before.before.before.before.before.before.before.before.before.before.before))
-test c = ap (λ t. c.before.before.before.before.before.before.before.before.before.before.before.read-offers.result.c.ok && t) (c.sound.ensures.0 ∙ ap book_test (made-stored c.before.before.before.before.before.before.before.before.before.before.before))
+test : (c : tie.After-sound-sound) → c.before.before.before.before.before.before.before.before.before.before.before.read_offers-o.result.c-1.ok && c.sound-sound.result ≡ c.before.before.before.before.before.before.before.before.before.before.before.read_offers-o.result.c-1.ok && book_test (stored (model c.before.before.before.before.before.before.before.before.before.before.before))
+test c = ap (λ t. c.before.before.before.before.before.before.before.before.before.before.before.read_offers-o.result.c-1.ok && t) (c.sound-sound.ensures.tested ∙ ap book_test (made-stored c.before.before.before.before.before.before.before.before.before.before.before))
 
-returns-3 : tie.Need-returns-3
+returns-3 : tie.Need-returns-then-not-c-sound
 returns-3 c =
     let g = c.before.before.before in
     let d = c.before.before.before.before.before.before.before.before.before.before.before.before.before.before in
-    c.refused3.ensures ∙ read_unsound _ _ (model d) (given d) c.before.before.before.before.before.before.if1.false c.before.before.before.before.if2.false (test g) (not-true _ c.before.if3.true)
+    c.refused-then-not-c-sound.ensures ∙ read_unsound _ _ (model d) (given d) c.before.before.before.before.before.before.if-c-ne0.false c.before.before.before.before.if-c-s.false (test g) (not-true _ c.before.if-not-c-sound.true-raw)
 
-returns-4 : tie.Need-returns-4
+returns-4 : tie.Need-returns
 unfolding loaded_as
 returns-4 c =
     let g = c.before.before in
     let d = c.before.before.before.before.before.before.before.before.before.before.before.before.before in
-    rw (made-stored d) (read_whole _ _ (model d) (given d) c.before.before.before.before.before.if1.false c.before.before.before.if2.false (test g) (not-false _ c.if3.false))
+    rw (made-stored d) (read_whole _ _ (model d) (given d) c.before.before.before.before.before.if-c-ne0.false c.before.before.before.if-c-s.false (test g) (not-false _ c.if-not-c-sound.false-raw))
 
 pub read_spec : {M : Type 1} → statement M
 read_spec =

@@ -5,7 +5,7 @@ use Rattle.snapshot.proofs.refused.Tie as tie
 
 returns : tie.Need-returns
 unfolding loaded_as
-returns c = rw c.of_edition.ensures
+returns c = rw c.of_edition-book.ensures
 
-pub refused-spec : {M : Type 1} → statement M
-refused-spec = tie.close (tie.spec (λ c κs. search rules) returns)
+pub refused_spec : {M : Type 1} → statement M
+refused_spec = tie.close (tie.spec (λ c κs. search rules) returns)

@@ -11,30 +11,30 @@ use Rattle.snapshot.proofs.write.Statement.{statement}
 use Rattle.snapshot.proofs.write.Tie as tie
 
 -- past the first test the book is sound
-tested : (c : tie.Else1) → book_test c.before.before.before.args.book ≡ true
-tested c = sym c.before.sound.ensures.0 ∙ not-false _ c.if1.false
+tested : (c : tie.Else-not-sound) → book_test c.before.before.before.args.book ≡ true
+tested c = sym c.before.sound.ensures.tested ∙ not-false _ c.if-not-sound.false-raw
 
-returns : tie.Need-returns
+returns : tie.Need-returns-then-not-sound
 returns c = record {
-  is = write_unsound _ _ (sym c.before.sound.ensures.0 ∙ not-true _ c.if1.true);
+  is = write_unsound _ _ (sym c.before.sound.ensures.tested ∙ not-true _ c.if-not-sound.true-raw);
   fits = λ z. let y : ◌≡◌ {A = ℕ} 15 0 = z in absurd (omega (arith, y));
   shelved = λ z. let y : ◌≡◌ {A = ℕ} 15 0 = z in absurd (omega (arith, y));
   room = λ h z. let y : ◌≡◌ {A = ℕ} 15 14 = z in omega (arith, y);
 }
 
-returns-2 : tie.Need-returns-2
+returns-2 : tie.Need-returns-then-dry
 returns-2 c = record {
-  is = write_short _ _ (tested c.before.before.before.before.before) c.before.before.before.put-book.ensures c.if2.true;
+  is = write_short _ _ (tested c.before.before.before.before.before) c.before.before.before.put_book-dry.ensures c.if-dry.true;
   fits = λ z. let y : ◌≡◌ {A = ℕ} 14 0 = z in absurd (omega (arith, y));
   shelved = λ z. let y : ◌≡◌ {A = ℕ} 14 0 = z in absurd (omega (arith, y));
-  room = λ h z. write_room _ _ (tested c.before.before.before.before.before) c.before.before.before.put-book.ensures c.if2.true h;
+  room = λ h z. write_room _ _ (tested c.before.before.before.before.before) c.before.before.before.put_book-dry.ensures c.if-dry.true h;
 }
 
-returns-3 : tie.Need-returns-3
+returns-3 : tie.Need-returns
 returns-3 c = record {
-  is = write_whole _ _ (tested c.before.before.before.before.before.before.before.before.before) c.before.before.before.before.before.before.before.put-book.ensures c.before.before.before.before.if2.false c.before.before.put-book2.ensures;
-  fits = λ z. c.before.before.put-book2.ensures.fits;
-  shelved = λ z. c.before.before.before.before.before.before.before.before.before.before.sound.ensures.1 (not-false _ c.before.before.before.before.before.before.before.before.before.if1.false);
+  is = write_whole _ _ (tested c.before.before.before.before.before.before.before.before.before) c.before.before.before.before.before.before.before.put_book-dry.ensures c.before.before.before.before.if-dry.false c.before.before.put_book-wet.ensures;
+  fits = λ z. c.before.before.put_book-wet.ensures.fits;
+  shelved = λ z. c.before.before.before.before.before.before.before.before.before.before.sound.ensures.shelved (not-false _ c.before.before.before.before.before.before.before.before.before.if-not-sound.false-raw);
   room = λ h z. let y : ◌≡◌ {A = ℕ} 0 14 = z in omega (arith, y);
 }
 
@@ -45,7 +45,7 @@ write_spec =
     (λ c κs. search rules)
     returns
     (λ c κs. tested c.before)
-    (λ c. puts_kept c.before.before.before.put-book.ensures)
+    (λ c. puts_kept c.before.before.before.put_book-dry.ensures)
     returns-2
     (λ c κs. tested c.before.before.before.before.before.before)
     (λ c. search rules)

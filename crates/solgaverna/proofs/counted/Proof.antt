@@ -8,21 +8,21 @@ use borrow.Author.Rules.{rules}
 use Rattle.solgaverna.proofs.counted.Statement.{statement}
 use Rattle.solgaverna.proofs.counted.Tie as tie
 
-returns : tie.Need-returns
+returns : tie.Need-returns-in-Offers
 unfolding pick
-returns c = sym (ap (λ (z : Listed). coded (listed_says z).0 (get_or (listed_says z).1 0 0)) c.before.r.given.1)
+returns c = sym (ap (λ (z : Listed). coded (listed_says z).0 (get_or (listed_says z).1 0 0)) c.before.in-Offers.is)
 
-returns-2 : tie.Need-returns-2
+returns-2 : tie.Need-returns-in-Unlisted
 unfolding pick
-returns-2 c = c.refused.ensures ∙ sym (ap (λ (z : Listed). coded (listed_says z).0 (get_or (listed_says z).1 0 0)) c.before.enum_told.given.1)
+returns-2 c = c.refused.ensures ∙ sym (ap (λ (z : Listed). coded (listed_says z).0 (get_or (listed_says z).1 0 0)) c.before.in-Unlisted.is)
 
-returns-3 : tie.Need-returns-3
+returns-3 : tie.Need-returns-in-Short
 unfolding pick
-returns-3 c = c.refused2.ensures ∙ sym (ap (λ (z : Listed). coded (listed_says z).0 (get_or (listed_says z).1 0 0)) c.before.enum-told2.given.1)
+returns-3 c = c.refused-in-Short.ensures ∙ sym (ap (λ (z : Listed). coded (listed_says z).0 (get_or (listed_says z).1 0 0)) c.before.in-Short.is)
 
-returns-4 : tie.Need-returns-4
+returns-4 : tie.Need-returns-in-Unsound
 unfolding pick
-returns-4 c = c.refused3.ensures ∙ sym (ap (λ (z : Listed). coded (listed_says z).0 (get_or (listed_says z).1 0 0)) c.before.enum-told3.given.1)
+returns-4 c = c.refused-in-Unsound.ensures ∙ sym (ap (λ (z : Listed). coded (listed_says z).0 (get_or (listed_says z).1 0 0)) c.before.in-Unsound.is)
 
 pub counted_spec : {M : Type 1} → statement M
 counted_spec =

@@ -6,15 +6,15 @@ use borrow.Author.Rules.{rules}
 use Rattle.solgaverna.proofs.lender_of.Statement.{statement}
 use Rattle.solgaverna.proofs.lender_of.Tie as tie
 
-returns : tie.Need-returns
+returns : tie.Need-returns-in-Lender
 unfolding four_says pick
-returns c = sym (ap lender_says c.before.r.given.1) ∙ c.before.before.before.get-lender-stats.ensures
+returns c = sym (ap lender_says c.before.in-Lender.is) ∙ c.before.before.before.get_lender_stats-r.ensures
 
-returns-2 : tie.Need-returns-2
+returns-2 : tie.Need-returns-in-Unsound
 unfolding four_says pick
-returns-2 c = ap four_says c.unsound.ensures ∙ sym (ap lender_says c.before.enum_told.given.1) ∙ c.before.before.before.get-lender-stats.ensures
+returns-2 c = ap four_says c.unsound.ensures ∙ sym (ap lender_says c.before.in-Unsound.is) ∙ c.before.before.before.get_lender_stats-r.ensures
 
-pub lender-of-spec : {M : Type 1} → statement M
-lender-of-spec =
+pub lender_of_spec : {M : Type 1} → statement M
+lender_of_spec =
     tie.close
     (tie.spec (λ c κs. search rules) (λ c. search rules) (λ c. search rules) (λ c κs. search rules) returns returns-2)

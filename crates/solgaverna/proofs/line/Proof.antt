@@ -6,20 +6,20 @@ use borrow.Author.Rules.{rules}
 use Rattle.solgaverna.proofs.line.Statement.{statement}
 use Rattle.solgaverna.proofs.line.Tie as tie
 
-returns : tie.Need-returns
+returns : tie.Need-returns-in-Done
 unfolding pick
-returns c = sym (ap (λ z. line_of (answered z)) c.enum_told.given.1)
+returns c = sym (ap (λ z. line_of (answered z)) c.in-Done.is)
 
-returns-2 : tie.Need-returns-2
+returns-2 : tie.Need-returns-in-Malformed
 unfolding pick
-returns-2 c = sym (ap (λ z. line_of (answered z)) c.before.r.given.1)
+returns-2 c = sym (ap (λ z. line_of (answered z)) c.before.in-Malformed.is)
 
-returns-3 : tie.Need-returns-3
+returns-3 : tie.Need-returns-in-Short
 unfolding pick
-returns-3 c = sym (ap (λ z. line_of (answered z)) c.enum-told2.given.1)
+returns-3 c = sym (ap (λ z. line_of (answered z)) c.in-Short.is)
 
-pub line-spec : {M : Type 1} → statement M
-line-spec =
+pub line_spec : {M : Type 1} → statement M
+line_spec =
     tie.close
     (tie.spec
     (λ c. search rules)

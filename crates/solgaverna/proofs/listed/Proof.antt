@@ -6,20 +6,20 @@ use borrow.Author.Rules.{rules}
 use Rattle.solgaverna.proofs.listed.Statement.{statement}
 use Rattle.solgaverna.proofs.listed.Tie as tie
 
-returns : tie.Need-returns
+returns : tie.Need-returns-in-Done
 unfolding pick
-returns c = sym (ap (λ z. coded (listing_says z).0 (listing_says z).1) c.before.r.given.1)
+returns c = sym (ap (λ z. coded (listing_says z).0 (listing_says z).1) c.before.in-Done.is)
 
-returns-2 : tie.Need-returns-2
+returns-2 : tie.Need-returns-in-Short
 unfolding pick
-returns-2 c = c.refused.ensures ∙ sym (ap (λ z. coded (listing_says z).0 (listing_says z).1) c.before.enum_told.given.1)
+returns-2 c = c.refused.ensures ∙ sym (ap (λ z. coded (listing_says z).0 (listing_says z).1) c.before.in-Short.is)
 
-returns-3 : tie.Need-returns-3
+returns-3 : tie.Need-returns-in-Unsound
 unfolding pick
-returns-3 c = c.refused2.ensures ∙ sym (ap (λ z. coded (listing_says z).0 (listing_says z).1) c.before.enum-told2.given.1)
+returns-3 c = c.refused-in-Unsound.ensures ∙ sym (ap (λ z. coded (listing_says z).0 (listing_says z).1) c.before.in-Unsound.is)
 
-pub listed-spec : {M : Type 1} → statement M
-listed-spec =
+pub listed_spec : {M : Type 1} → statement M
+listed_spec =
     tie.close
     (tie.spec
     (λ c. search rules)

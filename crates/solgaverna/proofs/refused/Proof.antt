@@ -7,13 +7,13 @@ use borrow.Author.Rules.{rules}
 use Rattle.solgaverna.proofs.refused.Statement.{statement}
 use Rattle.solgaverna.proofs.refused.Tie as tie
 
-returns : tie.Need-returns
+returns : tie.Need-returns-then-n-eq0
 unfolding minus
-returns c = on _ (eq-eqb _ _ c.if1.true) refl
+returns c = on _ (eq-eqb _ _ c.if-n-eq0.true) refl
 
-returns-2 : tie.Need-returns-2
+returns-2 : tie.Need-returns
 unfolding minus
-returns-2 c = off _ (ne_eqb _ _ c.if1.false) (turned _ c.if1.false)
+returns-2 c = off _ (ne_eqb _ _ c.if-n-eq0.false) (turned _ c.if-n-eq0.false)
 
-pub refused-spec : {M : Type 1} → statement M
-refused-spec = tie.close (tie.spec returns (λ c. search rules) (λ c. search rules) returns-2)
+pub refused_spec : {M : Type 1} → statement M
+refused_spec = tie.close (tie.spec returns (λ c. search rules) (λ c. search rules) returns-2)

@@ -6,20 +6,20 @@ use borrow.Author.Rules.{rules}
 use Rattle.solgaverna.proofs.sized.Statement.{statement}
 use Rattle.solgaverna.proofs.sized.Tie as tie
 
-returns : tie.Need-returns
+returns : tie.Need-returns-in-Done
 unfolding pick
-returns c = sym (ap (λ z. coded (answered z).0 (answered z).1) c.before.r.given.1)
+returns c = sym (ap (λ z. coded (answered z).0 (answered z).1) c.before.in-Done.is)
 
-returns-2 : tie.Need-returns-2
+returns-2 : tie.Need-returns-in-Malformed
 unfolding pick
-returns-2 c = c.refused.ensures ∙ sym (ap (λ z. coded (answered z).0 (answered z).1) c.before.enum_told.given.1)
+returns-2 c = c.refused.ensures ∙ sym (ap (λ z. coded (answered z).0 (answered z).1) c.before.in-Malformed.is)
 
-returns-3 : tie.Need-returns-3
+returns-3 : tie.Need-returns-in-Short
 unfolding pick
-returns-3 c = c.refused2.ensures ∙ sym (ap (λ z. coded (answered z).0 (answered z).1) c.before.enum-told2.given.1)
+returns-3 c = c.refused-in-Short.ensures ∙ sym (ap (λ z. coded (answered z).0 (answered z).1) c.before.in-Short.is)
 
-pub sized-spec : {M : Type 1} → statement M
-sized-spec =
+pub sized_spec : {M : Type 1} → statement M
+sized_spec =
     tie.close
     (tie.spec
     (λ c. search rules)

@@ -6,8 +6,8 @@ use Rattle.solgaverna.proofs.solgaverna_faulty_line.Statement.{statement}
 use Rattle.solgaverna.proofs.solgaverna_faulty_line.Tie as tie
 
 returns : tie.Need-returns
-returns c = c.line.ensures ∙ ap line_of c.before.before.to-journal.ensures.0 ∙ fault_line_lem _ _
+returns c = c.line.ensures ∙ ap line_of c.before.before.to_journal-r.ensures.0 ∙ fault_line_lem _ _
 
-pub solgaverna-faulty-line-spec : {M : Type 1} → statement M
-solgaverna-faulty-line-spec =
+pub solgaverna_faulty_line_spec : {M : Type 1} → statement M
+solgaverna_faulty_line_spec =
     tie.close (tie.spec (λ c. search rules) (λ c κs. search rules) (λ c κs. search rules) returns)

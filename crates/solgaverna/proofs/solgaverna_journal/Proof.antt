@@ -5,8 +5,8 @@ use Rattle.solgaverna.proofs.solgaverna_journal.Statement.{statement}
 use Rattle.solgaverna.proofs.solgaverna_journal.Tie as tie
 
 returns : tie.Need-returns
-returns c = (c.sized.ensures ∙ ap (λ z. coded z.0 z.1) c.before.before.before.to-journal.ensures.0, c.before.before.before.to-journal.ensures.1)
+returns c = (c.sized.ensures ∙ ap (λ z. coded z.0 z.1) c.before.before.before.to_journal-told.ensures.0, c.before.before.before.to_journal-told.ensures.1)
 
-pub solgaverna-journal-spec : {M : Type 1} → statement M
-solgaverna-journal-spec =
+pub solgaverna_journal_spec : {M : Type 1} → statement M
+solgaverna_journal_spec =
     tie.close (tie.spec (λ c κs. search rules) (λ c κs. search rules) (λ c. search rules) returns)

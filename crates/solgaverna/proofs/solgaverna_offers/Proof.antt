@@ -7,19 +7,19 @@ use borrow.Author.Rules.{rules}
 use Rattle.solgaverna.proofs.solgaverna_offers.Statement.{statement}
 use Rattle.solgaverna.proofs.solgaverna_offers.Tie as tie
 
-returns : tie.Need-returns
-returns c = malformed c.before.before.before.before.before.args.out.now _ c.before.before.replay.ensures (not-true _ c.before.if1.true) c.refused.ensures
+returns : tie.Need-returns-then-not-number
+returns c = malformed c.before.before.before.before.before.args.out-1.now _ c.before.before.replay-replayed.ensures (not-true _ c.before.if-not-number.true-raw) c.refused.ensures
 
-returns-2 : tie.Need-returns-2
+returns-2 : tie.Need-returns-in_default
 unfolding offers_for
-returns-2 c = whole c.before.before.before.before.before.before.before.before.args.out.now _ c.before.before.before.before.before.replay.ensures (not-false _ c.before.before.before.before.if1.false) (ap (λ n. (n, c.before.before.before.before.before.before.before.before.args.out.now)) c.refused2.ensures ∙ ap (λ (z : Asked). offers_for z c.before.before.before.before.before.before.before.before.args.out.now c.before.before.before.before.before.replay.result.book) (sym c.before.enum_told.given.1 ∙ c.before.before.before.of.ensures))
+returns-2 c = whole c.before.before.before.before.before.before.before.before.args.out-1.now _ c.before.before.before.before.before.replay-replayed.ensures (not-false _ c.before.before.before.before.if-not-number.false-raw) (ap (λ n. (n, c.before.before.before.before.before.before.before.before.args.out-1.now)) c.refused-in_default.ensures ∙ ap (λ (z : Asked). offers_for z c.before.before.before.before.before.before.before.before.args.out-1.now c.before.before.before.before.before.replay-replayed.result.book-1) (sym c.before.in_default.is ∙ c.before.before.before.of-k.ensures))
 
-returns-3 : tie.Need-returns-3
+returns-3 : tie.Need-returns
 unfolding offers_for
-returns-3 c = whole c.before.before.before.before.before.before.before.before.before.before.before.before.before.before.args.out.now _ c.before.before.before.before.before.before.before.before.before.before.before.replay.ensures (not-false _ c.before.before.before.before.before.before.before.before.before.before.if1.false) (counts c.counted.ensures c.before.before.before.list.ensures ∙ ap (λ (z : Asked). offers_for z c.before.before.before.before.before.before.before.before.before.before.before.before.before.before.args.out.now c.before.before.before.before.before.before.before.before.before.before.before.replay.result.book) (sym c.before.before.before.before.before.before.before.k.given.1 ∙ c.before.before.before.before.before.before.before.before.before.of.ensures))
+returns-3 c = whole c.before.before.before.before.before.before.before.before.before.before.before.before.before.before.args.out-1.now _ c.before.before.before.before.before.before.before.before.before.before.before.replay-replayed.ensures (not-false _ c.before.before.before.before.before.before.before.before.before.before.if-not-number.false-raw) (counts c.counted.ensures c.before.before.before.list-r.ensures ∙ ap (λ (z : Asked). offers_for z c.before.before.before.before.before.before.before.before.before.before.before.before.before.before.args.out-1.now c.before.before.before.before.before.before.before.before.before.before.before.replay-replayed.result.book-1) (sym c.before.before.before.before.before.before.before.in-For.is ∙ c.before.before.before.before.before.before.before.before.before.of-k.ensures))
 
-pub solgaverna-offers-spec : {M : Type 1} → statement M
-solgaverna-offers-spec =
+pub solgaverna_offers_spec : {M : Type 1} → statement M
+solgaverna_offers_spec =
     tie.close
     (tie.spec
     (λ c κs. search rules)

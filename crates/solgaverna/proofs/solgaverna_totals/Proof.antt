@@ -6,14 +6,14 @@ use borrow.Author.Rules.{rules}
 use Rattle.solgaverna.proofs.solgaverna_totals.Statement.{statement}
 use Rattle.solgaverna.proofs.solgaverna_totals.Tie as tie
 
-returns : tie.Need-returns
-returns c = malformed c.before.before.before.before.before.args.out.now _ c.before.before.replay.ensures (not-true _ c.before.if1.true) c.refused.ensures
+returns : tie.Need-returns-then-not-number
+returns c = malformed c.before.before.before.before.before.args.out-1.now _ c.before.before.replay-replayed.ensures (not-true _ c.before.if-not-number.true-raw) c.refused.ensures
 
-returns-2 : tie.Need-returns-2
-returns-2 c = whole c.before.before.before.before.before.before.before.before.before.before.args.out.now _ c.before.before.before.before.before.before.before.replay.ensures (not-false _ c.before.before.before.before.before.before.if1.false) (c.before.before.put_four.ensures ∙ ap (λ r. four_over r c.before.before.before.before.before.before.before.before.before.before.args.out.now) c.before.before.before.totals-of.ensures)
+returns-2 : tie.Need-returns
+returns-2 c = whole c.before.before.before.before.before.before.before.before.before.before.args.out-1.now _ c.before.before.before.before.before.before.before.replay-replayed.ensures (not-false _ c.before.before.before.before.before.before.if-not-number.false-raw) (c.before.before.put_four.ensures ∙ ap (λ r. four_over r c.before.before.before.before.before.before.before.before.before.before.args.out-1.now) c.before.before.before.totals_of.ensures)
 
-pub solgaverna-totals-spec : {M : Type 1} → statement M
-solgaverna-totals-spec =
+pub solgaverna_totals_spec : {M : Type 1} → statement M
+solgaverna_totals_spec =
     tie.close
     (tie.spec
     (λ c κs. search rules)

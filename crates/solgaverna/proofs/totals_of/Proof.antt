@@ -6,15 +6,15 @@ use borrow.Author.Rules.{rules}
 use Rattle.solgaverna.proofs.totals_of.Statement.{statement}
 use Rattle.solgaverna.proofs.totals_of.Tie as tie
 
-returns : tie.Need-returns
+returns : tie.Need-returns-in-Totals
 unfolding four_says pick
-returns c = sym (ap totals_says c.before.r.given.1) ∙ c.before.before.before.get-stats.ensures
+returns c = sym (ap totals_says c.before.in-Totals.is) ∙ c.before.before.before.get_stats-r.ensures
 
-returns-2 : tie.Need-returns-2
+returns-2 : tie.Need-returns-in-Unsound
 unfolding four_says pick
-returns-2 c = ap four_says c.unsound.ensures ∙ sym (ap totals_says c.before.enum_told.given.1) ∙ c.before.before.before.get-stats.ensures
+returns-2 c = ap four_says c.unsound.ensures ∙ sym (ap totals_says c.before.in-Unsound.is) ∙ c.before.before.before.get_stats-r.ensures
 
-pub totals-of-spec : {M : Type 1} → statement M
-totals-of-spec =
+pub totals_of_spec : {M : Type 1} → statement M
+totals_of_spec =
     tie.close
     (tie.spec (λ c κs. search rules) (λ c. search rules) (λ c. search rules) (λ c κs. search rules) returns returns-2)

@@ -11,11 +11,11 @@ use Rattle.table.specs.Seek.{found_over, found_at, found_not}
 use Rattle.table.proofs.find.Statement.{statement}
 use Rattle.table.proofs.find.Tie as tie
 
-abbrev invariant-loop : tie.invariant-loop
+abbrev invariant-loop : tie.invariant-loop-lo
 invariant-loop ids len id count lo₀ hi₀ lo hi = (count ≡ length (take len ids)) × Searching (take len ids) id lo hi
 
 -- so the loop turns at most as often as the count can be halved
-abbrev decreases-loop : tie.decreases-loop
+abbrev decreases-loop : tie.decreases-loop-lo
 decreases-loop ids len id count lo₀ hi₀ lo hi = halvings (hi - lo)
 
 -- a place of the first ids is a place of all
@@ -26,58 +26,58 @@ seen : (len k : ℕ) (ids : List ℕ) → k < length (take len ids) → get_or (
 seen len k ids h = get_or-take len ids k 0 (inside len k ids h).0
 
 -- the middle of a range that is left
-looked : (c : tie.In-loop invariant-loop decreases-loop) → middle c.before.loop.lo c.before.loop.hi < length (take c.before.before.before.before.args.len c.before.before.before.before.args.ids.now)
-looked c = omega (arith, c.loop-test.true, c.before.loop.invariant.1.top)
+looked : (c : tie.In-loop-lo invariant-loop decreases-loop) → middle c.before.loop-lo.lo c.before.loop-lo.hi < length (take c.before.before.before.before.args.len c.before.before.before.before.args.ids.now)
+looked c = omega (arith, c.loop-lo-test.true, c.before.loop-lo.invariant.1.top)
 
-look-inside : (c : tie.In-loop invariant-loop decreases-loop) → middle c.before.loop.lo c.before.loop.hi < length c.before.before.before.before.args.ids.now
-look-inside c = let a = c.before.before.before.before.args in (inside a.len (middle c.before.loop.lo c.before.loop.hi) a.ids.now (looked c)).1
+look-inside : (c : tie.In-loop-lo invariant-loop decreases-loop) → middle c.before.loop-lo.lo c.before.loop-lo.hi < length c.before.before.before.before.args.ids.now
+look-inside c = let a = c.before.before.before.before.args in (inside a.len (middle c.before.loop-lo.lo c.before.loop-lo.hi) a.ids.now (looked c)).1
 
-loop-holds : tie.Need-loop-init invariant-loop decreases-loop
+loop-holds : tie.Need-loop-lo-init invariant-loop decreases-loop
 loop-holds c =
-    let e = c.least.ensures ∙ sym (length-take c.before.before.args.len c.before.before.args.ids.now) in
+    let e = c.least-count.ensures ∙ sym (length-take c.before.before.args.len c.before.before.args.ids.now) in
     (e, rw e (search_start _ _))
 
-loop-less : tie.Need-loop-smaller invariant-loop decreases-loop
-loop-less c = up_less [] 0 _ _ c.before.before.loop-test.true
+loop-less : tie.Need-loop-lo-smaller-then-looked-id invariant-loop decreases-loop
+loop-less c = up_less [] 0 _ _ c.before.before.loop-lo-test.true
 
-loop-again : tie.Need-loop-preserved invariant-loop decreases-loop
+loop-again : tie.Need-loop-lo-preserved-then-looked-id invariant-loop decreases-loop
 loop-again c =
     let a = c.before.before.before.before.before.before.args in
-    let l = c.before.before.before.loop in
-    (l.invariant.0, search_up _ _ l.invariant.1 c.before.before.loop-test.true (rw (seen a.len (middle l.lo l.hi) a.ids.now (looked c.before.before)) c.if1.true))
+    let l = c.before.before.before.loop-lo in
+    (l.invariant.0, search_up _ _ l.invariant.1 c.before.before.loop-lo-test.true (rw (seen a.len (middle l.lo l.hi) a.ids.now (looked c.before.before)) c.if-looked-id.true))
 
-loop-less-2 : tie.Need-loop-smaller-2 invariant-loop decreases-loop
-loop-less-2 c = down_less [] 0 _ _ c.before.before.loop-test.true
+loop-less-2 : tie.Need-loop-lo-smaller invariant-loop decreases-loop
+loop-less-2 c = down_less [] 0 _ _ c.before.before.loop-lo-test.true
 
-loop-again-2 : tie.Need-loop-preserved-2 invariant-loop decreases-loop
+loop-again-2 : tie.Need-loop-lo-preserved invariant-loop decreases-loop
 loop-again-2 c =
     let a = c.before.before.before.before.before.before.args in
-    let l = c.before.before.before.loop in
-    (l.invariant.0, search_down _ _ l.invariant.1 c.before.before.loop-test.true (rw (seen a.len (middle l.lo l.hi) a.ids.now (looked c.before.before)) c.if1.false))
+    let l = c.before.before.before.loop-lo in
+    (l.invariant.0, search_down _ _ l.invariant.1 c.before.before.loop-lo-test.true (rw (seen a.len (middle l.lo l.hi) a.ids.now (looked c.before.before)) c.if-looked-id.false))
 
-returns : tie.Need-returns invariant-loop decreases-loop
+returns : tie.Need-returns-then-count-lo invariant-loop decreases-loop
 returns c =
-    let l = c.before.before.loop in
-    found_over _ _ (search_end _ _ l.invariant.1 c.before.loop-test.false) (omega (arith, l.invariant.0, c.if2.true))
+    let l = c.before.before.loop-lo in
+    found_over _ _ (search_end _ _ l.invariant.1 c.before.loop-lo-test.false) (omega (arith, l.invariant.0, c.if-count-lo.true))
 
 -- the place where it ended is that of an id
-there : (c : tie.Else2 invariant-loop decreases-loop) → c.before.before.loop.lo < length (take c.before.before.before.before.before.args.len c.before.before.before.before.before.args.ids.now)
-there c = omega (arith, c.before.before.loop.invariant.0, c.if2.false)
+there : (c : tie.Else-count-lo invariant-loop decreases-loop) → c.before.before.loop-lo.lo < length (take c.before.before.before.before.before.args.len c.before.before.before.before.before.args.ids.now)
+there c = omega (arith, c.before.before.loop-lo.invariant.0, c.if-count-lo.false)
 
-end-inside : (c : tie.Else2 invariant-loop decreases-loop) → c.before.before.loop.lo < length c.before.before.before.before.before.args.ids.now
-end-inside c = let a = c.before.before.before.before.before.args in (inside a.len c.before.before.loop.lo a.ids.now (there c)).1
+end-inside : (c : tie.Else-count-lo invariant-loop decreases-loop) → c.before.before.loop-lo.lo < length c.before.before.before.before.before.args.ids.now
+end-inside c = let a = c.before.before.before.before.before.args in (inside a.len c.before.before.loop-lo.lo a.ids.now (there c)).1
 
-returns-2 : tie.Need-returns-2 invariant-loop decreases-loop
+returns-2 : tie.Need-returns-then-there-id invariant-loop decreases-loop
 returns-2 c =
     let a = c.before.before.before.before.before.before.before.args in
-    let l = c.before.before.before.before.loop in
-    found_at _ _ (search_end _ _ l.invariant.1 c.before.before.before.loop-test.false) (there c.before.before) (seen a.len l.lo a.ids.now (there c.before.before) ∙ c.if3.true)
+    let l = c.before.before.before.before.loop-lo in
+    found_at _ _ (search_end _ _ l.invariant.1 c.before.before.before.loop-lo-test.false) (there c.before.before) (seen a.len l.lo a.ids.now (there c.before.before) ∙ c.if-there-id.true)
 
-returns-3 : tie.Need-returns-3 invariant-loop decreases-loop
+returns-3 : tie.Need-returns invariant-loop decreases-loop
 returns-3 c =
     let a = c.before.before.before.before.before.before.before.args in
-    let l = c.before.before.before.before.loop in
-    found_not _ _ (search_end _ _ l.invariant.1 c.before.before.before.loop-test.false) (there c.before.before) (λ e. c.if3.false (sym (seen a.len l.lo a.ids.now (there c.before.before)) ∙ e))
+    let l = c.before.before.before.before.loop-lo in
+    found_not _ _ (search_end _ _ l.invariant.1 c.before.before.before.loop-lo-test.false) (there c.before.before) (λ e. c.if-there-id.false (sym (seen a.len l.lo a.ids.now (there c.before.before)) ∙ e))
 
 pub find_spec : {M : Type 1} → statement M
 find_spec =
@@ -87,8 +87,8 @@ find_spec =
     decreases-loop
     (λ c κs. search rules)
     loop-holds
-    (λ c. omega (arith, c.loop-test.true))
-    (λ c. let k = look-inside c in omega (arith, c.loop-test.true))
+    (λ c. omega (arith, c.loop-lo-test.true))
+    (λ c. let k = look-inside c in omega (arith, c.loop-lo-test.true))
     (λ c. let k = look-inside c in search rules)
     (λ c. let k = look-inside c.before in search rules)
     (λ c. let k = look-inside c.before.before in search rules)

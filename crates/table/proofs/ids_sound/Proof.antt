@@ -9,20 +9,20 @@ use Prim.Native.Nat.{◌-◌}
 use Rattle.table.proofs.ids_sound.Statement.{statement}
 use Rattle.table.proofs.ids_sound.Tie as tie
 
-abbrev invariant-loop : tie.invariant-loop
+abbrev invariant-loop : tie.invariant-loop-i
 invariant-loop ids len ok₀ prev₀ i₀ ok prev i = (prev ≡ get_or (0 ∷ ids) i 0) × Checked 64 (id_test len ids) i ok
 
-abbrev decreases-loop : tie.decreases-loop
+abbrev decreases-loop : tie.decreases-loop-i
 decreases-loop ids len ok₀ prev₀ i₀ ok prev i = 64 - i
 
-loop-again : tie.Need-loop-preserved invariant-loop decreases-loop
-loop-again c = (rw add-one, check_turn c.before.before.loop.invariant.1 c.before.loop-test.true (rw c.before.before.loop.invariant.0))
+loop-again : tie.Need-loop-i-preserved invariant-loop decreases-loop
+loop-again c = (rw add-one, check_turn c.before.before.loop-i.invariant.1 c.before.loop-i-test.true (rw c.before.before.loop-i.invariant.0))
 
 returns : tie.Need-returns invariant-loop decreases-loop
-returns c = rw (check_done c.before.loop.invariant.1 c.loop-test.false)
+returns c = rw (check_done c.before.loop-i.invariant.1 c.loop-i-test.false)
 
-pub ids-sound-spec : {M : Type 1} → statement M
-ids-sound-spec =
+pub ids_sound_spec : {M : Type 1} → statement M
+ids_sound_spec =
     tie.close
     (tie.spec
     invariant-loop

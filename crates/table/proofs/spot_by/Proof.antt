@@ -5,12 +5,12 @@ use borrow.Author.Rules.{rules}
 use Rattle.table.proofs.spot_by.Statement.{statement}
 use Rattle.table.proofs.spot_by.Tie as tie
 
-returns : tie.Need-returns
-returns c = sym (ap (spot_by (take c.before.before.before.args.len c.before.before.before.args.ids.now)) c.enum_told.given.1)
+returns : tie.Need-returns-in_default
+returns c = sym (ap (spot_by (take c.before.before.before.args.len c.before.before.before.args.ids.now)) c.in_default.is)
 
-returns-2 : tie.Need-returns-2
-returns-2 c = c.spot_of_lem.ensures ∙ ap spot_of c.before.find.ensures ∙ sym (ap (spot_by (take c.before.before.before.before.before.before.args.len c.before.before.before.before.before.before.args.ids.now)) c.before.before.before.key.given.1)
+returns-2 : tie.Need-returns
+returns-2 c = c.spot_of.ensures ∙ ap spot_of c.before.find-f.ensures ∙ sym (ap (spot_by (take c.before.before.before.before.before.before.args.len c.before.before.before.before.before.before.args.ids.now)) c.before.before.before.in-Id.is)
 
-pub spot-by-spec : {M : Type 1} → statement M
-spot-by-spec =
+pub spot_by_spec : {M : Type 1} → statement M
+spot_by_spec =
     tie.close (tie.spec (λ c. search rules) (λ c. search rules) returns (λ c κs. search rules) (λ c κs. search rules) returns-2)

@@ -4,11 +4,11 @@ use borrow.Author.Rules.{rules}
 use Rattle.table.proofs.spot_of.Statement.{statement}
 use Rattle.table.proofs.spot_of.Tie as tie
 
-returns : tie.Need-returns
-returns c = sym (ap spot_of c.before.f.given.1)
+returns : tie.Need-returns-in-At
+returns c = sym (ap spot_of c.before.in-At.is)
 
-returns-2 : tie.Need-returns-2
-returns-2 c = sym (ap spot_of c.before.f2.given.1)
+returns-2 : tie.Need-returns-in-Absent
+returns-2 c = sym (ap spot_of c.before.in-Absent.is)
 
-pub spot-of-spec : {M : Type 1} → statement M
-spot-of-spec = tie.close (tie.spec (λ c. search rules) (λ c. search rules) returns returns-2)
+pub spot_of_spec : {M : Type 1} → statement M
+spot_of_spec = tie.close (tie.spec (λ c. search rules) (λ c. search rules) returns returns-2)

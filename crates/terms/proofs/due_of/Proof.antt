@@ -23,60 +23,60 @@ abbrev owed : tie.Start → List ℕ → ℕ × ℕ
 owed s l = Sums.due_of l s.args.elapsed s.args.repaid
 
 in_range : (s : tie.Start) → ScheduleIn s.args.s
-in_range s = made_in_lem s.args.kept s.args.s s.requires.0
+in_range s = made_in_lem s.args.kept s.args.s s.requires.s_value
 
 -- its list, where the terms are kept and where not
 by-terms : (s : tie.Start) (b : Bool) (l : List ℕ) → s.args.kept ≡ b → l ≡ cond b (kept_installments s.args.s) (even s.args.s.count (magnitude_of s.args.s.installment)) → due_as (owed s l) ≡ due_as (owed s (installments_of s.args.kept s.args.s))
 unfolding installments_of
 by-terms s b l e h = ap (λ (m : List ℕ). due_as (owed s m)) (h ∙ ap (λ (t : Bool). cond t (kept_installments s.args.s) (even s.args.s.count (magnitude_of s.args.s.installment))) (sym e))
 
-stored : (c : tie.After-magnitude) → c.magnitude.result ≡ magnitude_of c.before.before.args.s.installment
-stored c = simp (back c.before.before.args.s.installment c.before.struct_told.given.1.1.0.1) at c.magnitude.ensures
+stored : (c : tie.After-magnitude-installment) → c.magnitude-installment.result ≡ magnitude_of c.before.before.args.s.installment
+stored c = simp (back c.before.before.args.s.installment c.before.struct_told-1.given.1.1.0.1) at c.magnitude-installment.ensures
 
-returns : tie.Need-returns
+returns : tie.Need-returns-then-not-kept
 returns c =
     let s = c.before.before.before.before in
-    c.even_due_lem.ensures
+    c.even_due.ensures
     ∙ ap (λ (x : ℕ). due_if (even_ok s.args.s.count x s.args.elapsed s.args.repaid) (owed s (even s.args.s.count x))) (stored c.before.before)
-    ∙ sym (answers (even_ok_lem s.args.s (in_range s) s.args.elapsed s.args.repaid s.requires.1.0 s.requires.1.1) refl)
-    ∙ by-terms s _ _ (not-true s.args.kept c.before.if1.true) refl
+    ∙ sym (answers (even_ok_lem s.args.s (in_range s) s.args.elapsed s.args.repaid s.requires.elapsed_le_count.0 s.requires.elapsed_le_count.1) refl)
+    ∙ by-terms s _ _ (not-true s.args.kept c.before.if-not-kept.true-raw) refl
 
 -- past the test its terms are kept
-terms-kept : (c : tie.Else1) → KeptIn c.before.before.before.args.s
-terms-kept c = kept_terms c.before.before.before.args.s c.before.before.before.args.kept (not-false c.before.before.before.args.kept c.if1.false) c.before.before.before.requires.0
+terms-kept : (c : tie.Else-not-kept) → KeptIn c.before.before.before.args.s
+terms-kept c = kept_terms c.before.before.before.args.s c.before.before.before.args.kept (not-false c.before.before.before.args.kept c.if-not-kept.false-raw) c.before.before.before.requires.s_value
 
-amount-is : (c : tie.After-magnitude2) → c.magnitude2.result ≡ magnitude_of c.before.before.before.before.before.args.s.amount
-amount-is c = simp (back c.before.before.before.before.before.args.s.amount c.before.struct-told2.given.1.1.1.1.0.1) at c.magnitude2.ensures
+amount-is : (c : tie.After-magnitude-amount) → c.magnitude-amount.result ≡ magnitude_of c.before.before.before.before.before.args.s.amount
+amount-is c = simp (back c.before.before.before.before.before.args.s.amount c.before.struct_told-2-1.given.1.1.1.1.0.1) at c.magnitude-amount.ensures
 
-returns-2 : tie.Need-returns-2
+returns-2 : tie.Need-returns-then-kind-eq-FALLING
 unfolding kept_installments
 returns-2 c =
     let s = c.before.before.before.before.before.before.before in
-    c.falling-due.ensures
+    c.falling_due.ensures
     ∙ ap (λ (x : ℕ). due_if (falling_ok x s.args.s.rate s.args.s.count s.args.elapsed s.args.repaid) (owed s (falling x s.args.s.rate s.args.s.count))) (amount-is c.before.before)
-    ∙ sym (answers (falling_ok_lem s.args.s (in_range s) s.args.elapsed s.args.repaid s.requires.1.0 s.requires.1.1 (terms-kept c.before.before.before.before)) refl)
-    ∙ by-terms s _ _ (not-false s.args.kept c.before.before.before.before.if1.false) (on _ (eq-eqb _ 1 c.before.if2.true) refl)
+    ∙ sym (answers (falling_ok_lem s.args.s (in_range s) s.args.elapsed s.args.repaid s.requires.elapsed_le_count.0 s.requires.elapsed_le_count.1 (terms-kept c.before.before.before.before)) refl)
+    ∙ by-terms s _ _ (not-false s.args.kept c.before.before.before.before.if-not-kept.false-raw) (on _ (eq-eqb _ 1 c.before.if-kind-eq-FALLING.true) refl)
 
-total-is : (c : tie.After-total) → c.total.result ≡ total_of (magnitude_of c.before.before.before.before.before.before.before.args.s.amount) c.before.before.before.before.before.before.before.args.s.rate
+total-is : (c : tie.After-total-total) → c.total-total.result ≡ total_of (magnitude_of c.before.before.before.before.before.before.before.args.s.amount) c.before.before.before.before.before.before.before.args.s.rate
 unfolding total_if
 total-is c =
     let s = c.before.before.before.before.before.before.before.args.s in
-    c.total.ensures ∙ ap (λ (m : ℕ). total_if m s.rate) (amount-is c.before.before) ∙ pick_on _ _ (total_ok s (terms-kept c.before.before.before.before))
+    c.total-total.ensures ∙ ap (λ (m : ℕ). total_if m s.rate) (amount-is c.before.before) ∙ pick_on _ _ (total_ok s (terms-kept c.before.before.before.before))
 
-returns-3 : tie.Need-returns-3
+returns-3 : tie.Need-returns
 unfolding kept_installments
 returns-3 c =
     let s = c.before.before.before.before.before.before.before.before in
     let k = terms-kept c.before.before.before.before.before in
-    let n = ne_eqb _ 1 c.before.before.if2.false in
-    c.flat_due_lem.ensures
-    ∙ ap (λ (x : ℕ). due_if (flat_ok s.args.s.count x c.before.total.result s.args.elapsed s.args.repaid) (owed s (flat s.args.s.count x c.before.total.result))) (stored c.before.before.before.before.before.before)
+    let n = ne_eqb _ 1 c.before.before.if-kind-eq-FALLING.false in
+    c.flat_due.ensures
+    ∙ ap (λ (x : ℕ). due_if (flat_ok s.args.s.count x c.before.total-total.result s.args.elapsed s.args.repaid) (owed s (flat s.args.s.count x c.before.total-total.result))) (stored c.before.before.before.before.before.before)
     ∙ ap (λ (x : ℕ). due_if (flat_ok s.args.s.count (magnitude_of s.args.s.installment) x s.args.elapsed s.args.repaid) (owed s (flat s.args.s.count (magnitude_of s.args.s.installment) x))) (total-is c.before)
-    ∙ sym (answers (flat_ok_lem s.args.s (in_range s) s.args.elapsed s.args.repaid s.requires.1.0 s.requires.1.1 k n) refl)
-    ∙ by-terms s _ _ (not-false s.args.kept c.before.before.before.before.before.if1.false) (off _ n refl)
+    ∙ sym (answers (flat_ok_lem s.args.s (in_range s) s.args.elapsed s.args.repaid s.requires.elapsed_le_count.0 s.requires.elapsed_le_count.1 k n) refl)
+    ∙ by-terms s _ _ (not-false s.args.kept c.before.before.before.before.before.if-not-kept.false-raw) (off _ n refl)
 
-pub due-of-spec : {M : Type 1} → statement M
-due-of-spec =
+pub due_of_spec : {M : Type 1} → statement M
+due_of_spec =
     tie.close
     (tie.spec
     (λ c κs. search rules)

@@ -8,16 +8,16 @@ use borrow.Author.Rules.{rules}
 use Rattle.terms.proofs.first_of.Statement.{statement}
 use Rattle.terms.proofs.first_of.Tie as tie
 
-returns : tie.Need-returns
+returns : tie.Need-returns-then-kind-eq-FALLING
 unfolding first_of first_if
-returns c = on _ (eq-eqb _ 1 c.before.if1.true) (c.falling_first.ensures ∙ pick_on _ _ c.before.before.requires)
+returns c = on _ (eq-eqb _ 1 c.before.if-kind-eq-FALLING.true) (c.falling_first.ensures ∙ pick_on _ _ c.before.before.requires)
 
-part-of-requires : tie.Need-part-of-requires
+part-of-requires : tie.Need-part_of-requires
 part-of-requires c κs = let i = falling_in _ _ _ _ _ c.before.requires in (i.terms.amount_high, (i.terms.rate_high, i.due.count_low))
 
-returns-2 : tie.Need-returns-2
+returns-2 : tie.Need-returns
 unfolding first_of
-returns-2 c = off _ (ne_eqb _ 1 c.before.if1.false) c.part_of.ensures
+returns-2 c = off _ (ne_eqb _ 1 c.before.if-kind-eq-FALLING.false) c.part_of.ensures
 
-pub first-of-spec : {M : Type 1} → statement M
-first-of-spec = tie.close (tie.spec (λ c κs. search rules) returns part-of-requires returns-2)
+pub first_of_spec : {M : Type 1} → statement M
+first_of_spec = tie.close (tie.spec (λ c κs. search rules) returns part-of-requires returns-2)

@@ -6,10 +6,10 @@ use Rattle.terms.proofs.keeps_none.Tie as tie
 
 returns : tie.Need-returns
 unfolding keeps_none
-returns c = simp (simp (back c.before.before.args.s.amount c.before.struct_told.given.1.1.1.1.0.1) at c.is_zero.ensures)
+returns c = simp (simp (back c.before.before.args.s.amount c.before.struct_told-1.given.1.1.1.1.0.1) at c.is_zero-amount.ensures)
 
-pub keeps-none-spec : {M : Type 1} → statement M
-keeps-none-spec =
+pub keeps_none_spec : {M : Type 1} → statement M
+keeps_none_spec =
     tie.close
     (tie.spec
     (λ c κs. search rules)

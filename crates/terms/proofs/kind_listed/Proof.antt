@@ -8,5 +8,5 @@ returns : tie.Need-returns
 unfolding kind_listed
 returns c = refl
 
-pub kind-listed-spec : {M : Type 1} → statement M
-kind-listed-spec = tie.close (tie.spec (λ c. search rules) (λ c. search rules) returns)
+pub kind_listed_spec : {M : Type 1} → statement M
+kind_listed_spec = tie.close (tie.spec (λ c. search rules) (λ c. search rules) returns)

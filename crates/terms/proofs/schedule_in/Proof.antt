@@ -6,10 +6,10 @@ use Rattle.terms.proofs.schedule_in.Tie as tie
 
 returns : tie.Need-returns
 unfolding schedule_in
-returns c = simp (c.before.count-valid.ensures, c.code-listed.ensures, simp (back c.before.before.before.before.args.s.installment c.before.before.before.struct_told.given.1.1.0.1) at c.before.before.in-installment-range.ensures)
+returns c = simp (c.before.count_valid.ensures, c.code_listed.ensures, simp (back c.before.before.before.before.args.s.installment c.before.before.before.struct_told-1.given.1.1.0.1) at c.before.before.in_installment_range-installment.ensures)
 
-pub schedule-in-spec : {M : Type 1} → statement M
-schedule-in-spec =
+pub schedule_in_spec : {M : Type 1} → statement M
+schedule_in_spec =
     tie.close
     (tie.spec
     (λ c κs. search rules)

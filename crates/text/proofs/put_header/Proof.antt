@@ -6,10 +6,10 @@ use Rattle.text.proofs.put_header.Statement.{statement}
 use Rattle.text.proofs.put_header.Tie as tie
 
 returns : tie.Need-returns
-returns c = retext c.before.before.put.ensures (c.before.before.before.before.before.before.write-header.ensures.1 ∙ header_laid _)
+returns c = retext c.before.before.put.ensures (c.before.before.before.before.before.before.write_header.ensures.1 ∙ header_laid _)
 
-pub put-header-spec : {M : Type 1} → statement M
-put-header-spec =
+pub put_header_spec : {M : Type 1} → statement M
+put_header_spec =
     tie.close
     (tie.spec
     (λ c. search rules)

@@ -16,66 +16,66 @@ use Rattle.text.specs.TextLaws.{onward, records_headed, bare, told}
 use Rattle.text.proofs.tell.Statement.{statement}
 use Rattle.text.proofs.tell.Tie as tie
 
-abbrev invariant-loop : tie.invariant-loop
+abbrev invariant-loop : tie.invariant-loop-c
 invariant-loop s out₀ ink edition first pen₀ at₀ out pen at = (k : ℕ) × Telling ink (length s) (λ (p : ℕ). item_of edition (read_at edition s p)) (line_of edition) (records_of s) out₀ pen₀ at k out pen
 
-abbrev decreases-loop : tie.decreases-loop
+abbrev decreases-loop : tie.decreases-loop-c
 decreases-loop s out₀ ink edition first pen₀ at₀ out pen at = length s - at
 
 -- the journal, its edition and its first record
-abbrev journal-of : tie.At-loop invariant-loop decreases-loop → List ℕ
+abbrev journal-of : tie.At-loop-c invariant-loop decreases-loop → List ℕ
 journal-of c = c.before.before.before.before.before.before.before.before.before.before.before.args.s.now
 
-abbrev edition : tie.At-loop invariant-loop decreases-loop → ℕ
-edition c = c.before.before.before.before.before.before.h.given.0.0
+abbrev edition : tie.At-loop-c invariant-loop decreases-loop → ℕ
+edition c = c.before.before.before.before.before.before.in-Records.edition
 
-opens : (c : tie.At-loop invariant-loop decreases-loop) → opening_of (journal-of c) ≡ good_header (edition c) c.before.before.before.before.before.before.h.given.0.1.0
-opens c = sym c.before.before.before.before.before.before.before.before.header.ensures ∙ ap opening c.before.before.before.before.before.before.h.given.1
+opens : (c : tie.At-loop-c invariant-loop decreases-loop) → opening_of (journal-of c) ≡ good_header (edition c) c.before.before.before.before.before.before.in-Records.first
+opens c = sym c.before.before.before.before.before.before.before.before.header-h.ensures ∙ ap opening c.before.before.before.before.before.before.in-Records.is
 
 -- what a call of `decode` gave
-stands : (c : tie.After-decode invariant-loop decreases-loop) {r : Reading} → reading c.decode.result ≡ r
-    → item_of (edition c.before) (read_at (edition c.before) (journal-of c.before) c.before.loop.at) ≡ item_of (edition c.before) r
-stands c e = ap (item_of (edition c.before)) (sym c.decode.ensures ∙ e)
+stands : (c : tie.After-decode-d invariant-loop decreases-loop) {r : Reading} → reading c.decode-d.result ≡ r
+    → item_of (edition c.before) (read_at (edition c.before) (journal-of c.before) c.before.loop-c.at) ≡ item_of (edition c.before) r
+stands c e = ap (item_of (edition c.before)) (sym c.decode-d.ensures ∙ e)
 
-returns : tie.Need-returns invariant-loop decreases-loop
-returns c = bare _ _ _ (sym c.before.before.header.ensures ∙ ap opening c.enum_told.given.1)
+returns : tie.Need-returns-in_default invariant-loop decreases-loop
+returns c = bare _ _ _ (sym c.before.before.header-h.ensures ∙ ap opening c.in_default.is)
 
-loop-holds : tie.Need-loop-init invariant-loop decreases-loop
+loop-holds : tie.Need-loop-c-init invariant-loop decreases-loop
 unfolding records_from
-loop-holds c = (0, begins _ (records_headed _ (sym c.before.before.before.before.before.before.before.header.ensures ∙ ap opening c.before.before.before.before.before.h.given.1)))
+loop-holds c = (0, begins _ (records_headed _ (sym c.before.before.before.before.before.before.before.header-h.ensures ∙ ap opening c.before.before.before.before.before.in-Records.is)))
 
-loop-less : tie.Need-loop-smaller invariant-loop decreases-loop
+loop-less : tie.Need-loop-c-smaller invariant-loop decreases-loop
 loop-less c =
     let d = c.before.before.before.before.before.before.before.before.before in
-    omega (arith, leads _ _ (onward (edition d.before) (journal-of d.before)) (stands d (ap reading c.before.before.before.before.before.before.before.d.given.1)))
+    omega (arith, leads _ _ (onward (edition d.before) (journal-of d.before)) (stands d (ap reading c.before.before.before.before.before.before.before.in-Command.is)))
 
-loop-again : tie.Need-loop-preserved invariant-loop decreases-loop
+loop-again : tie.Need-loop-c-preserved invariant-loop decreases-loop
 loop-again c =
     let d = c.before.before.before.before.before.before.before.before.before in
-    let i = d.before.loop.invariant in (
+    let i = d.before.loop-c.invariant in (
       _,
-      goes_on (onward (edition d.before) (journal-of d.before)) i.1 (stands d (ap reading c.before.before.before.before.before.before.before.d.given.1))
-          (retext c.before.before.put-line.ensures (line_sent (edition d.before) _ c.before.before.before.before.before.split.ensures)),
+      goes_on (onward (edition d.before) (journal-of d.before)) i.1 (stands d (ap reading c.before.before.before.before.before.before.before.in-Command.is))
+          (retext c.before.before.put_line-pen.ensures (line_sent (edition d.before) _ c.before.before.before.before.before.split-parts.ensures)),
     )
 
 -- the buffer keeps its length
-long : (c : tie.At-loop invariant-loop decreases-loop) → length c.loop.out ≡ length c.before.before.before.before.before.before.before.before.before.before.before.args.out.now
-long c = c.loop.invariant.1.long ∙ kept c.before.before.before.put-title.ensures
+long : (c : tie.At-loop-c invariant-loop decreases-loop) → length c.loop-c.out-1 ≡ length c.before.before.before.before.before.before.before.before.before.before.before.args.out-1.now
+long c = c.loop-c.invariant.1.long ∙ kept c.before.before.before.put_title-pen.ensures
 
-returns-2 : tie.Need-returns-2 invariant-loop decreases-loop
+returns-2 : tie.Need-returns-in-Malformed invariant-loop decreases-loop
 returns-2 c =
     let d = c.before.before in
     let l = d.before in
-    told (journal-of l) (opens l) l.before.before.before.put-title.ensures (stops (onward (edition l) (journal-of l)) l.loop.invariant.1 (stands d (ap reading c.enum-told2.given.1)))
+    told (journal-of l) (opens l) l.before.before.before.put_title-pen.ensures (stops (onward (edition l) (journal-of l)) l.loop-c.invariant.1 (stands d (ap reading c.in-Malformed.is)))
 
-returns-3 : tie.Need-returns-3 invariant-loop decreases-loop
+returns-3 : tie.Need-returns-in-End invariant-loop decreases-loop
 returns-3 c =
     let d = c.before.before in
     let l = d.before in
-    told (journal-of l) (opens l) l.before.before.before.put-title.ensures (ends (onward (edition l) (journal-of l)) l.loop.invariant.1 (stands d (ap reading c.enum-told3.given.1)))
+    told (journal-of l) (opens l) l.before.before.before.put_title-pen.ensures (ends (onward (edition l) (journal-of l)) l.loop-c.invariant.1 (stands d (ap reading c.in-End.is)))
 
-pub tell-spec : {M : Type 1} → statement M
-tell-spec =
+pub tell_spec : {M : Type 1} → statement M
+tell_spec =
     tie.close
     (tie.spec
     invariant-loop

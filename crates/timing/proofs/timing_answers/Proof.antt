@@ -5,23 +5,23 @@ use borrow.Author.Rules.{rules}
 use Rattle.timing.proofs.timing_answers.Statement.{statement}
 use Rattle.timing.proofs.timing_answers.Tie as tie
 
-abbrev invariant-loop : tie.invariant-loop
+abbrev invariant-loop : tie.invariant-loop-i
 invariant-loop journal questions out₀ times book mixed₀ i₀ out mixed i = (i ≤ times) × (length out ≡ length out₀)
 
-abbrev decreases-loop : tie.decreases-loop
+abbrev decreases-loop : tie.decreases-loop-i
 decreases-loop journal questions out₀ times book mixed₀ i₀ out mixed i = times - i
 
 returns : tie.Need-returns invariant-loop decreases-loop
 returns c = search rules
 
-loop-again : tie.Need-loop-preserved invariant-loop decreases-loop
+loop-again : tie.Need-loop-i-preserved invariant-loop decreases-loop
 loop-again c = search rules
 
-same_length : tie.Need-same-length invariant-loop decreases-loop
+same_length : tie.Need-shape_of-out invariant-loop decreases-loop
 same_length c = search rules
 
-pub timing-answers-spec : {M : Type 1} → statement M
-timing-answers-spec =
+pub timing_answers_spec : {M : Type 1} → statement M
+timing_answers_spec =
     tie.close
     (tie.spec
     invariant-loop

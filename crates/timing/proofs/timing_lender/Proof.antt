@@ -3,17 +3,17 @@ use borrow.Author.Rules.{rules}
 use Rattle.timing.proofs.timing_lender.Statement.{statement}
 use Rattle.timing.proofs.timing_lender.Tie as tie
 
-abbrev invariant-loop : tie.invariant-loop
+abbrev invariant-loop : tie.invariant-loop-i
 invariant-loop journal account times book mixed₀ i₀ mixed i = i ≤ times
 
-abbrev decreases-loop : tie.decreases-loop
+abbrev decreases-loop : tie.decreases-loop-i
 decreases-loop journal account times book mixed₀ i₀ mixed i = times - i
 
 returns : tie.Need-returns invariant-loop decreases-loop
 returns c = search rules
 
-pub timing-lender-spec : {M : Type 1} → statement M
-timing-lender-spec =
+pub timing_lender_spec : {M : Type 1} → statement M
+timing_lender_spec =
     tie.close
     (tie.spec
     invariant-loop

@@ -3,17 +3,17 @@ use borrow.Author.Rules.{rules}
 use Rattle.timing.proofs.timing_read.Statement.{statement}
 use Rattle.timing.proofs.timing_read.Tie as tie
 
-abbrev invariant-loop : tie.invariant-loop
+abbrev invariant-loop : tie.invariant-loop-i
 invariant-loop bytes times mixed₀ i₀ mixed i = i ≤ times
 
-abbrev decreases-loop : tie.decreases-loop
+abbrev decreases-loop : tie.decreases-loop-i
 decreases-loop bytes times mixed₀ i₀ mixed i = times - i
 
 returns : tie.Need-returns invariant-loop decreases-loop
 returns c = search rules
 
-pub timing-read-spec : {M : Type 1} → statement M
-timing-read-spec =
+pub timing_read_spec : {M : Type 1} → statement M
+timing_read_spec =
     tie.close
     (tie.spec
     invariant-loop

@@ -3,11 +3,11 @@ use Rattle.table.specs.SpotLaws.{written_new, written_old}
 use Rattle.account.proofs.Account.over.Statement.{statement}
 use Rattle.account.proofs.Account.over.Tie as tie
 
-returns : tie.Need-returns
-returns c = written_old c.before.args.here c.before.args.self c.before.args.old (not-true _ c.if1.true)
+returns : tie.Need-returns-then-not-here
+returns c = written_old c.before.args.here c.before.args.self c.before.args.old (not-true _ c.if-not-here.true-raw)
 
-returns-2 : tie.Need-returns-2
-returns-2 c = written_new c.before.args.here c.before.args.self c.before.args.old (not-false _ c.if1.false)
+returns-2 : tie.Need-returns
+returns-2 c = written_new c.before.args.here c.before.args.self c.before.args.old (not-false _ c.if-not-here.false-raw)
 
-pub over-spec : {M : Type 1} → statement M
-over-spec = tie.close (tie.spec returns returns-2)
+pub over_spec : {M : Type 1} → statement M
+over_spec = tie.close (tie.spec returns returns-2)

@@ -5,7 +5,7 @@ use Rattle.account.proofs.Account.sound.Tie as tie
 
 returns : tie.Need-returns
 unfolding account_sound
-returns c = rw c.sound.ensures
+returns c = rw c.sound-sound.ensures
 
-pub sound-spec : {M : Type 1} → statement M
-sound-spec = tie.close (tie.spec (λ c κs. search rules) returns)
+pub sound_spec : {M : Type 1} → statement M
+sound_spec = tie.close (tie.spec (λ c κs. search rules) returns)

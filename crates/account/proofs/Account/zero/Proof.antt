@@ -5,7 +5,7 @@ use Rattle.account.proofs.Account.zero.Tie as tie
 
 returns : tie.Need-returns
 unfolding account_zero
-returns c = rw c.zero.ensures
+returns c = rw c.zero-zero.ensures
 
-pub zero-spec : {M : Type 1} → statement M
-zero-spec = tie.close (tie.spec (λ c κs. search rules) returns)
+pub zero_spec : {M : Type 1} → statement M
+zero_spec = tie.close (tie.spec (λ c κs. search rules) returns)

@@ -7,13 +7,13 @@ use Rattle.account.proofs.Purse.sound.Tie as tie
 returns : tie.Need-returns
 unfolding purse_sound
 returns c = let p = c.before.before.before.before.before.before.before.before.args.self in rw (
-  simp (back p.balance (search rules)) at c.before.before.before.before.before.before.in-total-range.ensures,
-  simp (back p.allowance (search rules)) at c.before.before.before.before.in-total-range2.ensures,
-  simp (back p.offered (search rules)) at c.before.before.in-total-range3.ensures,
-  simp (back p.accepted (search rules)) at c.in-total-range4.ensures,
+  simp (back p.balance (search rules)) at c.before.before.before.before.before.before.in_total_range-balance.ensures,
+  simp (back p.allowance (search rules)) at c.before.before.before.before.in_total_range-allowance.ensures,
+  simp (back p.offered (search rules)) at c.before.before.in_total_range-offered.ensures,
+  simp (back p.accepted (search rules)) at c.in_total_range-accepted.ensures,
 )
 
-pub sound-spec : {M : Type 1} → statement M
-sound-spec =
+pub sound_spec : {M : Type 1} → statement M
+sound_spec =
     tie.close
     (tie.spec (λ c κs. search rules) (λ c κs. search rules) (λ c κs. search rules) (λ c κs. search rules) returns)

@@ -7,13 +7,13 @@ use Rattle.account.proofs.Purse.zero.Tie as tie
 returns : tie.Need-returns
 unfolding purse_zero
 returns c = let p = c.before.before.before.before.before.before.before.before.args.self in rw (
-  simp (back p.balance (search rules)) at c.before.before.before.before.before.before.is_zero.ensures,
-  simp (back p.allowance (search rules)) at c.before.before.before.before.is-zero2.ensures,
-  simp (back p.offered (search rules)) at c.before.before.is-zero3.ensures,
-  simp (back p.accepted (search rules)) at c.is-zero4.ensures,
+  simp (back p.balance (search rules)) at c.before.before.before.before.before.before.is_zero-balance.ensures,
+  simp (back p.allowance (search rules)) at c.before.before.before.before.is_zero-allowance.ensures,
+  simp (back p.offered (search rules)) at c.before.before.is_zero-offered.ensures,
+  simp (back p.accepted (search rules)) at c.is_zero-accepted.ensures,
 )
 
-pub zero-spec : {M : Type 1} → statement M
-zero-spec =
+pub zero_spec : {M : Type 1} → statement M
+zero_spec =
     tie.close
     (tie.spec (λ c κs. search rules) (λ c κs. search rules) (λ c κs. search rules) (λ c κs. search rules) returns)

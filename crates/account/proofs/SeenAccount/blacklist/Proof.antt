@@ -6,13 +6,13 @@ use borrow.Author.Rules.{rules}
 use Rattle.account.proofs.SeenAccount.blacklist.Statement.{statement}
 use Rattle.account.proofs.SeenAccount.blacklist.Tie as tie
 
-returns : tie.Need-returns
+returns : tie.Need-returns-then-not-answer
 returns c =
     c.refused.ensures
-    ∙ refused posted _ _ c.before.before.flag-refusal.ensures (eqb-false _ _ (not-true _ c.before.if1.true))
+    ∙ refused posted _ _ c.before.before.flag_refusal-answer.ensures (eqb-false _ _ (not-true _ c.before.if-not-answer.true-raw))
 
-returns-2 : tie.Need-returns-2
-returns-2 c = accepted posted _ _ c.before.flag-refusal.ensures (eqb-true _ _ (not-false _ c.if1.false)) refl
+returns-2 : tie.Need-returns
+returns-2 c = accepted posted _ _ c.before.flag_refusal-answer.ensures (eqb-true _ _ (not-false _ c.if-not-answer.false-raw)) refl
 
-pub blacklist-spec : {M : Type 1} → statement M
-blacklist-spec = tie.close (tie.spec (λ c κs. search rules) (λ c κs. search rules) returns returns-2)
+pub blacklist_spec : {M : Type 1} → statement M
+blacklist_spec = tie.close (tie.spec (λ c κs. search rules) (λ c κs. search rules) returns returns-2)

@@ -13,34 +13,34 @@ use Rattle.account.proofs.SeenAccount.lender_repaid.Statement.{statement}
 use Rattle.account.proofs.SeenAccount.lender_repaid.Tie as tie
 
 -- where nothing stands against the flag, it is 0 or 1
-clear : (c : tie.Else1) → let a = c.before.before.before.args in first (flag_checks a.self a.allowed a.flag) ≡ 0
-clear c = sym c.before.flag-refusal.ensures ∙ eqb-true _ _ (not-false _ c.if1.false)
+clear : (c : tie.Else-not-answer) → let a = c.before.before.before.args in first (flag_checks a.self a.allowed a.flag) ≡ 0
+clear c = sym c.before.flag_refusal-answer.ensures ∙ eqb-true _ _ (not-false _ c.if-not-answer.false-raw)
 
-small : (c : tie.Else1) → c.before.before.before.args.flag ≤ 1
+small : (c : tie.Else-not-answer) → c.before.before.before.args.flag ≤ 1
 small c = ltb-false 1 _ (passed _ _ _ (passed _ _ _ (clear c)).1).0
 
-returns : tie.Need-returns
+returns : tie.Need-returns-then-not-answer
 returns c =
-    let stopped = eqb-false c.before.before.flag-refusal.result 0 (not-true _ c.before.if1.true) in
-    c.refused.ensures ∙ refused posted _ _ (stops _ _ c.before.before.flag-refusal.ensures stopped) stopped
+    let stopped = eqb-false c.before.before.flag_refusal-answer.result 0 (not-true _ c.before.if-not-answer.true-raw) in
+    c.refused.ensures ∙ refused posted _ _ (stops _ _ c.before.before.flag_refusal-answer.ensures stopped) stopped
 
-returns-2 : tie.Need-returns-2
+returns-2 : tie.Need-returns-then-count-gt-COUNT_LIMIT
 returns-2 c =
     let a = c.before.before.before.before.before.args in
-    c.refused2.ensures
-    ∙ refused posted _ _ (goes _ _ (clear c.before.before) (fails out_of_range _ (lt-ltb count_limit (a.self.row.repaid + a.flag) (omega arith)))) (eqb-false _ _ (refusal_not-0 out_of_range))
+    c.refused-then-count-gt-COUNT_LIMIT.ensures
+    ∙ refused posted _ _ (goes _ _ (clear c.before.before) (fails out_of_range _ (lt-ltb count_limit (a.self.row-1.repaid + a.flag) (omega arith)))) (eqb-false _ _ (refusal_not-0 out_of_range))
 
-returns-3 : tie.Need-returns-3
+returns-3 : tie.Need-returns-then-count-flag-gt-COUNT_LIMIT
 returns-3 c =
-    c.refused3.ensures
-    ∙ refused posted _ _ (goes _ _ (clear c.before.before.before) (fails out_of_range _ (lt-ltb _ _ c.before.if3.true))) (eqb-false _ _ (refusal_not-0 out_of_range))
+    c.refused-then-count-flag-gt-COUNT_LIMIT.ensures
+    ∙ refused posted _ _ (goes _ _ (clear c.before.before.before) (fails out_of_range _ (lt-ltb _ _ c.before.if-count-flag-gt-COUNT_LIMIT.true))) (eqb-false _ _ (refusal_not-0 out_of_range))
 
-returns-4 : tie.Need-returns-4
+returns-4 : tie.Need-returns
 returns-4 c =
-    accepted posted _ _ (goes _ _ (clear c.before.before) (passes out_of_range _ (le-ltb _ _ c.if3.false) none_left)) refl refl
+    accepted posted _ _ (goes _ _ (clear c.before.before) (passes out_of_range _ (le-ltb _ _ c.if-count-flag-gt-COUNT_LIMIT.false) none_left)) refl refl
 
-pub lender-repaid-spec : {M : Type 1} → statement M
-lender-repaid-spec =
+pub lender_repaid_spec : {M : Type 1} → statement M
+lender_repaid_spec =
     tie.close
     (tie.spec
     (λ c κs. search rules)

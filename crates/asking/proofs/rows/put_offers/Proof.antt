@@ -17,21 +17,21 @@ use Rattle.asking.specs.AnswerLaws.{taken, left_out}
 use Rattle.asking.proofs.rows.put_offers.Statement.{statement}
 use Rattle.asking.proofs.rows.put_offers.Tie as tie
 
-abbrev invariant-loop : tie.invariant-loop
+abbrev invariant-loop : tie.invariant-loop-i
 invariant-loop out₀ ink w rows used p₀ i₀ out p i = Wrote ink (spread offer_line (pick_from (taking w) 0 (take i (offers_of rows)))) out₀ p₀ out p
 
-abbrev decreases-loop : tie.decreases-loop
+abbrev decreases-loop : tie.decreases-loop-i
 decreases-loop out₀ ink w rows used p₀ i₀ out p i = used - i
 
-loop-holds : tie.Need-loop-init invariant-loop decreases-loop
+loop-holds : tie.Need-loop-i-init invariant-loop decreases-loop
 unfolding spread pick_from
 loop-holds c = none _ _ _
 
-loop-again : tie.Need-loop-preserved invariant-loop decreases-loop
+loop-again : tie.Need-loop-i-preserved invariant-loop decreases-loop
 loop-again c =
-    let u = c.before.before.before.before.before.in_use.ensures in
-    let l = c.before.before.before.before.loop in
-    let h = c.before.before.before.loop-test.true in
+    let u = c.before.before.before.before.before.in_use-used.ensures in
+    let l = c.before.before.before.before.loop-i in
+    let h = c.before.before.before.loop-i-test.true in
     let a = c.before.before.before.before.before.before.before.args in
     let e = asked u l.i h a.w in
     ⊎_elim
@@ -39,14 +39,14 @@ loop-again c =
     (ap (λ (z : List ℕ). spread offer_line (pick_from (taking a.w) 0 (take l.i (offers_of a.t4))) ++ z) (ap (λ (o : OfferNumbers). row_of (in_order o)) x.2.ensures ∙ ap offer_line (sym (entry u l.i h)))
     ∙ sym (taken offer_line (taking a.w) _ l.i rows.none (inside u l.i h) (e _ _ c.before.takes.ensures x.0.taken)))))
     (λ x. rw (x.1, x.2) (retext l.invariant (sym (left_out offer_line (taking a.w) _ l.i rows.none (inside u l.i h) (e _ _ c.before.takes.ensures x.0.left)))))
-    c.if1.branch
+    c.if-takes.branch
 
 returns : tie.Need-returns invariant-loop decreases-loop
 unfolding offer_lines
-returns c = retext c.before.loop.invariant (ap (λ t. spread offer_line (pick_from (taking c.before.before.before.before.args.w) 0 t)) (take_all _ _ (past c.before.before.in_use.ensures _ c.loop-test.false)))
+returns c = retext c.before.loop-i.invariant (ap (λ t. spread offer_line (pick_from (taking c.before.before.before.before.args.w) 0 t)) (take_all _ _ (past c.before.before.in_use-used.ensures _ c.loop-i-test.false)))
 
-pub put-offers-spec : {M : Type 1} → statement M
-put-offers-spec =
+pub put_offers_spec : {M : Type 1} → statement M
+put_offers_spec =
     tie.close
     (tie.spec
     invariant-loop
@@ -63,5 +63,5 @@ put-offers-spec =
     (λ c. search rules)
     (λ c. search rules)
     loop-again
-    (λ c. kept c.before.loop.invariant)
+    (λ c. kept c.before.loop-i.invariant)
     returns)

@@ -8,11 +8,11 @@ use Rattle.asking.proofs.rows.put_round.Tie as tie
 
 returns : tie.Need-returns
 returns c =
-    let amount = c.before.before.before.before.before.before.before.bits.ensures ∙ ap bits_of (back c.before.before.before.before.before.before.before.before.before.before.args.r.amount (search rules)) in
-    retext c.before.before.put-row.ensures (cc)
+    let amount = c.before.before.before.before.before.before.before.bits-amount.ensures ∙ ap bits_of (back c.before.before.before.before.before.before.before.before.before.before.args.r.amount (search rules)) in
+    retext c.before.before.put_row.ensures (cc)
 
-pub put-round-spec : {M : Type 1} → statement M
-put-round-spec =
+pub put_round_spec : {M : Type 1} → statement M
+put_round_spec =
     tie.close
     (tie.spec
     (λ c κs. search rules)

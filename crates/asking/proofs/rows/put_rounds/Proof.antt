@@ -12,45 +12,45 @@ use Rattle.asking.specs.AnswerLaws.{spread_turn, take_most}
 use Rattle.asking.proofs.rows.put_rounds.Statement.{statement}
 use Rattle.asking.proofs.rows.put_rounds.Tie as tie
 
-abbrev invariant-loop : tie.invariant-loop
+abbrev invariant-loop : tie.invariant-loop-i
 invariant-loop out₀ ink g len p₀ i₀ out p i = (i ≤ 16) × (i ≤ len) × Wrote ink (spread round_line (take i g.rounds)) out₀ p₀ out p
 
-abbrev decreases-loop : tie.decreases-loop
+abbrev decreases-loop : tie.decreases-loop-i
 decreases-loop out₀ ink g len p₀ i₀ out p i = 16 - i
 
 -- the places for rounds
-long : (s : tie.Start invariant-loop decreases-loop) → length s.args.t4.rounds ≡ 16
+long : (s : tie.Start invariant-loop decreases-loop) → length s.args.g.rounds ≡ 16
 long s = simp length-map at s.well-formed.1.1.1.0.1.1.0.1.0.1
 
-loop-holds : tie.Need-loop-init invariant-loop decreases-loop
+loop-holds : tie.Need-loop-i-init invariant-loop decreases-loop
 unfolding spread
 loop-holds c = (search rules, search rules, none _ _ _)
 
-returns : tie.Need-returns invariant-loop decreases-loop
+returns : tie.Need-returns-then-len-i invariant-loop decreases-loop
 unfolding round_lines
 returns c =
-    let e : c.before.before.loop.i ≡ c.before.before.before.before.args.t4.len = omega arith in
-    rw e at c.before.before.loop.invariant.2
+    let e : c.before.before.loop-i.i ≡ c.before.before.before.before.args.g.len = omega arith in
+    rw e at c.before.before.loop-i.invariant.2
 
-loop-again : tie.Need-loop-preserved invariant-loop decreases-loop
+loop-again : tie.Need-loop-i-preserved invariant-loop decreases-loop
 loop-again c =
-    let l = c.before.before.before.before.before.before.before.loop in
-    (search rules, search rules, retext (next l.invariant.2 c.before.before.put-round.ensures) (sym (spread_turn round_line _ l.i no_round (omega (arith, long c.before.before.before.before.before.before.before.before.before)))))
+    let l = c.before.before.before.before.before.before.before.loop-i in
+    (search rules, search rules, retext (next l.invariant.2 c.before.before.put_round-p.ensures) (sym (spread_turn round_line _ l.i no_round (omega (arith, long c.before.before.before.before.before.before.before.before.before)))))
 
-returns-2 : tie.Need-returns-2 invariant-loop decreases-loop
+returns-2 : tie.Need-returns invariant-loop decreases-loop
 unfolding round_lines
 returns-2 c =
-    let l = c.before.loop in
-    retext l.invariant.2 (ap (spread round_line) (take_most _ l.i c.before.before.before.args.t4.len (omega (arith, long c.before.before.before)) (omega (arith, long c.before.before.before))))
+    let l = c.before.loop-i in
+    retext l.invariant.2 (ap (spread round_line) (take_most _ l.i c.before.before.before.args.g.len (omega (arith, long c.before.before.before)) (omega (arith, long c.before.before.before))))
 
-pub put-rounds-spec : {M : Type 1} → statement M
-put-rounds-spec =
+pub put_rounds_spec : {M : Type 1} → statement M
+put_rounds_spec =
     tie.close
     (tie.spec
     invariant-loop
     decreases-loop
     loop-holds
-    (λ c. kept c.before.before.loop.invariant.2)
+    (λ c. kept c.before.before.loop-i.invariant.2)
     returns
     (λ c. search rules)
     (λ c. search rules)
@@ -59,5 +59,5 @@ put-rounds-spec =
     (λ c. search rules)
     (λ c. search rules)
     loop-again
-    (λ c. kept c.before.loop.invariant.2)
+    (λ c. kept c.before.loop-i.invariant.2)
     returns-2)

@@ -4,11 +4,11 @@ use Rattle.refusal.specs.ChoiceLaws.{on, off}
 use Rattle.asking.proofs.rows.told.Statement.{statement}
 use Rattle.asking.proofs.rows.told.Tie as tie
 
-returns : tie.Need-returns
-returns c = on _ (lt-ltb _ _ c.if1.true) refl
+returns : tie.Need-returns-then-n-lt10
+returns c = on _ (lt-ltb _ _ c.if-n-lt10.true) refl
 
-returns-2 : tie.Need-returns-2
-returns-2 c = off _ (le-ltb _ _ c.if1.false) refl
+returns-2 : tie.Need-returns
+returns-2 c = off _ (le-ltb _ _ c.if-n-lt10.false) refl
 
-pub told-spec : {M : Type 1} → statement M
-told-spec = tie.close (tie.spec returns returns-2)
+pub told_spec : {M : Type 1} → statement M
+told_spec = tie.close (tie.spec returns returns-2)

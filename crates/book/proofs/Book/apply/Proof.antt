@@ -6,17 +6,17 @@ use borrow.Author.Rules.{rules}
 use Rattle.book.proofs.Book.apply.Statement.{statement}
 use Rattle.book.proofs.Book.apply.Tie as tie
 
-returns : tie.Need-returns
+returns : tie.Need-returns-then-not-sound
 unfolding answers
-returns c = off _ (sym c.before.sound.ensures.0 ∙ not-true _ c.if1.true) refl
+returns c = off _ (sym c.before.sound.ensures.tested ∙ not-true _ c.if-not-sound.true-raw) refl
 
 obey-requires : tie.Need-obey-requires
 unfolding answers
-obey-requires c κs = c.before.sound.ensures.1 (not-false _ c.if1.false)
+obey-requires c κs = c.before.sound.ensures.shelved (not-false _ c.if-not-sound.false-raw)
 
-returns-2 : tie.Need-returns-2
+returns-2 : tie.Need-returns
 unfolding answers
-returns-2 c = on _ (sym c.before.before.sound.ensures.0 ∙ not-false _ c.before.if1.false) c.obey.ensures
+returns-2 c = on _ (sym c.before.before.sound.ensures.tested ∙ not-false _ c.before.if-not-sound.false-raw) c.obey.ensures
 
-pub apply-spec : {M : Type 1} → statement M
-apply-spec = tie.close (tie.spec (λ c κs. search rules) returns obey-requires returns-2)
+pub apply_spec : {M : Type 1} → statement M
+apply_spec = tie.close (tie.spec (λ c κs. search rules) returns obey-requires returns-2)

@@ -6,5 +6,5 @@ use Rattle.book.proofs.Book.approve.Tie as tie
 returns : tie.Need-returns
 returns c = simp (to_z-of_z c.before.ranges.amount) at c.apply.ensures
 
-pub approve-spec : {M : Type 1} → statement M
-approve-spec = tie.close (tie.spec (λ c κs. search rules) returns)
+pub approve_spec : {M : Type 1} → statement M
+approve_spec = tie.close (tie.spec (λ c κs. search rules) returns)

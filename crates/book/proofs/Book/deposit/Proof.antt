@@ -6,5 +6,5 @@ use Rattle.book.proofs.Book.deposit.Tie as tie
 returns : tie.Need-returns
 returns c = simp (to_z-of_z c.before.ranges.amount) at c.apply.ensures
 
-pub deposit-spec : {M : Type 1} → statement M
-deposit-spec = tie.close (tie.spec (λ c κs. search rules) returns)
+pub deposit_spec : {M : Type 1} → statement M
+deposit_spec = tie.close (tie.spec (λ c κs. search rules) returns)

@@ -9,15 +9,15 @@ use Rattle.book.specs.Stored.{fresh_book}
 use Rattle.book.proofs.Book.fresh.Statement.{statement}
 use Rattle.book.proofs.Book.fresh.Tie as tie
 
-returns : tie.Need-returns
+returns : tie.Need-returns-then-not-is_listed
 unfolding fresh_book
-returns c = off _ (sym c.before.before.is-listed.ensures ∙ not-true _ c.before.if1.true) (ap (λ (b : Book). record { answer = number journal_malformed; book = b }) c.of_edition.ensures)
+returns c = off _ (sym c.before.before.is_listed.ensures ∙ not-true _ c.before.if-not-is_listed.true-raw) (ap (λ (b : Book). record { answer = number journal_malformed; book = b }) c.of_edition-book.ensures)
 
-returns-2 : tie.Need-returns-2
+returns-2 : tie.Need-returns
 unfolding fresh_book
-returns-2 c = on _ (sym c.before.before.is-listed.ensures ∙ not-false _ c.before.if1.false) (ap (λ (b : Book). record { answer = 0; book = b }) c.of-edition2.ensures)
+returns-2 c = on _ (sym c.before.before.is_listed.ensures ∙ not-false _ c.before.if-not-is_listed.false-raw) (ap (λ (b : Book). record { answer = 0; book = b }) c.of_edition-book-2.ensures)
 
-pub fresh-spec : {M : Type 1} → statement M
-fresh-spec =
+pub fresh_spec : {M : Type 1} → statement M
+fresh_spec =
     tie.close
     (tie.spec (λ c κs. search rules) (λ c κs. search rules) returns (λ c κs. search rules) returns-2)

@@ -6,5 +6,5 @@ use Rattle.book.proofs.Book.payout.Tie as tie
 returns : tie.Need-returns
 returns c = simp (to_z-of_z c.before.ranges.amount) at c.apply.ensures
 
-pub payout-spec : {M : Type 1} → statement M
-payout-spec = tie.close (tie.spec (λ c κs. search rules) returns)
+pub payout_spec : {M : Type 1} → statement M
+payout_spec = tie.close (tie.spec (λ c κs. search rules) returns)

@@ -6,5 +6,5 @@ use Rattle.book.proofs.Book.register_invoice.Tie as tie
 returns : tie.Need-returns
 returns c = simp (to_z-of_z c.before.ranges.amount) at c.apply.ensures
 
-pub register-invoice-spec : {M : Type 1} → statement M
-register-invoice-spec = tie.close (tie.spec (λ c κs. search rules) returns)
+pub register_invoice_spec : {M : Type 1} → statement M
+register_invoice_spec = tie.close (tie.spec (λ c κs. search rules) returns)

@@ -6,5 +6,5 @@ use Rattle.book.proofs.Book.update_stats_repaid.Tie as tie
 returns : tie.Need-returns
 returns c = simp (to_z-of_z c.before.ranges.amount, to_z-of_z c.before.ranges.fee) at c.apply.ensures
 
-pub update-stats-repaid-spec : {M : Type 1} → statement M
-update-stats-repaid-spec = tie.close (tie.spec (λ c κs. search rules) returns)
+pub update_stats_repaid_spec : {M : Type 1} → statement M
+update_stats_repaid_spec = tie.close (tie.spec (λ c κs. search rules) returns)

@@ -4,14 +4,14 @@ use borrow.Author.Rules.{rules}
 use Rattle.command.proofs.Other.key.Statement.{statement}
 use Rattle.command.proofs.Other.key.Tie as tie
 
-returns-2 : tie.Need-returns-2
-returns-2 c = sym (ap (λ z. other_key z c.before.before.before.args.lender c.before.before.before.args.originator) c.before.self.given.1)
+returns-2 : tie.Need-returns-in-Account
+returns-2 c = sym (ap (λ z. other_key z c.before.before.before.args.lender c.before.before.before.args.originator) c.before.in-Account.is)
 
-returns-3 : tie.Need-returns-3
-returns-3 c = sym (ap (λ z. other_key z c.before.before.args.lender c.before.before.args.originator) c.enum-told2.given.1)
+returns-3 : tie.Need-returns-in-Lender
+returns-3 c = sym (ap (λ z. other_key z c.before.before.args.lender c.before.before.args.originator) c.in-Lender.is)
 
-returns-4 : tie.Need-returns-4
-returns-4 c = sym (ap (λ z. other_key z c.before.before.args.lender c.before.before.args.originator) c.enum-told3.given.1)
+returns-4 : tie.Need-returns-in-Originator
+returns-4 c = sym (ap (λ z. other_key z c.before.before.args.lender c.before.before.args.originator) c.in-Originator.is)
 
 pub key_spec : {M : Type 1} → statement M
 key_spec =

@@ -19,15 +19,15 @@ returns : tie.Need-returns
 unfolding named top_of pick
 returns c =
     let s = c.before.before in
-    let v = s.args.t1 in
+    let v = s.args.v in
     let a : get_or v 0x05 0 < 2 ^ 64 = omega (arith, s.requires 0x05) in
     let b : get_or v 0x0F 0 < 2 ^ 64 = omega (arith, s.requires 0x0F) in
-    ap (λ (x : ℤ). from_numbers x (of_bits (bits_of c.of-bits2.result)) v) (through c.before.of-bits.ensures a)
-    ∙ ap (λ (x : ℤ). from_numbers (of_bits (get_or v 0x05 0)) x v) (through c.of-bits2.ensures b)
+    ap (λ (x : ℤ). from_numbers x (of_bits (bits_of c.of_bits-2.result)) v) (through c.before.of_bits.ensures a)
+    ∙ ap (λ (x : ℤ). from_numbers (of_bits (get_or v 0x05 0)) x v) (through c.of_bits-2.ensures b)
 
-pub named-spec : {M : Type 1} → statement M
+pub named_spec : {M : Type 1} → statement M
 unfolding top_of pick
-named-spec =
+named_spec =
     tie.close
     (tie.spec
     (λ c. search rules)

@@ -4,6 +4,6 @@ use Rattle.journal.specs.Table.{top_of}
 use Rattle.journal.proofs.tables.top.Statement.{statement}
 use Rattle.journal.proofs.tables.top.Tie as tie
 
-pub top-spec : {M : Type 1} → statement M
+pub top_spec : {M : Type 1} → statement M
 unfolding top_of
-top-spec = tie.close (tie.spec (λ c. on _ c.if1.true refl) (λ c. off _ c.if1.false refl))
+top_spec = tie.close (tie.spec (λ c. on _ c.if-narrow.true refl) (λ c. off _ c.if-narrow.false refl))

@@ -13,64 +13,64 @@ use Rattle.journal.specs.WriteLaws.{length_fields, fields_turn}
 use Rattle.journal.proofs.writing.put_fields.Statement.{statement}
 use Rattle.journal.proofs.writing.put_fields.Tie as tie
 
-abbrev invariant-loop : tie.invariant-loop
+abbrev invariant-loop : tie.invariant-loop-i
 invariant-loop out₀ p n tags values i₀ q₀ out i q = (i ≤ n) × ((q ≡ p + 11 * i) × (out ≡ placed p (fields_out (take i tags) values) out₀))
 
-abbrev decreases-loop : tie.decreases-loop
+abbrev decreases-loop : tie.decreases-loop-i
 decreases-loop out₀ p n tags values i₀ q₀ out i q = n - i
 
 -- the array has the n tags, and the buffer keeps its length
-has : (s : tie.Start invariant-loop decreases-loop) → s.args.n ≤ length s.args.t4
+has : (s : tie.Start invariant-loop decreases-loop) → s.args.n ≤ length s.args.tags
 has s = omega (arith, s.requires, s.well-formed.1.1.1.0.1.0)
 
-kept : (c : tie.At-loop invariant-loop decreases-loop) → length c.loop.out ≡ length c.before.before.args.out.now
+kept : (c : tie.At-loop-i invariant-loop decreases-loop) → length c.loop-i.out-1 ≡ length c.before.before.args.out-1.now
 kept c =
     let s = c.before.before in
     let a = s.args in
-    let i = c.loop.i in
-    let e : length (fields_out (take i a.t4) a.t5) ≡ 11 * i = length_fields (take i a.t4) a.t5 ∙ ap (λ (k : ℕ). 11 * k) (length-take-le i a.t4 (omega (arith, has s, c.loop.invariant))) in
-    ap length c.loop.invariant.1.1 ∙ length-placed a.p (fields_out (take i a.t4) a.t5) a.out.now (omega (arith, s.requires, c.loop.invariant))
+    let i = c.loop-i.i in
+    let e : length (fields_out (take i a.t4) a.t5) ≡ 11 * i = length_fields (take i a.t4) a.t5 ∙ ap (λ (k : ℕ). 11 * k) (length-take-le i a.t4 (omega (arith, has s, c.loop-i.invariant))) in
+    ap length c.loop-i.invariant.1.1 ∙ length-placed a.p (fields_out (take i a.t4) a.t5) a.out-1.now (omega (arith, s.requires, c.loop-i.invariant))
 
-loop-holds : tie.Need-loop-init invariant-loop decreases-loop
+loop-holds : tie.Need-loop-i-init invariant-loop decreases-loop
 unfolding fields_out
-loop-holds c = (search rules, (search rules, placed_none c.before.args.p c.before.args.out.now))
+loop-holds c = (search rules, (search rules, placed_none c.before.args.p c.before.args.out-1.now))
 
-loop-again : tie.Need-loop-preserved invariant-loop decreases-loop
+loop-again : tie.Need-loop-i-preserved invariant-loop decreases-loop
 loop-again c =
     let d = c.before.before.before.before.before in
-    let l = d.loop in
+    let l = d.loop-i in
     let s = d.before.before in
     let a = s.args in
     let w = field_of (get_or a.t4 l.i 0) (bytes_of 8 (get_or a.t5 l.i 0)) in
-    let t : l.i < a.n = c.before.before.before.before.loop-test.true in
-    let room : l.q + length w ≤ length l.out = omega (arith, length_field (get_or a.t4 l.i 0) (get_or a.t5 l.i 0), kept d, s.requires, l.invariant) in (
+    let t : l.i < a.n = c.before.before.before.before.loop-i-test.true in
+    let room : l.q + length w ≤ length l.out-1 = omega (arith, length_field (get_or a.t4 l.i 0) (get_or a.t5 l.i 0), kept d, s.requires, l.invariant) in (
       omega arith,
       (
         omega (arith, l.invariant),
-        c.before.before.put-field.ensures ∙ laid_in l.q w l.out room ∙ rw (l.invariant.1.0, l.invariant.1.1) (fields_turn a.t4 a.t5 a.out.now a.p l.i (omega (arith, has s)) (omega (arith, s.requires))),
+        c.before.before.put_field.ensures ∙ laid_in l.q w l.out-1 room ∙ rw (l.invariant.1.0, l.invariant.1.1) (fields_turn a.t4 a.t5 a.out-1.now a.p l.i (omega (arith, has s)) (omega (arith, s.requires))),
       ),
     )
 
 returns : tie.Need-returns invariant-loop decreases-loop
 returns c =
-    let l = c.before.loop in
+    let l = c.before.loop-i in
     let e : l.i ≡ c.before.before.before.args.n = omega arith in
     rw e at l.invariant.1.1
 
-pub put-fields-spec : {M : Type 1} → statement M
-put-fields-spec =
+pub put_fields_spec : {M : Type 1} → statement M
+put_fields_spec =
     tie.close
     (tie.spec
     invariant-loop
     decreases-loop
     loop-holds
-    (λ c. omega (arith, c.before.before.before.before.requires, c.before.before.loop.invariant))
-    (λ c. omega (arith, c.before.before.before.before.requires, c.before.before.loop.invariant))
-    (λ c. omega (arith, c.before.before.before.before.requires, c.before.before.loop.invariant))
+    (λ c. omega (arith, c.before.before.before.before.requires, c.before.before.loop-i.invariant))
+    (λ c. omega (arith, c.before.before.before.before.requires, c.before.before.loop-i.invariant))
+    (λ c. omega (arith, c.before.before.before.before.requires, c.before.before.loop-i.invariant))
     (λ c κs. search rules)
-    (λ c. omega (arith, c.before.before.before.before.before.before.before.requires, c.before.before.before.before.before.loop.invariant))
-    (λ c. omega (arith, c.before.before.before.before.before.before.before.requires, c.before.before.before.before.before.loop.invariant))
-    (λ c. omega (arith, c.before.before.before.before.loop-test.true))
+    (λ c. omega (arith, c.before.before.before.before.before.before.before.requires, c.before.before.before.before.before.loop-i.invariant))
+    (λ c. omega (arith, c.before.before.before.before.before.before.before.requires, c.before.before.before.before.before.loop-i.invariant))
+    (λ c. omega (arith, c.before.before.before.before.loop-i-test.true))
     loop-again
     (λ c. kept c.before)
     returns)

@@ -23,18 +23,18 @@ bits_is : (z : ℤ) {n : ℕ} → n ≡ bits_of (of_bits (bits_of z)) → mag z 
 bits_is z e h = e ∙ ap bits_of (back z h)
 
 -- the kind, or the 0 in its place
-returns-14 : tie.Need-returns-14
+returns-14 : tie.Need-returns-in-ScheduleRepayment
 unfolding parts_of parts_in padded
 returns-14 c =
     let d = c.before.before.before in
-    let g = d.c14.given.0 in
+    let g = d.c-in-ScheduleRepayment-1.given.0 in
     let e = d.before.before.args.edition in
     let l = g.0 ∷ g.1.0 ∷ g.1.1.0 ∷ g.1.1.1.0 ∷ g.1.1.1.1.0 ∷ g.1.1.1.1.1.0 ∷ [] in
-    rw (c.also.ensures, c.before.keeps-terms.ensures) (ap (λ (x : List ℕ). (0x38, x)) (padded_also (keeps_terms e) l g.1.1.1.1.1.1.0 (omega arith)) ∙ of e d.c14.given.1)
+    rw (c.also.ensures, c.before.keeps_terms.ensures) (ap (λ (x : List ℕ). (0x38, x)) (padded_also (keeps_terms e) l g.1.1.1.1.1.1.0 (omega arith)) ∙ of e d.in-ScheduleRepayment.is)
 
-pub split-spec : {M : Type 1} → statement M
+pub split_spec : {M : Type 1} → statement M
 unfolding parts_of parts_in padded
-split-spec =
+split_spec =
     tie.close
     (tie.spec
     (λ c. search rules)
@@ -84,27 +84,27 @@ split-spec =
     (λ c. search rules)
     (λ c. search rules)
     (λ c. search rules)
-    (λ c. of c.before.before.before.args.edition c.before.c.given.1)
-    (λ c. rw (bits_is c.before.before.c2.given.0.1.1.0 c.bits.ensures c.before.known-told2.given.1.1.0.1) (of c.before.before.before.before.args.edition c.before.before.c2.given.1))
-    (λ c. rw (bits_is c.before.before.c3.given.0.1.1.0 c.bits2.ensures c.before.known-told3.given.1.1.0.1) (of c.before.before.before.before.args.edition c.before.before.c3.given.1))
-    (λ c. rw (bits_is c.before.before.c4.given.0.1.1.0 c.bits3.ensures c.before.known-told4.given.1.1.0.1) (of c.before.before.before.before.args.edition c.before.before.c4.given.1))
-    (λ c. rw (bits_is c.before.before.c5.given.0.1.1.1.0 c.bits4.ensures c.before.known-told5.given.1.1.1.0.1) (of c.before.before.before.before.args.edition c.before.before.c5.given.1))
-    (λ c. of c.before.before.before.args.edition c.before.c6.given.1)
-    (λ c. rw (bits_is c.before.before.before.before.c7.given.0.1.1.1.1.0.amount c.before.bits5.ensures c.before.before.struct_told.given.0.1) (of c.before.before.before.before.before.before.args.edition c.before.before.before.before.c7.given.1))
-    (λ c. of c.before.before.before.args.edition c.before.c8.given.1)
-    (λ c. of c.before.before.before.args.edition c.before.c9.given.1)
-    (λ c. of c.before.before.before.args.edition c.before.c10.given.1)
-    (λ c. rw (bits_is c.before.before.before.before.c11.given.0.1.1.1.0.amount c.before.bits6.ensures c.before.before.struct-told2.given.0.1) (of c.before.before.before.before.before.before.args.edition c.before.before.before.before.c11.given.1))
-    (λ c. rw (bits_is c.before.before.before.before.c12.given.0.1.1.1.0.amount c.before.bits7.ensures c.before.before.struct-told3.given.0.1) (of c.before.before.before.before.before.before.args.edition c.before.before.before.before.c12.given.1))
-    (λ c. of c.before.before.before.args.edition c.before.c13.given.1)
+    (λ c. of c.before.before.before.args.edition c.before.in-OpenAccount.is)
+    (λ c. rw (bits_is c.before.before.in-Deposit.amount c.bits.ensures c.before.known_told-in-Deposit-1.given.1.1.0.1) (of c.before.before.before.before.args.edition c.before.before.in-Deposit.is))
+    (λ c. rw (bits_is c.before.before.in-Payout.amount c.bits-in-Payout.ensures c.before.known_told-in-Payout-1.given.1.1.0.1) (of c.before.before.before.before.args.edition c.before.before.in-Payout.is))
+    (λ c. rw (bits_is c.before.before.in-Approve.amount c.bits-in-Approve.ensures c.before.known_told-in-Approve-1.given.1.1.0.1) (of c.before.before.before.before.args.edition c.before.before.in-Approve.is))
+    (λ c. rw (bits_is c.before.before.in-RegisterInvoice.amount c.bits-in-RegisterInvoice.ensures c.before.known_told-in-RegisterInvoice-1.given.1.1.1.0.1) (of c.before.before.before.before.args.edition c.before.before.in-RegisterInvoice.is))
+    (λ c. of c.before.before.before.args.edition c.before.in-CancelInvoice.is)
+    (λ c. rw (bits_is c.before.before.before.before.in-CreateOffer.terms.amount c.before.bits-in-CreateOffer.ensures c.before.before.struct_told-1.given.0.1) (of c.before.before.before.before.before.before.args.edition c.before.before.before.before.in-CreateOffer.is))
+    (λ c. of c.before.before.before.args.edition c.before.in-WithdrawOffer.is)
+    (λ c. of c.before.before.before.args.edition c.before.in-AcceptOffer.is)
+    (λ c. of c.before.before.before.args.edition c.before.in-RejectOffer.is)
+    (λ c. rw (bits_is c.before.before.before.before.in-AmendOffer.terms.amount c.before.bits-in-AmendOffer.ensures c.before.before.struct_told-in-AmendOffer-1.given.0.1) (of c.before.before.before.before.before.before.args.edition c.before.before.before.before.in-AmendOffer.is))
+    (λ c. rw (bits_is c.before.before.before.before.in-CounterOffer.terms.amount c.before.bits-in-CounterOffer.ensures c.before.before.struct_told-in-CounterOffer-1.given.0.1) (of c.before.before.before.before.before.before.args.edition c.before.before.before.before.in-CounterOffer.is))
+    (λ c. of c.before.before.before.args.edition c.before.in-CloseNegotiation.is)
     returns-14
-    (λ c. of c.before.before.before.args.edition c.before.c15.given.1)
-    (λ c. rw (bits_is c.before.before.c16.given.0.1.1.1.0 c.bits8.ensures c.before.known-told16.given.1.1.1.0.1) (of c.before.before.before.before.args.edition c.before.before.c16.given.1))
-    (λ c. of c.before.before.before.args.edition c.before.c17.given.1)
-    (λ c. rw (bits_is c.before.before.before.c18.given.0.1.1.0 c.before.bits9.ensures c.before.before.known-told18.given.1.1.0.1, bits_is c.before.before.before.c18.given.0.1.1.1.0 c.bits10.ensures c.before.before.known-told18.given.1.1.1.0.1) (of c.before.before.before.before.before.args.edition c.before.before.before.c18.given.1))
-    (λ c. of c.before.before.before.args.edition c.before.c19.given.1)
-    (λ c. of c.before.before.before.args.edition c.before.c20.given.1)
-    (λ c. of c.before.before.before.args.edition c.before.c21.given.1)
-    (λ c. of c.before.before.before.args.edition c.before.c22.given.1)
-    (λ c. of c.before.before.before.args.edition c.before.c23.given.1)
-    (λ c. of c.before.before.before.args.edition c.before.c24.given.1))
+    (λ c. of c.before.before.before.args.edition c.before.in-UpdateStatus.is)
+    (λ c. rw (bits_is c.before.before.in-UpdateRepaid.amount c.bits-in-UpdateRepaid.ensures c.before.known_told-in-UpdateRepaid-1.given.1.1.1.0.1) (of c.before.before.before.before.args.edition c.before.before.in-UpdateRepaid.is))
+    (λ c. of c.before.before.before.args.edition c.before.in-UpdateLenderRepaid.is)
+    (λ c. rw (bits_is c.before.before.before.in-UpdateTotalsRepaid.amount c.before.bits-in-UpdateTotalsRepaid.ensures c.before.before.known_told-in-UpdateTotalsRepaid-1.given.1.1.0.1, bits_is c.before.before.before.in-UpdateTotalsRepaid.fee c.bits-in-UpdateTotalsRepaid-2.ensures c.before.before.known_told-in-UpdateTotalsRepaid-1.given.1.1.1.0.1) (of c.before.before.before.before.before.args.edition c.before.before.before.in-UpdateTotalsRepaid.is))
+    (λ c. of c.before.before.before.args.edition c.before.in-Pause.is)
+    (λ c. of c.before.before.before.args.edition c.before.in-Unpause.is)
+    (λ c. of c.before.before.before.args.edition c.before.in-SetWindow.is)
+    (λ c. of c.before.before.before.args.edition c.before.in-SetRepaymentAccount.is)
+    (λ c. of c.before.before.before.args.edition c.before.in-SetBlacklisted.is)
+    (λ c. of c.before.before.before.args.edition c.before.in-SetSeats.is))

@@ -9,33 +9,33 @@ use Rattle.lists.specs.Rows.{none, past, inside, active_at, small_amount}
 use Rattle.lists.proofs.OfferRows.active_total.Statement.{statement}
 use Rattle.lists.proofs.OfferRows.active_total.Tie as tie
 
-abbrev invariant-loop : tie.invariant-loop
+abbrev invariant-loop : tie.invariant-loop-i
 invariant-loop lender self m sum₀ i₀ sum i = Summed (active_in lender) 1000000000000 (offers_of self) i sum
 
-abbrev decreases-loop : tie.decreases-loop
+abbrev decreases-loop : tie.decreases-loop-i
 decreases-loop lender self m sum₀ i₀ sum i = m - i
 
-small : (c : tie.After-active invariant-loop decreases-loop) → c.active.result ≤ 1000000000000
+small : (c : tie.After-active-sum invariant-loop decreases-loop) → c.active-sum.result ≤ 1000000000000
 small c =
     let s = c.before.before.before.before.before in
     omega
-    (arith, c.active.ensures, small_amount c.before.before.before.before.in_use.ensures c.before.before.before.loop.i c.before.before.loop-test.true s.requires s.args.lender)
+    (arith, c.active-sum.ensures, small_amount c.before.before.before.before.in_use-used.ensures c.before.before.before.loop-i.i c.before.before.loop-i-test.true s.requires s.args.lender)
 
-add-sum : tie.Need-overflow-add-sum invariant-loop decreases-loop
-add-sum c = omega (arith, small c, c.before.before.before.loop.invariant.small, c.before.before.loop-test.true, c.before.before.before.before.in_use.ensures.few)
+add-sum : tie.Need-overflow_add-sum invariant-loop decreases-loop
+add-sum c = omega (arith, small c, c.before.before.before.loop-i.invariant.small, c.before.before.loop-i-test.true, c.before.before.before.before.in_use-used.ensures.few)
 
-loop-again : tie.Need-loop-preserved invariant-loop decreases-loop
+loop-again : tie.Need-loop-i-preserved invariant-loop decreases-loop
 loop-again c =
-    let u = c.before.before.before.before.in_use.ensures in
-    let l = c.before.before.before.loop in
-    let h = c.before.before.loop-test.true in
-    sum_turn l.invariant none _ (inside u l.i h) (c.active.ensures ∙ active_at u l.i h c.before.before.before.before.before.args.lender) (small c)
+    let u = c.before.before.before.before.in_use-used.ensures in
+    let l = c.before.before.before.loop-i in
+    let h = c.before.before.loop-i-test.true in
+    sum_turn l.invariant none _ (inside u l.i h) (c.active-sum.ensures ∙ active_at u l.i h c.before.before.before.before.before.args.lender) (small c)
 
 returns : tie.Need-returns invariant-loop decreases-loop
-returns c = sum_done c.before.loop.invariant (past c.before.before.in_use.ensures _ c.loop-test.false)
+returns c = sum_done c.before.loop-i.invariant (past c.before.before.in_use-used.ensures _ c.loop-i-test.false)
 
-pub active-total-spec : {M : Type 1} → statement M
-active-total-spec =
+pub active_total_spec : {M : Type 1} → statement M
+active_total_spec =
     tie.close
     (tie.spec
     invariant-loop

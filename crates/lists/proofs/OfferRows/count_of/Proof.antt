@@ -8,31 +8,31 @@ use Rattle.lists.specs.Rows.{none, past, inside, asked, few_listed}
 use Rattle.lists.proofs.OfferRows.count_of.Statement.{statement}
 use Rattle.lists.proofs.OfferRows.count_of.Tie as tie
 
-abbrev invariant-loop : tie.invariant-loop
+abbrev invariant-loop : tie.invariant-loop-i
 invariant-loop w self m n₀ i₀ n i = Walked (taking w) (offers_of self) i n
 
-abbrev decreases-loop : tie.decreases-loop
+abbrev decreases-loop : tie.decreases-loop-i
 decreases-loop w self m n₀ i₀ n i = m - i
 
-loop-again : tie.Need-loop-preserved invariant-loop decreases-loop
+loop-again : tie.Need-loop-i-preserved invariant-loop decreases-loop
 loop-again c =
-    let u = c.before.before.before.before.before.in_use.ensures in
-    let l = c.before.before.before.before.loop in
-    let h = c.before.before.before.loop-test.true in
+    let u = c.before.before.before.before.before.in_use-used.ensures in
+    let l = c.before.before.before.before.loop-i in
+    let h = c.before.before.before.loop-i-test.true in
     let w = c.before.before.before.before.before.before.args.w in
     ⊎_elim
     (λ x. rw x.1 (walk_on l.invariant none (inside u l.i h) (asked u l.i h w _ _ c.before.takes.ensures x.0.taken)))
     (λ x. rw x.1 (walk_off l.invariant none (inside u l.i h) (asked u l.i h w _ _ c.before.takes.ensures x.0.left)))
-    c.if1.branch
+    c.if-takes.branch
 
 returns : tie.Need-returns invariant-loop decreases-loop
 returns c =
-    let u = c.before.before.in_use.ensures in
-    let n = walk_done c.before.loop.invariant (past u _ c.loop-test.false) in
+    let u = c.before.before.in_use-used.ensures in
+    let n = walk_done c.before.loop-i.invariant (past u _ c.loop-i-test.false) in
     (n, omega (arith, few_listed u c.before.before.before.args.w))
 
-pub count-of-spec : {M : Type 1} → statement M
-count-of-spec =
+pub count_of_spec : {M : Type 1} → statement M
+count_of_spec =
     tie.close
     (tie.spec
     invariant-loop
@@ -42,7 +42,7 @@ count-of-spec =
     (λ c. search rules)
     (λ c. search rules)
     (λ c κs. search rules)
-    (λ c. omega (arith, walk_few c.before.before.before.before.loop.invariant))
+    (λ c. omega (arith, walk_few c.before.before.before.before.loop-i.invariant))
     (λ c. search rules)
     (λ c. search rules)
     loop-again

@@ -10,32 +10,32 @@ use Rattle.lists.proofs.Wanted.takes.Tie as tie
 by_case : (place : ℕ) (o : Offer) {v w : Wanted} → v ≡ w → wants w place o ≡ wants v place o
 by_case place o e = sym (ap (λ x. wants x place o) e)
 
-returns : tie.Need-returns
+returns : tie.Need-returns-in-Invoice
 unfolding wants
-returns c = by_case c.before.before.before.args.place c.before.before.before.args.o c.before.self.given.1
+returns c = by_case c.before.before.before.args.place c.before.before.before.args.o c.before.in-Invoice.is
 
-returns-2 : tie.Need-returns-2
+returns-2 : tie.Need-returns-in-Lender
 unfolding wants
-returns-2 c = by_case c.before.before.before.args.place c.before.before.before.args.o c.before.self2.given.1
+returns-2 c = by_case c.before.before.before.args.place c.before.before.before.args.o c.before.in-Lender.is
 
-returns-3 : tie.Need-returns-3
+returns-3 : tie.Need-returns-in-Status
 unfolding wants
-returns-3 c = by_case c.before.before.before.args.place c.before.before.before.args.o c.before.self3.given.1
+returns-3 c = by_case c.before.before.before.args.place c.before.before.before.args.o c.before.in-Status.is
 
-returns-4 : tie.Need-returns-4
+returns-4 : tie.Need-returns-in-PendingOf
 unfolding wants
-returns-4 c = by_case c.before.before.before.args.place c.before.before.before.args.o c.before.self4.given.1
+returns-4 c = by_case c.before.before.before.args.place c.before.before.before.args.o c.before.in-PendingOf.is
 
-returns-5 : tie.Need-returns-5
+returns-5 : tie.Need-returns-in-All
 unfolding wants
-returns-5 c = by_case c.before.before.args.place c.before.before.args.o c.enum_told.given.1
+returns-5 c = by_case c.before.before.args.place c.before.before.args.o c.in-All.is
 
-returns-6 : tie.Need-returns-6
+returns-6 : tie.Need-returns-in-Page
 unfolding wants
-returns-6 c = c.in-page.ensures ∙ by_case c.before.before.before.before.args.place c.before.before.before.before.args.o c.before.before.self5.given.1
+returns-6 c = c.in_page.ensures ∙ by_case c.before.before.before.before.args.place c.before.before.before.before.args.o c.before.before.in-Page.is
 
-pub takes-spec : {M : Type 1} → statement M
-takes-spec =
+pub takes_spec : {M : Type 1} → statement M
+takes_spec =
     tie.close
     (tie.spec
     (λ c. search rules)

@@ -8,5 +8,5 @@ use Rattle.near.proofs.Near.settings_posted.Tie as tie
 returns : tie.Need-returns
 returns c = λ u q k m e. settings_step k m e u c.before.args.p (q ∙ ap (λ z. answered Settings.posted z.settings u) e)
 
-pub settings-posted-spec : {M : Type 1} → statement M
-settings-posted-spec = tie.close (tie.spec returns)
+pub settings_posted_spec : {M : Type 1} → statement M
+settings_posted_spec = tie.close (tie.spec returns)

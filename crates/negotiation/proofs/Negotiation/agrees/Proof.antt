@@ -11,39 +11,39 @@ use Rattle.negotiation.proofs.Negotiation.agrees.Statement.{statement}
 use Rattle.negotiation.proofs.Negotiation.agrees.Tie as tie
 
 -- the originator's latest round is among those still to come
-abbrev invariant-loop : tie.invariant-loop
+abbrev invariant-loop : tie.invariant-loop-i
 invariant-loop t self n i₀ i = (i ≤ 16) × (latest_below self.rounds n ≡ latest_below self.rounds i)
 
-abbrev decreases-loop : tie.decreases-loop
+abbrev decreases-loop : tie.decreases-loop-i
 decreases-loop t self n i₀ i = i
 
-returns : tie.Need-returns invariant-loop decreases-loop
+returns : tie.Need-returns-then-count-gt-ROUND_SLOTS invariant-loop decreases-loop
 unfolding agrees_of matches
-returns c = sym (ap (matches _) (pick_on _ _ (lt-ltb _ _ c.if1.true)))
+returns c = sym (ap (matches _) (pick_on _ _ (lt-ltb _ _ c.if-count-gt-ROUND_SLOTS.true)))
 
-loop-holds : tie.Need-loop-init invariant-loop decreases-loop
+loop-holds : tie.Need-loop-i-init invariant-loop decreases-loop
 loop-holds c = (search rules, refl)
 
-returns-2 : tie.Need-returns-2 invariant-loop decreases-loop
+returns-2 : tie.Need-returns-then-party-eq-ORIGINATOR invariant-loop decreases-loop
 unfolding agrees_of matches
 returns-2 c =
-    c.same-terms.ensures ∙ ap (λ u. same_terms u c.before.before.before.before.before.before.before.args.t) c.before.terms.ensures
-    ∙ sym (ap (matches _) (pick_off _ _ (le-ltb _ _ c.before.before.before.before.before.before.if1.false)
-    ∙ c.before.before.before.before.before.loop.invariant.1
-    ∙ latest_step _ _ c.before.before.before.before.loop-test.true
-    ∙ pick_on _ _ (eq-eqb _ _ c.before.before.if2.true)))
+    c.same_terms.ensures ∙ ap (λ u. same_terms u c.before.before.before.before.before.before.before.args.t) c.before.terms-u.ensures
+    ∙ sym (ap (matches _) (pick_off _ _ (le-ltb _ _ c.before.before.before.before.before.before.if-count-gt-ROUND_SLOTS.false)
+    ∙ c.before.before.before.before.before.loop-i.invariant.1
+    ∙ latest_step _ _ c.before.before.before.before.loop-i-test.true
+    ∙ pick_on _ _ (eq-eqb _ _ c.before.before.if-party-eq-ORIGINATOR.true)))
 
-loop-again : tie.Need-loop-preserved invariant-loop decreases-loop
-loop-again c = (search rules, c.before.before.before.loop.invariant.1 ∙ latest_step _ _ c.before.before.loop-test.true ∙ pick_off _ _ (ne_eqb _ _ c.if2.false))
+loop-again : tie.Need-loop-i-preserved invariant-loop decreases-loop
+loop-again c = (search rules, c.before.before.before.loop-i.invariant.1 ∙ latest_step _ _ c.before.before.loop-i-test.true ∙ pick_off _ _ (ne_eqb _ _ c.if-party-eq-ORIGINATOR.false))
 
-returns-3 : tie.Need-returns-3 invariant-loop decreases-loop
+returns-3 : tie.Need-returns invariant-loop decreases-loop
 unfolding agrees_of matches latest_below
 returns-3 c =
-    let e : c.before.loop.i ≡ 0 = omega arith in
-    sym (ap (matches _) (pick_off _ _ (le-ltb _ _ c.before.before.if1.false) ∙ c.before.loop.invariant.1 ∙ ap (latest_below _) e))
+    let e : c.before.loop-i.i ≡ 0 = omega arith in
+    sym (ap (matches _) (pick_off _ _ (le-ltb _ _ c.before.before.if-count-gt-ROUND_SLOTS.false) ∙ c.before.loop-i.invariant.1 ∙ ap (latest_below _) e))
 
-pub agrees-spec : {M : Type 1} → statement M
-agrees-spec =
+pub agrees_spec : {M : Type 1} → statement M
+agrees_spec =
     tie.close
     (tie.spec
     invariant-loop

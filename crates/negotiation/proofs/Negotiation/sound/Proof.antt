@@ -9,24 +9,24 @@ use borrow.Author.Rules.{rules}
 use Rattle.negotiation.proofs.Negotiation.sound.Statement.{statement}
 use Rattle.negotiation.proofs.Negotiation.sound.Tie as tie
 
-abbrev invariant-loop : tie.invariant-loop
+abbrev invariant-loop : tie.invariant-loop-i
 invariant-loop limit self n ok₀ i₀ ok i = Checked 16 (row_test round_sound round_zero no_round n self.rounds) i ok
 
-abbrev decreases-loop : tie.decreases-loop
+abbrev decreases-loop : tie.decreases-loop-i
 decreases-loop limit self n ok₀ i₀ ok i = 16 - i
 
-loop-again : tie.Need-loop-preserved invariant-loop decreases-loop
+loop-again : tie.Need-loop-i-preserved invariant-loop decreases-loop
 loop-again c =
-    let i = c.before.before.before.loop.i in
-    let count = c.before.before.before.before.args.t1.len in
-    check_turn c.before.before.before.loop.invariant c.before.before.loop-test.true (c.fits2.ensures ∙ sym (by_use_lem count i _ _))
+    let i = c.before.before.before.loop-i.i in
+    let count = c.before.before.before.before.args.self.len in
+    check_turn c.before.before.before.loop-i.invariant c.before.before.loop-i-test.true (c.fits2.ensures ∙ sym (by_use_lem count i _ _))
 
 returns : tie.Need-returns invariant-loop decreases-loop
 unfolding negotiation_sound
-returns c = (rw (check_done c.before.loop.invariant c.loop-test.false), record { long = simp length-map at c.before.before.well-formed.0.1.1.0.1.0.1 })
+returns c = (rw (check_done c.before.loop-i.invariant c.loop-i-test.false), record { long = simp length-map at c.before.before.well-formed.0.1.1.0.1.0.1 })
 
-pub sound-spec : {M : Type 1} → statement M
-sound-spec =
+pub sound_spec : {M : Type 1} → statement M
+sound_spec =
     tie.close
     (tie.spec
     invariant-loop

@@ -9,21 +9,21 @@ use borrow.Author.Rules.{rules}
 use Rattle.negotiation.proofs.Negotiation.zero.Statement.{statement}
 use Rattle.negotiation.proofs.Negotiation.zero.Tie as tie
 
-abbrev invariant-loop : tie.invariant-loop
+abbrev invariant-loop : tie.invariant-loop-i
 invariant-loop self ok₀ i₀ ok i = Checked 16 (λ j. round_zero (get_or self.rounds j no_round)) i ok
 
-abbrev decreases-loop : tie.decreases-loop
+abbrev decreases-loop : tie.decreases-loop-i
 decreases-loop self ok₀ i₀ ok i = 16 - i
 
-loop-again : tie.Need-loop-preserved invariant-loop decreases-loop
-loop-again c = check_turn c.before.before.before.loop.invariant c.before.before.loop-test.true c.zero.ensures
+loop-again : tie.Need-loop-i-preserved invariant-loop decreases-loop
+loop-again c = check_turn c.before.before.before.loop-i.invariant c.before.before.loop-i-test.true c.zero-zero.ensures
 
 returns : tie.Need-returns invariant-loop decreases-loop
 unfolding negotiation_zero
-returns c = (ap (λ (b : Bool). ((b && eqb c.before.before.args.t1.deadline 0) && eqb c.before.before.args.t1.len 0) && eqb c.before.before.args.t1.outcome 0) (check_done c.before.loop.invariant c.loop-test.false), record { long = simp length-map at c.before.before.well-formed.0.1.1.0.1.0.1 })
+returns c = (ap (λ (b : Bool). ((b && eqb c.before.before.args.self.deadline 0) && eqb c.before.before.args.self.len 0) && eqb c.before.before.args.self.outcome 0) (check_done c.before.loop-i.invariant c.loop-i-test.false), record { long = simp length-map at c.before.before.well-formed.0.1.1.0.1.0.1 })
 
-pub zero-spec : {M : Type 1} → statement M
-zero-spec =
+pub zero_spec : {M : Type 1} → statement M
+zero_spec =
     tie.close
     (tie.spec
     invariant-loop

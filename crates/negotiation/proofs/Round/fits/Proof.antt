@@ -2,11 +2,11 @@ use borrow.Author.Rules.{rules}
 use Rattle.negotiation.proofs.Round.fits.Statement.{statement}
 use Rattle.negotiation.proofs.Round.fits.Tie as tie
 
-returns : tie.Need-returns
-returns c = rw c.before.if1.true c.sound.ensures
+returns : tie.Need-returns-then-used
+returns c = rw c.before.if-used.true c.sound.ensures
 
-returns-2 : tie.Need-returns-2
-returns-2 c = rw c.before.if1.false c.zero.ensures
+returns-2 : tie.Need-returns
+returns-2 c = rw c.before.if-used.false c.zero.ensures
 
-pub fits-spec : {M : Type 1} → statement M
-fits-spec = tie.close (tie.spec (λ c κs. search rules) returns (λ c κs. search rules) returns-2)
+pub fits_spec : {M : Type 1} → statement M
+fits_spec = tie.close (tie.spec (λ c κs. search rules) returns (λ c κs. search rules) returns-2)

@@ -5,68 +5,68 @@ use borrow.Author.Rules.{rules}
 use Rattle.offer.proofs.Deal.agreement_refusal.Statement.{statement}
 use Rattle.offer.proofs.Deal.agreement_refusal.Tie as tie
 
-returns : tie.Need-returns
+returns : tie.Need-returns-then-not-paper
 returns c =
-    fails not_found _ c.if1.true
+    fails not_found _ c.if-not-paper.true
 
-returns-2 : tie.Need-returns-2
+returns-2 : tie.Need-returns-then-not-status
 returns-2 c =
-    passes not_found _ c.before.before.if1.false
-    (fails invalid_transition _ c.if2.true)
+    passes not_found _ c.before.before.if-not-paper.false
+    (fails invalid_transition _ c.if-not-status.true-raw)
 
-returns-3 : tie.Need-returns-3
+returns-3 : tie.Need-returns-then-expired
 returns-3 c =
-    passes not_found _ c.before.before.before.before.before.if1.false
-    (passes invalid_transition _ c.before.before.before.if2.false
-    (fails offer_expired _ (sym c.before.expired.ensures ∙ c.if3.true)))
+    passes not_found _ c.before.before.before.before.before.if-not-paper.false
+    (passes invalid_transition _ c.before.before.before.if-not-status.false-raw
+    (fails offer_expired _ (sym c.before.expired.ensures ∙ c.if-expired.true)))
 
-returns-4 : tie.Need-returns-4
+returns-4 : tie.Need-returns-then-not-lender
 returns-4 c =
-    passes not_found _ c.before.before.before.before.before.before.before.if1.false
-    (passes invalid_transition _ c.before.before.before.before.before.if2.false
-    (passes offer_expired _ (sym c.before.before.before.expired.ensures ∙ c.before.before.if3.false)
-    (fails not_found _ c.if4.true)))
+    passes not_found _ c.before.before.before.before.before.before.before.if-not-paper.false
+    (passes invalid_transition _ c.before.before.before.before.before.if-not-status.false-raw
+    (passes offer_expired _ (sym c.before.before.before.expired.ensures ∙ c.before.before.if-expired.false)
+    (fails not_found _ c.if-not-lender.true)))
 
-returns-5 : tie.Need-returns-5
+returns-5 : tie.Need-returns-then-row
 returns-5 c =
-    passes not_found _ c.before.before.before.before.before.before.before.before.before.if1.false
-    (passes invalid_transition _ c.before.before.before.before.before.before.before.if2.false
-    (passes offer_expired _ (sym c.before.before.before.before.before.expired.ensures ∙ c.before.before.before.before.if3.false)
-    (passes not_found _ c.before.before.if4.false
-    (fails blacklisted _ c.if5.true))))
+    passes not_found _ c.before.before.before.before.before.before.before.before.before.if-not-paper.false
+    (passes invalid_transition _ c.before.before.before.before.before.before.before.if-not-status.false-raw
+    (passes offer_expired _ (sym c.before.before.before.before.before.expired.ensures ∙ c.before.before.before.before.if-expired.false)
+    (passes not_found _ c.before.before.if-not-lender.false
+    (fails blacklisted _ c.if-row.true))))
 
-returns-6 : tie.Need-returns-6
+returns-6 : tie.Need-returns-then-not-originator
 returns-6 c =
-    passes not_found _ c.before.before.before.before.before.before.before.before.before.before.before.if1.false
-    (passes invalid_transition _ c.before.before.before.before.before.before.before.before.before.if2.false
-    (passes offer_expired _ (sym c.before.before.before.before.before.before.before.expired.ensures ∙ c.before.before.before.before.before.before.if3.false)
-    (passes not_found _ c.before.before.before.before.if4.false
-    (passes blacklisted _ c.before.before.if5.false
-    (fails not_found _ c.if6.true)))))
+    passes not_found _ c.before.before.before.before.before.before.before.before.before.before.before.if-not-paper.false
+    (passes invalid_transition _ c.before.before.before.before.before.before.before.before.before.if-not-status.false-raw
+    (passes offer_expired _ (sym c.before.before.before.before.before.before.before.expired.ensures ∙ c.before.before.before.before.before.before.if-expired.false)
+    (passes not_found _ c.before.before.before.before.if-not-lender.false
+    (passes blacklisted _ c.before.before.if-row.false
+    (fails not_found _ c.if-not-originator.true)))))
 
-returns-7 : tie.Need-returns-7
+returns-7 : tie.Need-returns-then-g
 returns-7 c =
-    passes not_found _ c.before.before.before.before.before.before.before.before.before.before.before.before.before.if1.false
-    (passes invalid_transition _ c.before.before.before.before.before.before.before.before.before.before.before.if2.false
-    (passes offer_expired _ (sym c.before.before.before.before.before.before.before.before.before.expired.ensures ∙ c.before.before.before.before.before.before.before.before.if3.false)
-    (passes not_found _ c.before.before.before.before.before.before.if4.false
-    (passes blacklisted _ c.before.before.before.before.if5.false
-    (passes not_found _ c.before.before.if6.false
-    (fails blacklisted _ c.if7.true))))))
+    passes not_found _ c.before.before.before.before.before.before.before.before.before.before.before.before.before.if-not-paper.false
+    (passes invalid_transition _ c.before.before.before.before.before.before.before.before.before.before.before.if-not-status.false-raw
+    (passes offer_expired _ (sym c.before.before.before.before.before.before.before.before.before.expired.ensures ∙ c.before.before.before.before.before.before.before.before.if-expired.false)
+    (passes not_found _ c.before.before.before.before.before.before.if-not-lender.false
+    (passes blacklisted _ c.before.before.before.before.if-row.false
+    (passes not_found _ c.before.before.if-not-originator.false
+    (fails blacklisted _ c.if-g.true))))))
 
-returns-8 : tie.Need-returns-8
+returns-8 : tie.Need-returns
 returns-8 c =
-    passes not_found _ c.before.before.before.before.before.before.before.before.before.before.before.before.before.if1.false
-    (passes invalid_transition _ c.before.before.before.before.before.before.before.before.before.before.before.if2.false
-    (passes offer_expired _ (sym c.before.before.before.before.before.before.before.before.before.expired.ensures ∙ c.before.before.before.before.before.before.before.before.if3.false)
-    (passes not_found _ c.before.before.before.before.before.before.if4.false
-    (passes blacklisted _ c.before.before.before.before.if5.false
-    (passes not_found _ c.before.before.if6.false
-    (passes blacklisted _ c.if7.false
+    passes not_found _ c.before.before.before.before.before.before.before.before.before.before.before.before.before.if-not-paper.false
+    (passes invalid_transition _ c.before.before.before.before.before.before.before.before.before.before.before.if-not-status.false-raw
+    (passes offer_expired _ (sym c.before.before.before.before.before.before.before.before.before.expired.ensures ∙ c.before.before.before.before.before.before.before.before.if-expired.false)
+    (passes not_found _ c.before.before.before.before.before.before.if-not-lender.false
+    (passes blacklisted _ c.before.before.before.before.if-row.false
+    (passes not_found _ c.before.before.if-not-originator.false
+    (passes blacklisted _ c.if-g.false
     (none_left)))))))
 
-pub agreement-refusal-spec : {M : Type 1} → statement M
-agreement-refusal-spec =
+pub agreement_refusal_spec : {M : Type 1} → statement M
+agreement_refusal_spec =
     tie.close
     (tie.spec
     returns

@@ -7,5 +7,5 @@ returns : tie.Need-returns
 unfolding expired
 returns c = refl
 
-pub expired-spec : {M : Type 1} → statement M
-expired-spec = tie.close (tie.spec returns)
+pub expired_spec : {M : Type 1} → statement M
+expired_spec = tie.close (tie.spec returns)

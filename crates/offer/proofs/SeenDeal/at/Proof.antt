@@ -6,11 +6,11 @@ use Rattle.offer.specs.Seen.{seen_deal}
 use Rattle.offer.proofs.SeenDeal.at.Statement.{statement}
 use Rattle.offer.proofs.SeenDeal.at.Tie as tie
 
-returns : tie.Need-returns
-returns c = rw c.none.ensures (sym (ap seen_deal (off_spot c.before.before.args.row (not-true _ c.before.if1.true))))
+returns : tie.Need-returns-then-not-here
+returns c = rw c.none-none.ensures (sym (ap seen_deal (off_spot c.before.before.args.row (not-true _ c.before.if-not-here.true-raw))))
 
-returns-2 : tie.Need-returns-2
-returns-2 c = sym (ap seen_deal (on_spot c.before.args.row (not-false _ c.if1.false)))
+returns-2 : tie.Need-returns
+returns-2 c = sym (ap seen_deal (on_spot c.before.args.row (not-false _ c.if-not-here.false-raw)))
 
-pub at-spec : {M : Type 1} → statement M
-at-spec = tie.close (tie.spec (λ c κs. search rules) returns returns-2)
+pub at_spec : {M : Type 1} → statement M
+at_spec = tie.close (tie.spec (λ c κs. search rules) returns returns-2)

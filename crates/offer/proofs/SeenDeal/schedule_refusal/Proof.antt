@@ -10,83 +10,83 @@ use Rattle.offer.proofs.SeenDeal.schedule_refusal.Statement.{statement}
 use Rattle.offer.proofs.SeenDeal.schedule_refusal.Tie as tie
 
 -- the kinds that the edition has
-kind-is : (c : tie.After-kind-listed) → kind_listed (keeps_terms c.before.before.before.before.args.edition) c.before.before.before.before.args.kind ≡ c.kind-listed.result
-kind-is c = sym (c.kind-listed.ensures ∙ ap (λ (t : Bool). kind_listed t c.before.before.before.before.args.kind) c.before.keeps-terms.ensures)
+kind-is : (c : tie.After-kind_listed) → kind_listed (keeps_terms c.before.before.before.before.args.edition) c.before.before.before.before.args.kind ≡ c.kind_listed.result
+kind-is c = sym (c.kind_listed.ensures ∙ ap (λ (t : Bool). kind_listed t c.before.before.before.before.args.kind) c.before.keeps_terms.ensures)
 
-returns : tie.Need-returns
+returns : tie.Need-returns-then-not-count_valid
 returns c =
-    fails invalid_input _ (ap not (sym c.before.count-valid.ensures) ∙ c.if1.true)
+    fails invalid_input _ (ap not (sym c.before.count_valid.ensures) ∙ c.if-not-count_valid.true-raw)
 
-returns-2 : tie.Need-returns-2
+returns-2 : tie.Need-returns-then-not-kind_listed
 returns-2 c =
-    passes invalid_input _ (ap not (sym c.before.before.before.before.count-valid.ensures) ∙ c.before.before.before.if1.false)
-    (fails invalid_input _ (ap not (kind-is c.before) ∙ c.if2.true))
+    passes invalid_input _ (ap not (sym c.before.before.before.before.count_valid.ensures) ∙ c.before.before.before.if-not-count_valid.false-raw)
+    (fails invalid_input _ (ap not (kind-is c.before) ∙ c.if-not-kind_listed.true-raw))
 
-returns-3 : tie.Need-returns-3
+returns-3 : tie.Need-returns-then-first-now
 returns-3 c =
-    passes invalid_input _ (ap not (sym c.before.before.before.before.before.count-valid.ensures) ∙ c.before.before.before.before.if1.false)
-    (passes invalid_input _ (ap not (kind-is c.before.before) ∙ c.before.if2.false)
-    (fails invalid_input _ (le-leb _ _ c.if3.true)))
+    passes invalid_input _ (ap not (sym c.before.before.before.before.before.count_valid.ensures) ∙ c.before.before.before.before.if-not-count_valid.false-raw)
+    (passes invalid_input _ (ap not (kind-is c.before.before) ∙ c.before.if-not-kind_listed.false-raw)
+    (fails invalid_input _ (le-leb _ _ c.if-first-now.true)))
 
-returns-4 : tie.Need-returns-4
+returns-4 : tie.Need-returns-then-not-code_listed
 returns-4 c =
-    passes invalid_input _ (ap not (sym c.before.before.before.before.before.before.before.count-valid.ensures) ∙ c.before.before.before.before.before.before.if1.false)
-    (passes invalid_input _ (ap not (kind-is c.before.before.before.before) ∙ c.before.before.before.if2.false)
-    (passes invalid_input _ (lt-leb _ _ c.before.before.if3.false)
-    (fails invalid_input _ (ap not (sym c.before.code-listed.ensures) ∙ c.if4.true))))
+    passes invalid_input _ (ap not (sym c.before.before.before.before.before.before.before.count_valid.ensures) ∙ c.before.before.before.before.before.before.if-not-count_valid.false-raw)
+    (passes invalid_input _ (ap not (kind-is c.before.before.before.before) ∙ c.before.before.before.if-not-kind_listed.false-raw)
+    (passes invalid_input _ (lt-leb _ _ c.before.before.if-first-now.false)
+    (fails invalid_input _ (ap not (sym c.before.code_listed.ensures) ∙ c.if-not-code_listed.true-raw))))
 
-returns-5 : tie.Need-returns-5
+returns-5 : tie.Need-returns-then-not-self
 returns-5 c =
-    passes invalid_input _ (ap not (sym c.before.before.before.before.before.before.before.before.before.count-valid.ensures) ∙ c.before.before.before.before.before.before.before.before.if1.false)
-    (passes invalid_input _ (ap not (kind-is c.before.before.before.before.before.before) ∙ c.before.before.before.before.before.if2.false)
-    (passes invalid_input _ (lt-leb _ _ c.before.before.before.before.if3.false)
-    (passes invalid_input _ (ap not (sym c.before.before.before.code-listed.ensures) ∙ c.before.before.if4.false)
-    (fails not_found _ c.if5.true))))
+    passes invalid_input _ (ap not (sym c.before.before.before.before.before.before.before.before.before.count_valid.ensures) ∙ c.before.before.before.before.before.before.before.before.if-not-count_valid.false-raw)
+    (passes invalid_input _ (ap not (kind-is c.before.before.before.before.before.before) ∙ c.before.before.before.before.before.if-not-kind_listed.false-raw)
+    (passes invalid_input _ (lt-leb _ _ c.before.before.before.before.if-first-now.false)
+    (passes invalid_input _ (ap not (sym c.before.before.before.code_listed.ensures) ∙ c.before.before.if-not-code_listed.false-raw)
+    (fails not_found _ c.if-not-self.true))))
 
-returns-6 : tie.Need-returns-6
+returns-6 : tie.Need-returns-then-status
 returns-6 c =
-    passes invalid_input _ (ap not (sym c.before.before.before.before.before.before.before.before.before.before.before.before.count-valid.ensures) ∙ c.before.before.before.before.before.before.before.before.before.before.before.if1.false)
-    (passes invalid_input _ (ap not (kind-is c.before.before.before.before.before.before.before.before.before) ∙ c.before.before.before.before.before.before.before.before.if2.false)
-    (passes invalid_input _ (lt-leb _ _ c.before.before.before.before.before.before.before.if3.false)
-    (passes invalid_input _ (ap not (sym c.before.before.before.before.before.before.code-listed.ensures) ∙ c.before.before.before.before.before.if4.false)
-    (passes not_found _ c.before.before.before.if5.false
-    (fails invalid_transition _ c.if6.true)))))
+    passes invalid_input _ (ap not (sym c.before.before.before.before.before.before.before.before.before.before.before.before.count_valid.ensures) ∙ c.before.before.before.before.before.before.before.before.before.before.before.if-not-count_valid.false-raw)
+    (passes invalid_input _ (ap not (kind-is c.before.before.before.before.before.before.before.before.before) ∙ c.before.before.before.before.before.before.before.before.if-not-kind_listed.false-raw)
+    (passes invalid_input _ (lt-leb _ _ c.before.before.before.before.before.before.before.if-first-now.false)
+    (passes invalid_input _ (ap not (sym c.before.before.before.before.before.before.code_listed.ensures) ∙ c.before.before.before.before.before.if-not-code_listed.false-raw)
+    (passes not_found _ c.before.before.before.if-not-self.false
+    (fails invalid_transition _ c.if-status.true)))))
 
-returns-7 : tie.Need-returns-7
+returns-7 : tie.Need-returns-then-not-paper
 returns-7 c =
-    passes invalid_input _ (ap not (sym c.before.before.before.before.before.before.before.before.before.before.before.before.before.before.count-valid.ensures) ∙ c.before.before.before.before.before.before.before.before.before.before.before.before.before.if1.false)
-    (passes invalid_input _ (ap not (kind-is c.before.before.before.before.before.before.before.before.before.before.before) ∙ c.before.before.before.before.before.before.before.before.before.before.if2.false)
-    (passes invalid_input _ (lt-leb _ _ c.before.before.before.before.before.before.before.before.before.if3.false)
-    (passes invalid_input _ (ap not (sym c.before.before.before.before.before.before.before.before.code-listed.ensures) ∙ c.before.before.before.before.before.before.before.if4.false)
-    (passes not_found _ c.before.before.before.before.before.if5.false
-    (passes invalid_transition _ c.before.before.if6.false
-    (fails not_found _ c.if7.true))))))
+    passes invalid_input _ (ap not (sym c.before.before.before.before.before.before.before.before.before.before.before.before.before.before.count_valid.ensures) ∙ c.before.before.before.before.before.before.before.before.before.before.before.before.before.if-not-count_valid.false-raw)
+    (passes invalid_input _ (ap not (kind-is c.before.before.before.before.before.before.before.before.before.before.before) ∙ c.before.before.before.before.before.before.before.before.before.before.if-not-kind_listed.false-raw)
+    (passes invalid_input _ (lt-leb _ _ c.before.before.before.before.before.before.before.before.before.if-first-now.false)
+    (passes invalid_input _ (ap not (sym c.before.before.before.before.before.before.before.before.code_listed.ensures) ∙ c.before.before.before.before.before.before.before.if-not-code_listed.false-raw)
+    (passes not_found _ c.before.before.before.before.before.if-not-self.false
+    (passes invalid_transition _ c.before.before.if-status.false
+    (fails not_found _ c.if-not-paper.true))))))
 
-returns-8 : tie.Need-returns-8
+returns-8 : tie.Need-returns-then-not-lender-caller
 returns-8 c =
-    passes invalid_input _ (ap not (sym c.before.before.before.before.before.before.before.before.before.before.before.before.before.before.before.before.count-valid.ensures) ∙ c.before.before.before.before.before.before.before.before.before.before.before.before.before.before.before.if1.false)
-    (passes invalid_input _ (ap not (kind-is c.before.before.before.before.before.before.before.before.before.before.before.before.before) ∙ c.before.before.before.before.before.before.before.before.before.before.before.before.if2.false)
-    (passes invalid_input _ (lt-leb _ _ c.before.before.before.before.before.before.before.before.before.before.before.if3.false)
-    (passes invalid_input _ (ap not (sym c.before.before.before.before.before.before.before.before.before.before.code-listed.ensures) ∙ c.before.before.before.before.before.before.before.before.before.if4.false)
-    (passes not_found _ c.before.before.before.before.before.before.before.if5.false
-    (passes invalid_transition _ c.before.before.before.before.if6.false
-    (passes not_found _ c.before.before.if7.false
-    (fails unauthorized _ c.if8.true)))))))
+    passes invalid_input _ (ap not (sym c.before.before.before.before.before.before.before.before.before.before.before.before.before.before.before.before.count_valid.ensures) ∙ c.before.before.before.before.before.before.before.before.before.before.before.before.before.before.before.if-not-count_valid.false-raw)
+    (passes invalid_input _ (ap not (kind-is c.before.before.before.before.before.before.before.before.before.before.before.before.before) ∙ c.before.before.before.before.before.before.before.before.before.before.before.before.if-not-kind_listed.false-raw)
+    (passes invalid_input _ (lt-leb _ _ c.before.before.before.before.before.before.before.before.before.before.before.if-first-now.false)
+    (passes invalid_input _ (ap not (sym c.before.before.before.before.before.before.before.before.before.before.code_listed.ensures) ∙ c.before.before.before.before.before.before.before.before.before.if-not-code_listed.false-raw)
+    (passes not_found _ c.before.before.before.before.before.before.before.if-not-self.false
+    (passes invalid_transition _ c.before.before.before.before.if-status.false
+    (passes not_found _ c.before.before.if-not-paper.false
+    (fails unauthorized _ c.if-not-lender-caller.true-raw)))))))
 
-returns-9 : tie.Need-returns-9
+returns-9 : tie.Need-returns
 returns-9 c =
-    passes invalid_input _ (ap not (sym c.before.before.before.before.before.before.before.before.before.before.before.before.before.before.before.before.count-valid.ensures) ∙ c.before.before.before.before.before.before.before.before.before.before.before.before.before.before.before.if1.false)
-    (passes invalid_input _ (ap not (kind-is c.before.before.before.before.before.before.before.before.before.before.before.before.before) ∙ c.before.before.before.before.before.before.before.before.before.before.before.before.if2.false)
-    (passes invalid_input _ (lt-leb _ _ c.before.before.before.before.before.before.before.before.before.before.before.if3.false)
-    (passes invalid_input _ (ap not (sym c.before.before.before.before.before.before.before.before.before.before.code-listed.ensures) ∙ c.before.before.before.before.before.before.before.before.before.if4.false)
-    (passes not_found _ c.before.before.before.before.before.before.before.if5.false
-    (passes invalid_transition _ c.before.before.before.before.if6.false
-    (passes not_found _ c.before.before.if7.false
-    (passes unauthorized _ c.if8.false
+    passes invalid_input _ (ap not (sym c.before.before.before.before.before.before.before.before.before.before.before.before.before.before.before.before.count_valid.ensures) ∙ c.before.before.before.before.before.before.before.before.before.before.before.before.before.before.before.if-not-count_valid.false-raw)
+    (passes invalid_input _ (ap not (kind-is c.before.before.before.before.before.before.before.before.before.before.before.before.before) ∙ c.before.before.before.before.before.before.before.before.before.before.before.before.if-not-kind_listed.false-raw)
+    (passes invalid_input _ (lt-leb _ _ c.before.before.before.before.before.before.before.before.before.before.before.if-first-now.false)
+    (passes invalid_input _ (ap not (sym c.before.before.before.before.before.before.before.before.before.before.code_listed.ensures) ∙ c.before.before.before.before.before.before.before.before.before.if-not-code_listed.false-raw)
+    (passes not_found _ c.before.before.before.before.before.before.before.if-not-self.false
+    (passes invalid_transition _ c.before.before.before.before.if-status.false
+    (passes not_found _ c.before.before.if-not-paper.false
+    (passes unauthorized _ c.if-not-lender-caller.false-raw
     (none_left))))))))
 
-pub schedule-refusal-spec : {M : Type 1} → statement M
-schedule-refusal-spec =
+pub schedule_refusal_spec : {M : Type 1} → statement M
+schedule_refusal_spec =
     tie.close
     (tie.spec
     (λ c κs. search rules)

@@ -16,98 +16,98 @@ use Rattle.parties.proofs.Parties.settle.Tie as tie
 
 -- what is seen at the two ids
 module _ (a b : ℕ) (u : Table Account) where
-  first-of : {p : Parties} → p ≡ parties_of a b u → p.first ≡ seen_in u a
-  first-of e = ap (λ (z : Parties). z.first) e
+  first-of : {p : Parties} → p ≡ parties_of a b u → p.first-1 ≡ seen_in u a
+  first-of e = ap (λ (z : Parties). z.first-1) e
 
-  second-of : {p : Parties} → p ≡ parties_of a b u → p.second ≡ seen_in u b
-  second-of e = ap (λ (z : Parties). z.second) e
+  second-of : {p : Parties} → p ≡ parties_of a b u → p.second-1 ≡ seen_in u b
+  second-of e = ap (λ (z : Parties). z.second-1) e
 
-module _ (c : tie.After-debit) (a b : ℕ) (u : Table Account) (e : c.before.before.before.before.before.args.self ≡ parties_of a b u) where
-  number1 : c.debit.result.answer ≡ first (step1 a b u c.before.before.before.before.before.args.t).checks
-  number1 = row_answer u a (debit c.before.before.before.before.before.args.t) (first-of a b u e) c.debit.ensures c.before.before.if1.false
+module _ (c : tie.After-debit-p) (a b : ℕ) (u : Table Account) (e : c.before.before.before.before.before.args.self ≡ parties_of a b u) where
+  number1 : c.debit-p.result.answer ≡ first (step1 a b u c.before.before.before.before.before.args.t).checks
+  number1 = row_answer u a (debit c.before.before.before.before.before.args.t) (first-of a b u e) c.debit-p.ensures c.before.before.if-not-first.false
 
-module _ (c : tie.After-put-first) (a b : ℕ) (u : Table Account) (e : c.before.before.before.before.before.before.before.before.args.self ≡ parties_of a b u) where
+module _ (c : tie.After-put_first-one) (a b : ℕ) (u : Table Account) (e : c.before.before.before.before.before.before.before.before.args.self ≡ parties_of a b u) where
   passed1 : first (step1 a b u c.before.before.before.before.before.before.before.before.args.t).checks ≡ 0
-  passed1 = sym (number1 c.before.before.before a b u e) ∙ zero_of c.before.before.if2.false
+  passed1 = sym (number1 c.before.before.before a b u e) ∙ zero_of c.before.before.if-not-answer.false-raw
 
-  seen1 : c.put_first.result ≡ parties_of a b (step1 a b u c.before.before.before.before.before.before.before.before.args.t).done
-  seen1 = first_step a b u c.before.before.before.debit.result e (debit c.before.before.before.before.before.before.before.before.args.t) c.put_first.ensures (row_done u a (debit c.before.before.before.before.before.before.before.before.args.t) (first-of a b u e) c.before.before.before.debit.ensures c.before.before.before.before.before.if1.false (zero_of c.before.before.if2.false))
+  seen1 : c.put_first-one.result ≡ parties_of a b (step1 a b u c.before.before.before.before.before.before.before.before.args.t).done
+  seen1 = first_step a b u c.before.before.before.debit-p.result e (debit c.before.before.before.before.before.before.before.before.args.t) c.put_first-one.ensures (row_done u a (debit c.before.before.before.before.before.before.before.before.args.t) (first-of a b u e) c.before.before.before.debit-p.ensures c.before.before.before.before.before.if-not-first.false (zero_of c.before.before.if-not-answer.false-raw))
 
-module _ (c : tie.After-credit) (a b : ℕ) (u : Table Account) (e : c.before.before.before.before.before.before.before.before.before.before.before.before.before.args.self ≡ parties_of a b u) where
-  number2 : c.credit.result.answer ≡ first (step2 a b u c.before.before.before.before.before.before.before.before.before.before.before.before.before.args.t).checks
-  number2 = row_answer (step1 a b u c.before.before.before.before.before.before.before.before.before.before.before.before.before.args.t).done b (credit c.before.before.before.before.before.before.before.before.before.before.before.before.before.args.t) (second-of a b _ (seen1 c.before.before.before.before.before a b u e)) c.credit.ensures c.before.before.if3.false
+module _ (c : tie.After-credit-q) (a b : ℕ) (u : Table Account) (e : c.before.before.before.before.before.before.before.before.before.before.before.before.before.args.self ≡ parties_of a b u) where
+  number2 : c.credit-q.result.answer ≡ first (step2 a b u c.before.before.before.before.before.before.before.before.before.before.before.before.before.args.t).checks
+  number2 = row_answer (step1 a b u c.before.before.before.before.before.before.before.before.before.before.before.before.before.args.t).done b (credit c.before.before.before.before.before.before.before.before.before.before.before.before.before.args.t) (second-of a b _ (seen1 c.before.before.before.before.before a b u e)) c.credit-q.ensures c.before.before.if-not-second.false
 
-module _ (c : tie.After-put-second) (a b : ℕ) (u : Table Account) (e : c.before.before.before.before.before.before.before.before.before.before.before.before.before.before.before.before.args.self ≡ parties_of a b u) where
+module _ (c : tie.After-put_second-two) (a b : ℕ) (u : Table Account) (e : c.before.before.before.before.before.before.before.before.before.before.before.before.before.before.before.before.args.self ≡ parties_of a b u) where
   passed2 : first (step2 a b u c.before.before.before.before.before.before.before.before.before.before.before.before.before.before.before.before.args.t).checks ≡ 0
-  passed2 = sym (number2 c.before.before.before a b u e) ∙ zero_of c.before.before.if4.false
+  passed2 = sym (number2 c.before.before.before a b u e) ∙ zero_of c.before.before.if-not-b.false-raw
 
-  seen2 : c.put_second.result ≡ parties_of a b (step2 a b u c.before.before.before.before.before.before.before.before.before.before.before.before.before.before.before.before.args.t).done
-  seen2 = second_step a b _ c.before.before.before.credit.result (seen1 c.before.before.before.before.before.before.before.before a b u e) (credit c.before.before.before.before.before.before.before.before.before.before.before.before.before.before.before.before.args.t) c.put_second.ensures (row_done (step1 a b u c.before.before.before.before.before.before.before.before.before.before.before.before.before.before.before.before.args.t).done b (credit c.before.before.before.before.before.before.before.before.before.before.before.before.before.before.before.before.args.t) (second-of a b _ (seen1 c.before.before.before.before.before.before.before.before a b u e)) c.before.before.before.credit.ensures c.before.before.before.before.before.if3.false (zero_of c.before.before.if4.false))
+  seen2 : c.put_second-two.result ≡ parties_of a b (step2 a b u c.before.before.before.before.before.before.before.before.before.before.before.before.before.before.before.before.args.t).done
+  seen2 = second_step a b _ c.before.before.before.credit-q.result (seen1 c.before.before.before.before.before.before.before.before a b u e) (credit c.before.before.before.before.before.before.before.before.before.before.before.before.before.before.before.before.args.t) c.put_second-two.ensures (row_done (step1 a b u c.before.before.before.before.before.before.before.before.before.before.before.before.before.before.before.before.args.t).done b (credit c.before.before.before.before.before.before.before.before.before.before.before.before.before.before.before.before.args.t) (second-of a b _ (seen1 c.before.before.before.before.before.before.before.before a b u e)) c.before.before.before.credit-q.ensures c.before.before.before.before.before.if-not-second.false (zero_of c.before.before.if-not-b.false-raw))
 
-  lender-here : not c.put_second.result.first.here ≡ false
+  lender-here : not c.put_second-two.result.first-1.here ≡ false
   lender-here =
       ap (λ z. not z.here) (first-of a b _ seen2)
-      ∙ still_here _ a b _ (still_here _ a a _ (ap (λ z. not z.here) (sym (first-of a b u e)) ∙ c.before.before.before.before.before.before.before.before.before.before.before.before.before.if1.false))
+      ∙ still_here _ a b _ (still_here _ a a _ (ap (λ z. not z.here) (sym (first-of a b u e)) ∙ c.before.before.before.before.before.before.before.before.before.before.before.before.before.if-not-first.false))
 
-module _ (c : tie.After-accept) (a b : ℕ) (u : Table Account) (e : c.before.before.before.before.before.before.before.before.before.before.before.before.before.before.before.before.before.before.before.args.self ≡ parties_of a b u) where
-  number3 : c.accept.result.answer ≡ first (step3 a b u c.before.before.before.before.before.before.before.before.before.before.before.before.before.before.before.before.before.before.before.args.t).checks
-  number3 = row_answer (step2 a b u c.before.before.before.before.before.before.before.before.before.before.before.before.before.before.before.before.before.before.before.args.t).done a (accept c.before.before.before.before.before.before.before.before.before.before.before.before.before.before.before.before.before.before.before.args.t) (first-of a b _ (seen2 c.before.before.before a b u e)) c.accept.ensures (lender-here c.before.before.before a b u e)
+module _ (c : tie.After-accept-accepted) (a b : ℕ) (u : Table Account) (e : c.before.before.before.before.before.before.before.before.before.before.before.before.before.before.before.before.before.before.before.args.self ≡ parties_of a b u) where
+  number3 : c.accept-accepted.result.answer ≡ first (step3 a b u c.before.before.before.before.before.before.before.before.before.before.before.before.before.before.before.before.before.before.before.args.t).checks
+  number3 = row_answer (step2 a b u c.before.before.before.before.before.before.before.before.before.before.before.before.before.before.before.before.before.before.before.args.t).done a (accept c.before.before.before.before.before.before.before.before.before.before.before.before.before.before.before.before.before.before.before.args.t) (first-of a b _ (seen2 c.before.before.before a b u e)) c.accept-accepted.ensures (lender-here c.before.before.before a b u e)
 
 kept-requires : tie.Need-kept-requires
 kept-requires c κs = search rules
 
-returns : tie.Need-returns
-returns c = λ a b u e. c.kept.ensures ∙ debit_refuses a b u c.before.before.before.before.args.t e (row_missing u a (debit c.before.before.before.before.args.t) (first-of a b u e) c.before.if1.true) refl
+returns : tie.Need-returns-then-not-first
+returns c = λ a b u e. c.kept.ensures ∙ debit_refuses a b u c.before.before.before.before.args.t e (row_missing u a (debit c.before.before.before.before.args.t) (first-of a b u e) c.before.if-not-first.true) refl
 
-debit-requires : tie.Need-debit-requires
+debit-requires : tie.Need-debit-p-requires
 debit-requires c κs = search rules
 
-kept-requires-2 : tie.Need-kept-requires-2
+kept-requires-2 : tie.Need-kept-requires-then-not-answer
 kept-requires-2 c κs = search rules
 
-returns-2 : tie.Need-returns-2
-returns-2 c = λ a b u e. c.kept2.ensures ∙ debit_refuses a b u c.before.before.before.before.before.before.before.args.t e (number1 c.before.before a b u e) c.before.if2.true
+returns-2 : tie.Need-returns-then-not-answer
+returns-2 c = λ a b u e. c.kept-then-not-answer.ensures ∙ debit_refuses a b u c.before.before.before.before.before.before.before.args.t e (number1 c.before.before a b u e) c.before.if-not-answer.true-raw
 
-put-first-requires : tie.Need-put-first-requires
+put-first-requires : tie.Need-put_first-one-requires
 put-first-requires c κs = search rules
 
-kept-requires-3 : tie.Need-kept-requires-3
+kept-requires-3 : tie.Need-kept-requires-then-not-second
 kept-requires-3 c κs = search rules
 
-returns-3 : tie.Need-returns-3
-returns-3 c = λ a b u e. c.kept3.ensures ∙ credit_refuses a b u c.before.before.before.before.before.before.before.before.before.before.before.before.args.t e (passed1 c.before.before.before.before a b u e) (row_missing (step1 a b u c.before.before.before.before.before.before.before.before.before.before.before.before.args.t).done b (credit c.before.before.before.before.before.before.before.before.before.before.before.before.args.t) (second-of a b _ (seen1 c.before.before.before.before a b u e)) c.before.if3.true) refl
+returns-3 : tie.Need-returns-then-not-second
+returns-3 c = λ a b u e. c.kept-then-not-second.ensures ∙ credit_refuses a b u c.before.before.before.before.before.before.before.before.before.before.before.before.args.t e (passed1 c.before.before.before.before a b u e) (row_missing (step1 a b u c.before.before.before.before.before.before.before.before.before.before.before.before.args.t).done b (credit c.before.before.before.before.before.before.before.before.before.before.before.before.args.t) (second-of a b _ (seen1 c.before.before.before.before a b u e)) c.before.if-not-second.true) refl
 
-credit-requires : tie.Need-credit-requires
+credit-requires : tie.Need-credit-q-requires
 credit-requires c κs = search rules
 
-kept-requires-4 : tie.Need-kept-requires-4
+kept-requires-4 : tie.Need-kept-requires-then-not-b
 kept-requires-4 c κs = search rules
 
-returns-4 : tie.Need-returns-4
-returns-4 c = λ a b u e. c.kept4.ensures ∙ credit_refuses a b u c.before.before.before.before.before.before.before.before.before.before.before.before.before.before.before.args.t e (passed1 c.before.before.before.before.before.before.before a b u e) (number2 c.before.before a b u e) c.before.if4.true
+returns-4 : tie.Need-returns-then-not-b
+returns-4 c = λ a b u e. c.kept-then-not-b.ensures ∙ credit_refuses a b u c.before.before.before.before.before.before.before.before.before.before.before.before.before.before.before.args.t e (passed1 c.before.before.before.before.before.before.before a b u e) (number2 c.before.before a b u e) c.before.if-not-b.true-raw
 
-put-second-requires : tie.Need-put-second-requires
+put-second-requires : tie.Need-put_second-two-requires
 put-second-requires c κs = search rules
 
-accept-requires : tie.Need-accept-requires
+accept-requires : tie.Need-accept-accepted-requires
 accept-requires c κs = search rules
 
-kept-requires-5 : tie.Need-kept-requires-5
+kept-requires-5 : tie.Need-kept-requires-then-not-c
 kept-requires-5 c κs = search rules
 
-returns-5 : tie.Need-returns-5
-returns-5 c = λ a b u e. c.kept5.ensures ∙ accept_refuses a b u c.before.before.before.before.before.before.before.before.before.before.before.before.before.before.before.before.before.before.before.before.before.args.t e (passed1 c.before.before.before.before.before.before.before.before.before.before.before.before.before a b u e) (passed2 c.before.before.before.before.before a b u e) (number3 c.before.before a b u e) c.before.if5.true
+returns-5 : tie.Need-returns-then-not-c
+returns-5 c = λ a b u e. c.kept-then-not-c.ensures ∙ accept_refuses a b u c.before.before.before.before.before.before.before.before.before.before.before.before.before.before.before.before.before.before.before.before.before.args.t e (passed1 c.before.before.before.before.before.before.before.before.before.before.before.before.before a b u e) (passed2 c.before.before.before.before.before a b u e) (number3 c.before.before a b u e) c.before.if-not-c.true-raw
 
-put-first-requires-2 : tie.Need-put-first-requires-2
+put-first-requires-2 : tie.Need-put_first-three-requires
 put-first-requires-2 c κs = search rules
 
-returns-6 : tie.Need-returns-6
+returns-6 : tie.Need-returns
 returns-6 c = λ a b u e.
-    all_pass_lem a b u c.before.before.before.before.before.before.before.before.before.before.before.before.before.before.before.before.before.before.before.before.before.before.args.t (passed1 c.before.before.before.before.before.before.before.before.before.before.before.before.before.before a b u e) (passed2 c.before.before.before.before.before.before a b u e) (sym (number3 c.before.before.before a b u e) ∙ zero_of c.before.before.if5.false)
-    (first_step a b _ c.before.before.before.accept.result (seen2 c.before.before.before.before.before.before a b u e) (accept c.before.before.before.before.before.before.before.before.before.before.before.before.before.before.before.before.before.before.before.before.before.before.args.t) c.put-first2.ensures (row_done (step2 a b u c.before.before.before.before.before.before.before.before.before.before.before.before.before.before.before.before.before.before.before.before.before.before.args.t).done a (accept c.before.before.before.before.before.before.before.before.before.before.before.before.before.before.before.before.before.before.before.before.before.before.args.t) (first-of a b _ (seen2 c.before.before.before.before.before.before a b u e)) c.before.before.before.accept.ensures (lender-here c.before.before.before.before.before.before a b u e) (zero_of c.before.before.if5.false)))
+    all_pass_lem a b u c.before.before.before.before.before.before.before.before.before.before.before.before.before.before.before.before.before.before.before.before.before.before.args.t (passed1 c.before.before.before.before.before.before.before.before.before.before.before.before.before.before a b u e) (passed2 c.before.before.before.before.before.before a b u e) (sym (number3 c.before.before.before a b u e) ∙ zero_of c.before.before.if-not-c.false-raw)
+    (first_step a b _ c.before.before.before.accept-accepted.result (seen2 c.before.before.before.before.before.before a b u e) (accept c.before.before.before.before.before.before.before.before.before.before.before.before.before.before.before.before.before.before.before.before.before.before.args.t) c.put_first-three.ensures (row_done (step2 a b u c.before.before.before.before.before.before.before.before.before.before.before.before.before.before.before.before.before.before.before.before.before.before.args.t).done a (accept c.before.before.before.before.before.before.before.before.before.before.before.before.before.before.before.before.before.before.before.before.before.before.args.t) (first-of a b _ (seen2 c.before.before.before.before.before.before a b u e)) c.before.before.before.accept-accepted.ensures (lender-here c.before.before.before.before.before.before a b u e) (zero_of c.before.before.if-not-c.false-raw)))
 
-pub settle-spec : {M : Type 1} → statement M
-settle-spec =
+pub settle_spec : {M : Type 1} → statement M
+settle_spec =
     tie.close
     (tie.spec
     kept-requires

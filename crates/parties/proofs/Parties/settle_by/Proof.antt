@@ -5,14 +5,14 @@ use borrow.Author.Rules.{rules}
 use Rattle.parties.proofs.Parties.settle_by.Statement.{statement}
 use Rattle.parties.proofs.Parties.settle_by.Tie as tie
 
-returns : tie.Need-returns
-returns c = first_lends c.before.before.args.t c.before.before.args.lends c.before.if1.true c.settle.ensures
+returns : tie.Need-returns-then-lends
+returns c = first_lends c.before.before.args.t c.before.before.args.lends c.before.if-lends.true c.settle.ensures
 
-returns-2 : tie.Need-returns-2
-returns-2 c = second_lends c.before.before.before.before.before.before.args.t c.before.before.before.before.before.before.args.lends c.before.before.before.before.before.if1.false c.before.before.before.before.turned.ensures c.before.before.before.settle2.ensures (c.kept.ensures ∙ ap (posted_parties _) c.before.turned2.ensures)
+returns-2 : tie.Need-returns
+returns-2 c = second_lends c.before.before.before.before.before.before.args.t c.before.before.before.before.before.before.args.lends c.before.before.before.before.before.if-lends.false c.before.before.before.before.turned-other.ensures c.before.before.before.settle-posted.ensures (c.kept.ensures ∙ ap (posted_parties _) c.before.turned.ensures)
 
-pub settle-by-spec : {M : Type 1} → statement M
-settle-by-spec =
+pub settle_by_spec : {M : Type 1} → statement M
+settle_by_spec =
     tie.close
     (tie.spec
     (λ c κs. search rules)

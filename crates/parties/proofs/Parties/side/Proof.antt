@@ -5,13 +5,13 @@ use Rattle.parties.specs.Parties.{side_of}
 use Rattle.parties.proofs.Parties.side.Statement.{statement}
 use Rattle.parties.proofs.Parties.side.Tie as tie
 
-returns : tie.Need-returns
+returns : tie.Need-returns-then-not-first
 unfolding side_of
-returns c = sym (pick_off c.before.before.args.self.first c.before.before.args.self.second (not-true _ c.before.if1.true))
+returns c = sym (pick_off c.before.before.args.self.first c.before.before.args.self.second (not-true _ c.before.if-not-first.true-raw))
 
-returns-2 : tie.Need-returns-2
+returns-2 : tie.Need-returns
 unfolding side_of
-returns-2 c = sym (pick_on c.before.before.args.self.first c.before.before.args.self.second (not-false _ c.before.if1.false))
+returns-2 c = sym (pick_on c.before.before.args.self.first c.before.before.args.self.second (not-false _ c.before.if-not-first.false-raw))
 
-pub side-spec : {M : Type 1} → statement M
-side-spec = tie.close (tie.spec returns returns-2)
+pub side_spec : {M : Type 1} → statement M
+side_spec = tie.close (tie.spec returns returns-2)

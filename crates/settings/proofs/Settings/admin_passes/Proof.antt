@@ -7,5 +7,5 @@ returns : tie.Need-returns
 unfolding admin_passes
 returns c = c.reaches.ensures
 
-pub admin-passes-spec : {M : Type 1} → statement M
-admin-passes-spec = tie.close (tie.spec (λ c κs. search rules) returns)
+pub admin_passes_spec : {M : Type 1} → statement M
+admin_passes_spec = tie.close (tie.spec (λ c κs. search rules) returns)

@@ -7,5 +7,5 @@ returns : tie.Need-returns
 unfolding is_repayer
 returns c = refl
 
-pub is-repayer-spec : {M : Type 1} → statement M
-is-repayer-spec = tie.close (tie.spec returns)
+pub is_repayer_spec : {M : Type 1} → statement M
+is_repayer_spec = tie.close (tie.spec returns)

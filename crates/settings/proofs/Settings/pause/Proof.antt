@@ -7,14 +7,14 @@ use borrow.Author.Rules.{rules}
 use Rattle.settings.proofs.Settings.pause.Statement.{statement}
 use Rattle.settings.proofs.Settings.pause.Tie as tie
 
-returns : tie.Need-returns
+returns : tie.Need-returns-then-not-admin_passes
 returns c =
     c.refused.ensures ∙ (
-    refuses posted unauthorized _ _ _ (told c.before.before.admin-passes.ensures c.before.if1.true))
+    refuses posted unauthorized _ _ _ (told c.before.before.admin_passes.ensures c.before.if-not-admin_passes.true-raw))
 
-returns-2 : tie.Need-returns-2
+returns-2 : tie.Need-returns
 returns-2 c =
-    goes_on posted unauthorized _ _ _ (told c.before.admin-passes.ensures c.if1.false)
+    goes_on posted unauthorized _ _ _ (told c.before.admin_passes.ensures c.if-not-admin_passes.false-raw)
     (does posted _ _ refl)
 
 pub pause_spec : {M : Type 1} → statement M

@@ -7,22 +7,22 @@ use borrow.Author.Rules.{rules}
 use Rattle.settings.proofs.Settings.set_repayer.Statement.{statement}
 use Rattle.settings.proofs.Settings.set_repayer.Tie as tie
 
-returns : tie.Need-returns
+returns : tie.Need-returns-then-not-admin_passes
 returns c =
     c.refused.ensures ∙ (
-    refuses posted unauthorized _ _ _ (told c.before.before.admin-passes.ensures c.before.if1.true))
+    refuses posted unauthorized _ _ _ (told c.before.before.admin_passes.ensures c.before.if-not-admin_passes.true-raw))
 
-returns-2 : tie.Need-returns-2
+returns-2 : tie.Need-returns-then-not-known
 returns-2 c =
-    c.refused2.ensures ∙ (
-    goes_on posted unauthorized _ _ _ (told c.before.before.before.admin-passes.ensures c.before.before.if1.false)
-    (refuses posted not_found _ _ _ c.before.if2.true))
+    c.refused-then-not-known.ensures ∙ (
+    goes_on posted unauthorized _ _ _ (told c.before.before.before.admin_passes.ensures c.before.before.if-not-admin_passes.false-raw)
+    (refuses posted not_found _ _ _ c.before.if-not-known.true-raw))
 
-returns-3 : tie.Need-returns-3
+returns-3 : tie.Need-returns
 returns-3 c =
-    goes_on posted unauthorized _ _ _ (told c.before.before.admin-passes.ensures c.before.if1.false)
-    (goes_on posted not_found _ _ _ c.if2.false
+    goes_on posted unauthorized _ _ _ (told c.before.before.admin_passes.ensures c.before.if-not-admin_passes.false-raw)
+    (goes_on posted not_found _ _ _ c.if-not-known.false-raw
     (does posted _ _ refl))
 
-pub set-repayer-spec : {M : Type 1} → statement M
-set-repayer-spec = tie.close (tie.spec (λ c κs. search rules) (λ c κs. search rules) returns (λ c κs. search rules) returns-2 returns-3)
+pub set_repayer_spec : {M : Type 1} → statement M
+set_repayer_spec = tie.close (tie.spec (λ c κs. search rules) (λ c κs. search rules) returns (λ c κs. search rules) returns-2 returns-3)

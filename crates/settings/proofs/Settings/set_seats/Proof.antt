@@ -19,24 +19,24 @@ in-bits : (next threshold : ℕ) → threshold_ok next threshold ≡ true → ne
 unfolding threshold_ok
 in-bits next threshold h = let l = leb-true next 4294967295 (both _ _ h).0 in mod-eq_of_lt (omega arith)
 
-returns : tie.Need-returns
+returns : tie.Need-returns-then-not-admin_passes
 returns c =
     c.refused.ensures ∙ (
-    refuses posted unauthorized _ _ _ (told c.before.before.admin-passes.ensures c.before.if1.true))
+    refuses posted unauthorized _ _ _ (told c.before.before.admin_passes.ensures c.before.if-not-admin_passes.true-raw))
 
-returns-2 : tie.Need-returns-2
+returns-2 : tie.Need-returns-then-not-threshold_ok
 returns-2 c =
-    c.refused2.ensures ∙ (
-    goes_on posted unauthorized _ _ _ (told c.before.before.before.before.admin-passes.ensures c.before.before.before.if1.false)
-    (refuses posted invalid_input _ _ _ (told c.before.before.threshold-ok.ensures c.before.if2.true)))
+    c.refused-then-not-threshold_ok.ensures ∙ (
+    goes_on posted unauthorized _ _ _ (told c.before.before.before.before.admin_passes.ensures c.before.before.before.if-not-admin_passes.false-raw)
+    (refuses posted invalid_input _ _ _ (told c.before.before.threshold_ok.ensures c.before.if-not-threshold_ok.true-raw)))
 
-returns-3 : tie.Need-returns-3
+returns-3 : tie.Need-returns
 returns-3 c =
-    goes_on posted unauthorized _ _ _ (told c.before.before.before.admin-passes.ensures c.before.before.if1.false)
-    (goes_on posted invalid_input _ _ _ (told c.before.threshold-ok.ensures c.if2.false)
-    (does posted _ _ (rw (in-bits _ _ (not-false _ (told c.before.threshold-ok.ensures c.if2.false))))))
+    goes_on posted unauthorized _ _ _ (told c.before.before.before.admin_passes.ensures c.before.before.if-not-admin_passes.false-raw)
+    (goes_on posted invalid_input _ _ _ (told c.before.threshold_ok.ensures c.if-not-threshold_ok.false-raw)
+    (does posted _ _ (rw (in-bits _ _ (not-false _ (told c.before.threshold_ok.ensures c.if-not-threshold_ok.false-raw))))))
 
-pub set-seats-spec : {M : Type 1} → statement M
-set-seats-spec =
+pub set_seats_spec : {M : Type 1} → statement M
+set_seats_spec =
     tie.close
     (tie.spec (λ c κs. search rules) (λ c κs. search rules) returns (λ c κs. search rules) (λ c κs. search rules) returns-2 (λ c. search rules) returns-3)

@@ -18,29 +18,29 @@ use borrow.Author.Rules.{rules}
 use Rattle.shelves.proofs.Accounts.store.Statement.{statement}
 use Rattle.shelves.proofs.Accounts.store.Tie as tie
 
-below-b : (c : tie.After-spot-by) → c.spot-by.result.at < 64
-below-b c = spot_below c.before.before.before.before.requires (omega arith) c.before.before.before.before.args.second c.spot-by.ensures
+below-b : (c : tie.After-spot_by-spot) → c.spot_by-spot.result.at < 64
+below-b c = spot_below c.before.before.before.before.requires (omega arith) c.before.before.before.before.args.second c.spot_by-spot.ensures
 
-below-a : (c : tie.After-spot-by2) → c.spot-by2.result.at < 64
-below-a c = spot_below c.before.before.before.before.before.before.before.before.before.before.requires (omega arith) c.before.before.before.before.before.before.before.before.before.before.args.first c.spot-by2.ensures
+below-a : (c : tie.After-spot_by-p) → c.spot_by-p.result.at < 64
+below-a c = spot_below c.before.before.before.before.before.before.before.before.before.before.requires (omega arith) c.before.before.before.before.before.before.before.before.before.before.args.first c.spot_by-p.ensures
 
-was : (c : tie.After-over2) → c.before.before.before.spot-by2.result.here ≡ has (find_by (accounts_of c.before.before.before.before.before.before.before.before.before.before.before.before.before.args.t1) c.before.before.before.before.before.before.before.before.before.before.before.before.before.args.first)
-was c = was_by _ _ (spot_found c.before.before.before.before.before.before.before.before.before.before.before.before.before.requires (omega arith) c.before.before.before.before.before.before.before.before.before.before.before.before.before.args.first c.before.before.before.spot-by2.ensures)
+was : (c : tie.After-over-a) → c.before.before.before.spot_by-p.result.here ≡ has (find_by (accounts_of c.before.before.before.before.before.before.before.before.before.before.before.before.before.args.self) c.before.before.before.before.before.before.before.before.before.before.before.before.before.args.first)
+was c = was_by _ _ (spot_found c.before.before.before.before.before.before.before.before.before.before.before.before.before.requires (omega arith) c.before.before.before.before.before.before.before.before.before.before.before.before.before.args.first c.before.before.before.spot_by-p.ensures)
 
-came : (c : tie.After-over2) → {b : Bool} → not c.before.before.before.spot-by2.result.here && c.before.before.before.before.before.before.before.before.before.before.before.before.before.args.x.here ≡ b → not (has (find_by (accounts_of c.before.before.before.before.before.before.before.before.before.before.before.before.before.args.t1) c.before.before.before.before.before.before.before.before.before.before.before.before.before.args.first)) && c.before.before.before.before.before.before.before.before.before.before.before.before.before.args.x.here ≡ b
+came : (c : tie.After-over-a) → {b : Bool} → not c.before.before.before.spot_by-p.result.here && c.before.before.before.before.before.before.before.before.before.before.before.before.before.args.x.here ≡ b → not (has (find_by (accounts_of c.before.before.before.before.before.before.before.before.before.before.before.before.before.args.self) c.before.before.before.before.before.before.before.before.before.before.before.before.before.args.first)) && c.before.before.before.before.before.before.before.before.before.before.before.before.before.args.x.here ≡ b
 came c = λ q. ap (λ z. not z && c.before.before.before.before.before.before.before.before.before.before.before.before.before.args.x.here) (sym (was c)) ∙ q
 
-wrote : (c : tie.After-over2) → as_accounts c.before.before.before.before.before.before.before.before.before.before.before.before.before.args.t1.ids (set (set c.before.before.before.before.before.before.before.before.before.before.before.before.before.args.t1.rows c.before.before.before.before.before.before.before.before.before.spot-by.result.at c.before.before.before.before.before.before.before.over.result) c.before.before.before.spot-by2.result.at c.over2.result) c.before.before.before.before.before.before.before.before.before.before.before.before.before.args.t1.count ≡ stored_accounts (put_by (put_by (accounts_of c.before.before.before.before.before.before.before.before.before.before.before.before.before.args.t1) c.before.before.before.before.before.before.before.before.before.before.before.before.before.args.second c.before.before.before.before.before.before.before.before.before.before.before.before.before.args.y) c.before.before.before.before.before.before.before.before.before.before.before.before.before.args.first c.before.before.before.before.before.before.before.before.before.before.before.before.before.args.x.row)
-wrote c = accounts_wrote c.before.before.before.before.before.before.before.before.before.before.before.before.before.requires c.before.before.before.before.before.before.before.before.before.before.before.before.before.args.first c.before.before.before.before.before.before.before.before.before.before.before.before.before.args.second c.before.before.before.spot-by2.ensures c.before.before.before.before.before.before.before.before.before.spot-by.ensures c.before.before.before.before.before.before.before.before.before.before.before.before.before.args.x.row c.before.before.before.before.before.before.before.before.before.before.before.before.before.args.y c.before.before.before.before.before.before.before.over.ensures c.over2.ensures
+wrote : (c : tie.After-over-a) → as_accounts c.before.before.before.before.before.before.before.before.before.before.before.before.before.args.self.ids (set (set c.before.before.before.before.before.before.before.before.before.before.before.before.before.args.self.rows c.before.before.before.before.before.before.before.before.before.spot_by-spot.result.at c.before.before.before.before.before.before.before.over-b.result) c.before.before.before.spot_by-p.result.at c.over-a.result) c.before.before.before.before.before.before.before.before.before.before.before.before.before.args.self.count ≡ stored_accounts (put_by (put_by (accounts_of c.before.before.before.before.before.before.before.before.before.before.before.before.before.args.self) c.before.before.before.before.before.before.before.before.before.before.before.before.before.args.second c.before.before.before.before.before.before.before.before.before.before.before.before.before.args.y) c.before.before.before.before.before.before.before.before.before.before.before.before.before.args.first c.before.before.before.before.before.before.before.before.before.before.before.before.before.args.x.row)
+wrote c = accounts_wrote c.before.before.before.before.before.before.before.before.before.before.before.before.before.requires c.before.before.before.before.before.before.before.before.before.before.before.before.before.args.first c.before.before.before.before.before.before.before.before.before.before.before.before.before.args.second c.before.before.before.spot_by-p.ensures c.before.before.before.before.before.before.before.before.before.spot_by-spot.ensures c.before.before.before.before.before.before.before.before.before.before.before.before.before.args.x.row c.before.before.before.before.before.before.before.before.before.before.before.before.before.args.y c.before.before.before.before.before.before.before.over-b.ensures c.over-a.ensures
 
-let-in-requires : tie.Need-let-in-requires
+let-in-requires : tie.Need-let_in-requires
 let-in-requires c κs = subst AccountShelf (sym (wrote c.before.before.before.before)) (accounts_keeping.good (fine_by (fine_by (accounts_keeping.fine _ c.before.before.before.before.before.before.before.before.before.before.before.before.before.before.before.before.before.requires) c.before.before.before.before.before.before.before.before.before.before.before.before.before.before.before.before.before.args.second c.before.before.before.before.before.before.before.before.before.before.before.before.before.before.before.before.before.args.y) c.before.before.before.before.before.before.before.before.before.before.before.before.before.before.before.before.before.args.first c.before.before.before.before.before.before.before.before.before.before.before.before.before.before.before.before.before.args.x.row))
 
-returns : tie.Need-returns
-returns c = λ u l. grows accounts_keeping account_row (λ r. refl) l (wrote c.before.before.before.before.before) (came c.before.before.before.before.before c.before.before.if1.true) ((simp c.before.id.ensures at c.let_in_lem.ensures) (room accounts_keeping account_row (λ r. refl) l (wrote c.before.before.before.before.before) (came c.before.before.before.before.before c.before.before.if1.true)))
+returns : tie.Need-returns-then-p-x
+returns c = λ u l. grows accounts_keeping account_row (λ r. refl) l (wrote c.before.before.before.before.before) (came c.before.before.before.before.before c.before.before.if-p-x.true) ((simp c.before.id.ensures at c.let_in.ensures) (room accounts_keeping account_row (λ r. refl) l (wrote c.before.before.before.before.before) (came c.before.before.before.before.before c.before.before.if-p-x.true)))
 
-returns-2 : tie.Need-returns-2
-returns-2 c = λ u l. stays accounts_keeping account_row (λ r. refl) l (wrote c.before.before.before) (came c.before.before.before c.if1.false)
+returns-2 : tie.Need-returns
+returns-2 c = λ u l. stays accounts_keeping account_row (λ r. refl) l (wrote c.before.before.before) (came c.before.before.before c.if-p-x.false)
 
 pub store_spec : {M : Type 1} → statement M
 store_spec =

@@ -9,68 +9,68 @@ use Rattle.shelves.specs.Invoices.{as_invoices}
 use Rattle.shelves.proofs.Invoices.let_in.Statement.{statement}
 use Rattle.shelves.proofs.Invoices.let_in.Tie as tie
 
-abbrev invariant-loop : tie.invariant-loop
+abbrev invariant-loop : tie.invariant-loop-i
 invariant-loop id paper self₀ n k i₀ self i = Raised 64 n self₀.ids self₀.rows k self.ids self.rows i
 
-abbrev decreases-loop : tie.decreases-loop
+abbrev decreases-loop : tie.decreases-loop-i
 decreases-loop id paper self₀ n k i₀ self i = i
 
-returns : tie.Need-returns invariant-loop decreases-loop
-returns c = λ room. absurd (omega (arith, room.small, c.before.requires.counted, c.if1.true))
+returns : tie.Need-returns-then-count-ge-ROOM invariant-loop decreases-loop
+returns c = λ room. absurd (omega (arith, room.small, c.before.requires.counted, c.if-count-ge-ROOM.true))
 
-returns-2 : tie.Need-returns-2 invariant-loop decreases-loop
-returns-2 c = λ room. absurd (here_absent _ (sym (at_found c.before.before.before.before.before.before.before.requires _ _ (sym c.before.before.find.ensures ∙ c.enum_told.given.1)) ∙ room.new))
+returns-2 : tie.Need-returns-in_default invariant-loop decreases-loop
+returns-2 c = λ room. absurd (here_absent _ (sym (at_found c.before.before.before.before.before.before.before.requires _ _ (sym c.before.before.find-f.ensures ∙ c.in_default.is)) ∙ room.new))
 
-loop-holds : tie.Need-loop-init invariant-loop decreases-loop
-loop-holds c = raised c.before.before.before.before.before.before.before.before.requires (slot_inside _ _ _ _ (sym c.before.before.before.find.ensures ∙ c.before.f.given.1))
+loop-holds : tie.Need-loop-i-init invariant-loop decreases-loop
+loop-holds c = raised c.before.before.before.before.before.before.before.before.requires (slot_inside _ _ _ _ (sym c.before.before.before.find-f.ensures ∙ c.before.in-Absent.is))
 
-mul-self : tie.Need-overflow-mul-self invariant-loop decreases-loop
-mul-self c = omega (arith, c.loop-test.true, c.before.loop.invariant.place.within, c.before.before.before.before.before.before.before.before.before.if1.false)
+mul-self : tie.Need-offset_bounds-self-j invariant-loop decreases-loop
+mul-self c = omega (arith, c.loop-i-test.true, c.before.loop-i.invariant.place.within, c.before.before.before.before.before.before.before.before.before.if-count-ge-ROOM.false)
 
-element-copy-out-self : tie.Need-element-copy-out-self invariant-loop decreases-loop
-element-copy-out-self c = omega (arith, c.loop-test.true, c.before.loop.invariant.place.within, c.before.before.before.before.before.before.before.before.before.if1.false)
+element-copy-out-self : tie.Need-bounds-self-j invariant-loop decreases-loop
+element-copy-out-self c = omega (arith, c.loop-i-test.true, c.before.loop-i.invariant.place.within, c.before.before.before.before.before.before.before.before.before.if-count-ge-ROOM.false)
 
-mul-self-2 : tie.Need-overflow-mul-self-2 invariant-loop decreases-loop
-mul-self-2 c = omega (arith, c.before.loop-test.true, c.before.before.loop.invariant.place.within, c.before.before.before.before.before.before.before.before.before.before.if1.false)
+mul-self-2 : tie.Need-offset_bounds-self-i invariant-loop decreases-loop
+mul-self-2 c = omega (arith, c.before.loop-i-test.true, c.before.before.loop-i.invariant.place.within, c.before.before.before.before.before.before.before.before.before.before.if-count-ge-ROOM.false)
 
-element-write-self : tie.Need-element-write-self invariant-loop decreases-loop
-element-write-self c = omega (arith, c.before.loop-test.true, c.before.before.loop.invariant.place.within, c.before.before.before.before.before.before.before.before.before.before.if1.false)
+element-write-self : tie.Need-bounds-self-i invariant-loop decreases-loop
+element-write-self c = omega (arith, c.before.loop-i-test.true, c.before.before.loop-i.invariant.place.within, c.before.before.before.before.before.before.before.before.before.before.if-count-ge-ROOM.false)
 
-mul-self-3 : tie.Need-overflow-mul-self-3 invariant-loop decreases-loop
-mul-self-3 c = omega (arith, c.before.loop-test.true, c.before.before.loop.invariant.place.within, c.before.before.before.before.before.before.before.before.before.before.if1.false)
+mul-self-3 : tie.Need-offset_bounds-self-j-in-loop-i invariant-loop decreases-loop
+mul-self-3 c = omega (arith, c.before.loop-i-test.true, c.before.before.loop-i.invariant.place.within, c.before.before.before.before.before.before.before.before.before.before.if-count-ge-ROOM.false)
 
-element-copy-out-self-2 : tie.Need-element-copy-out-self-2 invariant-loop decreases-loop
-element-copy-out-self-2 c = omega (arith, c.before.loop-test.true, c.before.before.loop.invariant.place.within, c.before.before.before.before.before.before.before.before.before.before.if1.false)
+element-copy-out-self-2 : tie.Need-bounds-self-j-in-loop-i invariant-loop decreases-loop
+element-copy-out-self-2 c = omega (arith, c.before.loop-i-test.true, c.before.before.loop-i.invariant.place.within, c.before.before.before.before.before.before.before.before.before.before.if-count-ge-ROOM.false)
 
-mul-t18 : tie.Need-overflow-mul-t18 invariant-loop decreases-loop
-mul-t18 c = omega (arith, c.before.before.loop-test.true, c.before.before.before.loop.invariant.place.within, c.before.before.before.before.before.before.before.before.before.before.before.if1.false)
+mul-t18 : tie.Need-offset_bounds-self-i-in-loop-i invariant-loop decreases-loop
+mul-t18 c = omega (arith, c.before.before.loop-i-test.true, c.before.before.before.loop-i.invariant.place.within, c.before.before.before.before.before.before.before.before.before.before.before.if-count-ge-ROOM.false)
 
-element-set-from-self : tie.Need-element-set-from-self invariant-loop decreases-loop
-element-set-from-self c = omega (arith, c.before.before.loop-test.true, c.before.before.before.loop.invariant.place.within, c.before.before.before.before.before.before.before.before.before.before.before.if1.false)
+element-set-from-self : tie.Need-bounds-self-i-in-loop-i invariant-loop decreases-loop
+element-set-from-self c = omega (arith, c.before.before.loop-i-test.true, c.before.before.before.loop-i.invariant.place.within, c.before.before.before.before.before.before.before.before.before.before.before.if-count-ge-ROOM.false)
 
-loop-again : tie.Need-loop-preserved invariant-loop decreases-loop
-loop-again c = raised_on c.before.before.before.loop.invariant _ _ (omega (arith, c.before.before.loop-test.true)) c.before.before.loop-test.true
+loop-again : tie.Need-loop-i-preserved invariant-loop decreases-loop
+loop-again c = raised_on c.before.before.before.loop-i.invariant _ _ (omega (arith, c.before.before.loop-i-test.true)) c.before.before.loop-i-test.true
 
-mul-self-4 : tie.Need-overflow-mul-self-4 invariant-loop decreases-loop
-mul-self-4 c = omega (arith, c.before.loop.invariant.place.within, c.before.before.before.before.before.before.before.before.before.if1.false)
+mul-self-4 : tie.Need-offset_bounds-self-i-2 invariant-loop decreases-loop
+mul-self-4 c = omega (arith, c.before.loop-i.invariant.place.within, c.before.before.before.before.before.before.before.before.before.if-count-ge-ROOM.false)
 
-element-write-self-2 : tie.Need-element-write-self-2 invariant-loop decreases-loop
-element-write-self-2 c = omega (arith, c.before.loop.invariant.place.within, c.before.before.before.before.before.before.before.before.before.if1.false)
+element-write-self-2 : tie.Need-bounds-self-i-2 invariant-loop decreases-loop
+element-write-self-2 c = omega (arith, c.before.loop-i.invariant.place.within, c.before.before.before.before.before.before.before.before.before.if-count-ge-ROOM.false)
 
-mul-paper : tie.Need-overflow-mul-paper invariant-loop decreases-loop
-mul-paper c = omega (arith, c.before.loop.invariant.place.within, c.before.before.before.before.before.before.before.before.before.if1.false)
+mul-paper : tie.Need-offset_bounds-self-i-3 invariant-loop decreases-loop
+mul-paper c = omega (arith, c.before.loop-i.invariant.place.within, c.before.before.before.before.before.before.before.before.before.if-count-ge-ROOM.false)
 
-element-set-from-paper : tie.Need-element-set-from-paper invariant-loop decreases-loop
-element-set-from-paper c = omega (arith, c.before.loop.invariant.place.within, c.before.before.before.before.before.before.before.before.before.if1.false)
+element-set-from-paper : tie.Need-bounds-self-i-3 invariant-loop decreases-loop
+element-set-from-paper c = omega (arith, c.before.loop-i.invariant.place.within, c.before.before.before.before.before.before.before.before.before.if-count-ge-ROOM.false)
 
-add-self : tie.Need-overflow-add-self invariant-loop decreases-loop
-add-self c = omega (arith, c.before.before.before.before.before.before.before.before.before.if1.false)
+add-self : tie.Need-overflow_add-self invariant-loop decreases-loop
+add-self c = omega (arith, c.before.before.before.before.before.before.before.before.before.if-count-ge-ROOM.false)
 
-returns-3 : tie.Need-returns-3 invariant-loop decreases-loop
-returns-3 c = λ room. let_in_lem c.before.loop.invariant as_invoices c.before.before.before.before.before.before.before.before.before.before.requires _ _ (omega (arith, c.before.before.before.before.before.before.before.before.before.if1.false)) (sym c.before.before.before.before.before.find.ensures ∙ c.before.before.before.f.given.1) (omega (arith, c.loop-test.false))
+returns-3 : tie.Need-returns invariant-loop decreases-loop
+returns-3 c = λ room. let_in_lem c.before.loop-i.invariant as_invoices c.before.before.before.before.before.before.before.before.before.before.requires _ _ (omega (arith, c.before.before.before.before.before.before.before.before.before.if-count-ge-ROOM.false)) (sym c.before.before.before.before.before.find-f.ensures ∙ c.before.before.before.in-Absent.is) (omega (arith, c.loop-i-test.false))
 
-pub let-in-spec : {M : Type 1} → statement M
-let-in-spec =
+pub let_in_spec : {M : Type 1} → statement M
+let_in_spec =
     tie.close
     (tie.spec
     invariant-loop
@@ -81,7 +81,7 @@ let-in-spec =
     (λ c. search rules)
     returns-2
     loop-holds
-    (λ c. omega (arith, c.loop-test.true))
+    (λ c. omega (arith, c.loop-i-test.true))
     mul-self
     element-copy-out-self
     mul-self-2
@@ -90,7 +90,7 @@ let-in-spec =
     element-copy-out-self-2
     mul-t18
     element-set-from-self
-    (λ c. omega (arith, c.before.before.loop-test.true))
+    (λ c. omega (arith, c.before.before.loop-i-test.true))
     loop-again
     mul-self-4
     element-write-self-2

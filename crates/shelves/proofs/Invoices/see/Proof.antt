@@ -7,11 +7,11 @@ use borrow.Author.Rules.{rules}
 use Rattle.shelves.proofs.Invoices.see.Statement.{statement}
 use Rattle.shelves.proofs.Invoices.see.Tie as tie
 
-below : (c : tie.After-spot-by) → c.spot-by.result.at < 64
-below c = spot_below c.before.before.before.before.requires (omega arith) c.before.before.before.before.args.key c.spot-by.ensures
+below : (c : tie.After-spot_by-spot) → c.spot_by-spot.result.at < 64
+below c = spot_below c.before.before.before.before.requires (omega arith) c.before.before.before.before.args.key c.spot_by-spot.ensures
 
 returns : tie.Need-returns
-returns c = c.at.ensures ∙ ap seen_invoice (sym (spot_found c.before.before.before.before.before.before.requires (omega arith) c.before.before.before.before.before.before.args.key c.before.before.spot-by.ensures))
+returns c = c.at.ensures ∙ ap seen_invoice (sym (spot_found c.before.before.before.before.before.before.requires (omega arith) c.before.before.before.before.before.before.args.key c.before.before.spot_by-spot.ensures))
 
-pub see-spec : {M : Type 1} → statement M
-see-spec = tie.close (tie.spec (λ c κs. search rules) (λ c. omega (arith, below c)) (λ c. omega (arith, below c)) (λ c κs. search rules) returns)
+pub see_spec : {M : Type 1} → statement M
+see_spec = tie.close (tie.spec (λ c κs. search rules) (λ c. omega (arith, below c)) (λ c. omega (arith, below c)) (λ c κs. search rules) returns)

@@ -10,27 +10,27 @@ use Rattle.shelves.specs.Invoices.{invoices_test}
 use Rattle.shelves.proofs.Invoices.sound.Statement.{statement}
 use Rattle.shelves.proofs.Invoices.sound.Tie as tie
 
-abbrev invariant-loop : tie.invariant-loop
+abbrev invariant-loop : tie.invariant-loop-i
 invariant-loop self n t ok₀ i₀ ok i = Checked 64 (row_test invoice_sound invoice_zero no_invoice n self.rows) i ok
 
-abbrev decreases-loop : tie.decreases-loop
+abbrev decreases-loop : tie.decreases-loop-i
 decreases-loop self n t ok₀ i₀ ok i = 64 - i
 
-loop-again : tie.Need-loop-preserved invariant-loop decreases-loop
+loop-again : tie.Need-loop-i-preserved invariant-loop decreases-loop
 loop-again c =
-    let i = c.before.before.before.loop.i in
-    let count = c.before.before.before.before.before.before.before.args.t1.count in
-    check_turn c.before.before.before.loop.invariant c.before.before.loop-test.true (c.fits2.ensures ∙ sym (by_use_lem count i _ _))
+    let i = c.before.before.before.loop-i.i in
+    let count = c.before.before.before.before.before.before.before.args.self.count in
+    check_turn c.before.before.before.loop-i.invariant c.before.before.loop-i-test.true (c.fits2.ensures ∙ sym (by_use_lem count i _ _))
 
 returns : tie.Need-returns invariant-loop decreases-loop
 unfolding invoices_test
 returns c = (
-  both_same c.before.before.ids-sound.ensures (check_done c.before.loop.invariant c.loop-test.false),
+  both_same c.before.before.ids_sound-ids.ensures (check_done c.before.loop-i.invariant c.loop-i-test.false),
   record { ids_long = search rules; rows_long = simp length-map at c.before.before.before.before.before.well-formed.0.1.1.1.0.1.0.1 },
 )
 
-pub sound-spec : {M : Type 1} → statement M
-sound-spec =
+pub sound_spec : {M : Type 1} → statement M
+sound_spec =
     tie.close
     (tie.spec
     invariant-loop

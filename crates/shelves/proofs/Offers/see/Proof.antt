@@ -8,32 +8,32 @@ use borrow.Author.Rules.{rules}
 use Rattle.shelves.proofs.Offers.see.Statement.{statement}
 use Rattle.shelves.proofs.Offers.see.Tie as tie
 
-below : (c : tie.After-spot-by) → c.spot-by.result.at < 64
-below c = spot_below c.before.before.before.before.requires.shelf (omega arith) c.before.before.before.before.args.key c.spot-by.ensures
+below : (c : tie.After-spot_by-spot) → c.spot_by-spot.result.at < 64
+below c = spot_below c.before.before.before.before.requires.shelf (omega arith) c.before.before.before.before.args.key c.spot_by-spot.ensures
 
-mul-o : tie.Need-overflow-mul-o
+mul-o : tie.Need-offset_bounds-self-place
 mul-o c = omega (arith, below c)
 
-element-copy-out-o : tie.Need-element-copy-out-o
+element-copy-out-o : tie.Need-bounds-self-place
 element-copy-out-o c = omega (arith, below c)
 
-mul-g : tie.Need-overflow-mul-g
+mul-g : tie.Need-offset_bounds-self-place-2
 mul-g c = omega (arith, below c.before)
 
-element-copy-out-g : tie.Need-element-copy-out-g
+element-copy-out-g : tie.Need-bounds-self-place-2
 element-copy-out-g c = omega (arith, below c.before)
 
-mul-q : tie.Need-overflow-mul-q
+mul-q : tie.Need-offset_bounds-self-place-3
 mul-q c = omega (arith, below c.before.before)
 
-element-copy-out-q : tie.Need-element-copy-out-q
+element-copy-out-q : tie.Need-bounds-self-place-3
 element-copy-out-q c = omega (arith, below c.before.before)
 
 returns : tie.Need-returns
-returns c = c.at.ensures ∙ ap seen_deal (sym (deal_read_lem c.before.before.before.before.before.before.before.before.requires _ _ _ c.before.before.before.before.before.before.before.before.args.key c.before.before.before.before.spot-by.ensures))
+returns c = c.at.ensures ∙ ap seen_deal (sym (deal_read_lem c.before.before.before.before.before.before.before.before.requires _ _ _ c.before.before.before.before.before.before.before.before.args.key c.before.before.before.before.spot_by-spot.ensures))
 
-pub see-spec : {M : Type 1} → statement M
-see-spec =
+pub see_spec : {M : Type 1} → statement M
+see_spec =
     tie.close
     (tie.spec
     (λ c κs. search rules)

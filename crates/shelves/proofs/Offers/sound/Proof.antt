@@ -17,52 +17,52 @@ use Rattle.shelves.specs.Offers.{deal_of, rows_of_lem, deals_test}
 use Rattle.shelves.proofs.Offers.sound.Statement.{statement}
 use Rattle.shelves.proofs.Offers.sound.Tie as tie
 
-abbrev invariant-loop : tie.invariant-loop
+abbrev invariant-loop : tie.invariant-loop-i
 invariant-loop e self n t ok₀ i₀ ok i =
     Checked 64 (row_test (deal_sound e) deal_zero no_deal n (rows_of_lem self)) i ok × ((k : ℕ) → k < i → Whole round_slots (get_or self.negotiations k no_negotiation))
 
-abbrev decreases-loop : tie.decreases-loop
+abbrev decreases-loop : tie.decreases-loop-i
 decreases-loop e self n t ok₀ i₀ ok i = 64 - i
 
-rows_long : (c : tie.Start invariant-loop decreases-loop) → length c.args.t1.rows ≡ 64
+rows_long : (c : tie.Start invariant-loop decreases-loop) → length c.args.self.rows ≡ 64
 rows_long c = simp length-map at c.well-formed.0.1.1.1.0.1.0.1
 
-negotiations_long : (c : tie.Start invariant-loop decreases-loop) → length c.args.t1.negotiations ≡ 64
+negotiations_long : (c : tie.Start invariant-loop decreases-loop) → length c.args.self.negotiations ≡ 64
 negotiations_long c = simp length-map at c.well-formed.0.1.1.1.1.0.1.0.1
 
-schedules_long : (c : tie.Start invariant-loop decreases-loop) → length c.args.t1.schedules ≡ 64
+schedules_long : (c : tie.Start invariant-loop decreases-loop) → length c.args.self.schedules ≡ 64
 schedules_long c = simp length-map at c.well-formed.0.1.1.1.1.1.0.1.0.1
 
-even : (c : tie.Start invariant-loop decreases-loop) → Level c.args.t1.rows c.args.t1.negotiations c.args.t1.schedules
+even : (c : tie.Start invariant-loop decreases-loop) → Level c.args.self.rows c.args.self.negotiations c.args.self.schedules
 even c = level _ _ _ (rows_long c) (negotiations_long c) (schedules_long c)
 
-loop-again : tie.Need-loop-preserved invariant-loop decreases-loop
+loop-again : tie.Need-loop-i-preserved invariant-loop decreases-loop
 loop-again c =
     let start = c.before.before.before.before.before.before.before.before.before in
-    let self = start.args.t1 in
-    let i = c.before.before.before.before.before.loop.i in
+    let self = start.args.self in
+    let i = c.before.before.before.before.before.loop-i.i in
     let row_is = join_at deal_of _ _ _ (even start) i (omega (arith, rows_long start)) no_deal _ _ _ in
     let negotiation-is = any-default self.negotiations i _ no_negotiation (omega (arith, negotiations_long start)) in
-    let below = c.before.before.before.before.loop-test.true in (
-      check_turn c.before.before.before.before.before.loop.invariant.0 below (c.fits2.ensures.0 ∙ sym (ap (λ r. cond (ltb i self.count) (deal_sound start.args.edition r) (deal_zero r)) row_is) ∙ sym (by_use_lem self.count i _ _)),
-      below_on c.before.before.before.before.before.loop.invariant.1 (subst (λ n. Whole round_slots n) negotiation-is c.fits2.ensures.1),
+    let below = c.before.before.before.before.loop-i-test.true in (
+      check_turn c.before.before.before.before.before.loop-i.invariant.0 below (c.fits2.ensures.0 ∙ sym (ap (λ r. cond (ltb i self.count) (deal_sound start.args.edition r) (deal_zero r)) row_is) ∙ sym (by_use_lem self.count i _ _)),
+      below_on c.before.before.before.before.before.loop-i.invariant.1 (subst (λ n. Whole round_slots n) negotiation-is c.fits2.ensures.1),
     )
 
 returns : tie.Need-returns invariant-loop decreases-loop
 unfolding deals_test
 returns c = (
-  both_same c.before.before.ids-sound.ensures (check_done c.before.loop.invariant.0 c.loop-test.false),
+  both_same c.before.before.ids_sound-ids.ensures (check_done c.before.loop-i.invariant.0 c.loop-i-test.false),
   record {
     ids_long = search rules;
     rows_long = rows_long c.before.before.before.before.before;
     negotiations_long = negotiations_long c.before.before.before.before.before;
     schedules_long = schedules_long c.before.before.before.before.before;
-    whole = λ k h. c.before.loop.invariant.1 k (omega (arith, c.loop-test.false));
+    whole = λ k h. c.before.loop-i.invariant.1 k (omega (arith, c.loop-i-test.false));
   },
 )
 
-pub sound-spec : {M : Type 1} → statement M
-sound-spec =
+pub sound_spec : {M : Type 1} → statement M
+sound_spec =
     tie.close
     (tie.spec
     invariant-loop
@@ -70,11 +70,11 @@ sound-spec =
     (λ c κs. search rules)
     (λ c. (check_start _ _, λ k h. absurd (omega arith)))
     (λ c. search rules)
-    (λ c. c.loop-test.true)
+    (λ c. c.loop-i-test.true)
     (λ c. search rules)
-    (λ c. c.before.loop-test.true)
+    (λ c. c.before.loop-i-test.true)
     (λ c. search rules)
-    (λ c. c.before.before.loop-test.true)
+    (λ c. c.before.before.loop-i-test.true)
     (λ c κs. search rules)
     (λ c. search rules)
     (λ c. search rules)

@@ -8,10 +8,10 @@ use Rattle.snapshot.proofs.reading.read_account.Tie as tie
 returns : tie.Need-returns
 unfolding account
 returns c =
-    takes_via account_from account_parts (λ x _. refl) (takes_then c.before.before.before.before.before.before.before.before.next.ensures.takes (takes_then c.before.before.before.before.before.before.before.read-purse.ensures (takes_then c.before.before.before.before.before.before.next2.ensures.takes (takes_then c.before.before.before.before.before.next3.ensures.takes (takes_flag 0x77 c.before.before.before.before.next4.ensures)))))
+    takes_via account_from account_parts (λ x _. refl) (takes_then c.before.before.before.before.before.before.before.before.next-id.ensures.takes (takes_then c.before.before.before.before.before.before.before.read_purse-p.ensures (takes_then c.before.before.before.before.before.before.next-pending.ensures.takes (takes_then c.before.before.before.before.before.next-repaid.ensures.takes (takes_flag 0x77 c.before.before.before.before.next-blacklisted.ensures)))))
 
-pub read-account-spec : {M : Type 1} → statement M
-read-account-spec =
+pub read_account_spec : {M : Type 1} → statement M
+read_account_spec =
     tie.close
     (tie.spec
     (λ c κs. search rules)

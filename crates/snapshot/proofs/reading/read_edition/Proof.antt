@@ -6,20 +6,20 @@ use Rattle.snapshot.specs.Answers.{opens_unnamed, opens_listed, opens_unlisted, 
 use Rattle.snapshot.proofs.reading.read_edition.Statement.{statement}
 use Rattle.snapshot.proofs.reading.read_edition.Tie as tie
 
-returns : tie.Need-returns
-returns c = rw c.before.before.start.ensures (opens_unnamed _ (sym c.before.begins.ensures ∙ not-true _ c.if1.true))
+returns : tie.Need-returns-then-not-begins
+returns c = rw c.before.before.start-start.ensures (opens_unnamed _ (sym c.before.begins.ensures ∙ not-true _ c.if-not-begins.true-raw))
 
-returns-2 : tie.Need-returns-2
-returns-2 c = rw c.unlisted.ensures (opens_unlisted _ (rw c.before.before.before.before.before.before.start.ensures at c.before.before.before.next.ensures) (sym c.before.before.before.before.before.begins.ensures ∙ not-false _ c.before.before.before.before.if1.false) (past_unlisted _ (omega (arith, c.before.if2.true))))
+returns-2 : tie.Need-returns-then-c-gt-HALF
+returns-2 c = rw c.unlisted.ensures (opens_unlisted _ (rw c.before.before.before.before.before.before.start-start.ensures at c.before.before.before.next-c.ensures) (sym c.before.before.before.before.before.begins.ensures ∙ not-false _ c.before.before.before.before.if-not-begins.false-raw) (past_unlisted _ (omega (arith, c.before.if-c-gt-HALF.true))))
 
-returns-3 : tie.Need-returns-3
-returns-3 c = rw c.unlisted2.ensures (opens_unlisted _ (rw c.before.before.before.before.before.before.before.before.before.start.ensures at c.before.before.before.before.before.before.next.ensures) (sym c.before.before.before.before.before.before.before.before.begins.ensures ∙ not-false _ c.before.before.before.before.before.before.before.if1.false) (sym c.before.before.is-listed.ensures ∙ not-true _ c.before.if3.true))
+returns-3 : tie.Need-returns-then-not-is_listed
+returns-3 c = rw c.unlisted-then-not-is_listed.ensures (opens_unlisted _ (rw c.before.before.before.before.before.before.before.before.before.start-start.ensures at c.before.before.before.before.before.before.next-c.ensures) (sym c.before.before.before.before.before.before.before.before.begins.ensures ∙ not-false _ c.before.before.before.before.before.before.before.if-not-begins.false-raw) (sym c.before.before.is_listed.ensures ∙ not-true _ c.before.if-not-is_listed.true-raw))
 
-returns-4 : tie.Need-returns-4
-returns-4 c = opens_listed _ (rw c.before.before.before.before.before.before.before.before.start.ensures at c.before.before.before.before.before.next.ensures) (sym c.before.before.before.before.before.before.before.begins.ensures ∙ not-false _ c.before.before.before.before.before.before.if1.false) refl (sym c.before.is-listed.ensures ∙ not-false _ c.if3.false)
+returns-4 : tie.Need-returns
+returns-4 c = opens_listed _ (rw c.before.before.before.before.before.before.before.before.start-start.ensures at c.before.before.before.before.before.next-c.ensures) (sym c.before.before.before.before.before.before.before.begins.ensures ∙ not-false _ c.before.before.before.before.before.before.if-not-begins.false-raw) refl (sym c.before.is_listed.ensures ∙ not-false _ c.if-not-is_listed.false-raw)
 
-pub read-edition-spec : {M : Type 1} → statement M
-read-edition-spec =
+pub read_edition_spec : {M : Type 1} → statement M
+read_edition_spec =
     tie.close
     (tie.spec
     (λ c κs. search rules)

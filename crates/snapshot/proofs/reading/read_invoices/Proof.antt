@@ -10,29 +10,29 @@ use Rattle.snapshot.specs.Filling.{FillingTable, table_start, table_turn, table_
 use Rattle.snapshot.proofs.reading.read_invoices.Statement.{statement}
 use Rattle.snapshot.proofs.reading.read_invoices.Tie as tie
 
-abbrev invariant-loop : tie.invariant-loop
+abbrev invariant-loop : tie.invariant-loop-i
 invariant-loop s n ids₀ rows₀ d₀ i₀ ids rows d i = (i ≤ n) × FillingTable invoice no_invoice 64 s d₀ i ids rows d
 
-abbrev decreases-loop : tie.decreases-loop
+abbrev decreases-loop : tie.decreases-loop-i
 decreases-loop s n ids₀ rows₀ d₀ i₀ ids rows d i = n - i
 
-loop-holds : tie.Need-loop-init invariant-loop decreases-loop
-loop-holds c = (omega arith, table_start _ _ _ _ _ (ap (λ (x : Invoices). x.ids) c.before.before.none.ensures) (ap (λ (x : Invoices). x.rows) c.before.before.none.ensures))
+loop-holds : tie.Need-loop-i-init invariant-loop decreases-loop
+loop-holds c = (omega arith, table_start _ _ _ _ _ (ap (λ (x : Invoices). x.ids-1) c.before.before.none-none.ensures) (ap (λ (x : Invoices). x.rows-1) c.before.before.none-none.ensures))
 
 -- a place of the table
-place : (c : tie.In-loop invariant-loop decreases-loop) → c.before.loop.i < 64
-place c = omega (arith, c.loop-test.true, c.before.before.before.before.before.count.ensures.low)
+place : (c : tie.In-loop-i invariant-loop decreases-loop) → c.before.loop-i.i < 64
+place c = omega (arith, c.loop-i-test.true, c.before.before.before.before.before.count-k.ensures.low)
 
-loop-again : tie.Need-loop-preserved invariant-loop decreases-loop
+loop-again : tie.Need-loop-i-preserved invariant-loop decreases-loop
 loop-again c =
     let d = c.before.before.before in
-    (omega (arith, d.loop-test.true), table_turn _ _ _ _ _ (place d) d.before.loop.invariant.1 c.before.before.read-invoice.ensures)
+    (omega (arith, d.loop-i-test.true), table_turn _ _ _ _ _ (place d) d.before.loop-i.invariant.1 c.before.before.read_invoice-g.ensures)
 
 returns : tie.Need-returns invariant-loop decreases-loop
-returns c = table_done as_invoices c.before.before.before.before.before.count.ensures (omega arith) c.before.loop.invariant.1
+returns c = table_done as_invoices c.before.before.before.before.before.count-k.ensures (omega arith) c.before.loop-i.invariant.1
 
-pub read-invoices-spec : {M : Type 1} → statement M
-read-invoices-spec =
+pub read_invoices_spec : {M : Type 1} → statement M
+read_invoices_spec =
     tie.close
     (tie.spec
     invariant-loop
@@ -46,6 +46,6 @@ read-invoices-spec =
     (λ c. omega (arith, place c.before.before.before))
     (λ c. place c.before.before.before)
     (λ c. omega (arith, place c.before.before.before))
-    (λ c. omega (arith, c.before.before.before.loop-test.true))
+    (λ c. omega (arith, c.before.before.before.loop-i-test.true))
     loop-again
     returns)

@@ -6,18 +6,18 @@ use borrow.Author.Rules.{rules}
 use Rattle.snapshot.proofs.reading.read_kept.Statement.{statement}
 use Rattle.snapshot.proofs.reading.read_kept.Tie as tie
 
-returns : tie.Need-returns
+returns : tie.Need-returns-then-not-keeps_terms
 unfolding kept
-returns c = takes_lacking _ _ _ (sym c.before.keeps-terms.ensures ∙ not-true _ c.if1.true)
+returns c = takes_lacking _ _ _ (sym c.before.keeps_terms.ensures ∙ not-true _ c.if-not-keeps_terms.true-raw)
 
-returns-2 : tie.Need-returns-2
+returns-2 : tie.Need-returns
 unfolding kept
 returns-2 c =
-    takes_given _ _ _ (sym c.before.before.before.before.before.before.before.keeps-terms.ensures ∙ not-false _ c.before.before.before.before.before.before.if1.false)
-    (takes_then (takes_signed 0x9a c.before.before.before.before.before.next.ensures c.before.before.of-bits.ensures) (takes_then c.before.before.before.before.next2.ensures.takes c.before.before.before.next3.ensures.takes))
+    takes_given _ _ _ (sym c.before.before.before.before.before.before.before.keeps_terms.ensures ∙ not-false _ c.before.before.before.before.before.before.if-not-keeps_terms.false-raw)
+    (takes_then (takes_signed 0x9a c.before.before.before.before.before.next-amount.ensures c.before.before.of_bits.ensures) (takes_then c.before.before.before.before.next-rate.ensures.takes c.before.before.before.next-kind.ensures.takes))
 
-pub read-kept-spec : {M : Type 1} → statement M
-read-kept-spec =
+pub read_kept_spec : {M : Type 1} → statement M
+read_kept_spec =
     tie.close
     (tie.spec
     (λ c κs. search rules)

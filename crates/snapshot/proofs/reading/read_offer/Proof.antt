@@ -8,10 +8,10 @@ use Rattle.snapshot.proofs.reading.read_offer.Tie as tie
 returns : tie.Need-returns
 unfolding offer
 returns c =
-    takes_via offer_from offer_parts (λ x _. refl) (takes_then c.before.before.before.before.before.before.before.before.before.next.ensures.takes (takes_then c.before.before.before.before.before.before.before.before.next2.ensures.takes (takes_then c.before.before.before.before.before.before.before.read-terms.ensures (takes_then c.before.before.before.before.before.before.next3.ensures.takes (takes_then c.before.before.before.before.before.next4.ensures.takes (takes_then c.before.before.before.before.next5.ensures.takes (takes_signed 0x94 c.before.before.before.next6.ensures c.before.of-bits.ensures)))))))
+    takes_via offer_from offer_parts (λ x _. refl) (takes_then c.before.before.before.before.before.before.before.before.before.next-invoice.ensures.takes (takes_then c.before.before.before.before.before.before.before.before.next-lender.ensures.takes (takes_then c.before.before.before.before.before.before.before.read_terms-t.ensures (takes_then c.before.before.before.before.before.before.next-expires.ensures.takes (takes_then c.before.before.before.before.before.next-status.ensures.takes (takes_then c.before.before.before.before.next-funded.ensures.takes (takes_signed 0x94 c.before.before.before.next-repaid.ensures c.before.of_bits.ensures)))))))
 
-pub read-offer-spec : {M : Type 1} → statement M
-read-offer-spec =
+pub read_offer_spec : {M : Type 1} → statement M
+read_offer_spec =
     tie.close
     (tie.spec
     (λ c κs. search rules)

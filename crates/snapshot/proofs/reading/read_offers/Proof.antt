@@ -26,32 +26,32 @@ plan_in d = d.schedule
 abbrev offers_of : List ℕ → List Offer → List Negotiation → List Schedule → ℕ → Offers
 offers_of ids rs ns ss n = record { ids = ids; rows = rs; negotiations = ns; schedules = ss; count = n }
 
-abbrev invariant-loop : tie.invariant-loop
+abbrev invariant-loop : tie.invariant-loop-i
 invariant-loop s e n ids₀ rows₀ negotiations₀ schedules₀ d₀ i₀ ids rows negotiations schedules d i =
     (i ≤ n) × FillingParts offer_in talk_in plan_in (deal e) no_deal 64 s d₀ i ids rows negotiations schedules d
 
-abbrev decreases-loop : tie.decreases-loop
+abbrev decreases-loop : tie.decreases-loop-i
 decreases-loop s e n ids₀ rows₀ negotiations₀ schedules₀ d₀ i₀ ids rows negotiations schedules d i = n - i
 
-loop-holds : tie.Need-loop-init invariant-loop decreases-loop
+loop-holds : tie.Need-loop-i-init invariant-loop decreases-loop
 loop-holds c =
-    let e = c.before.before.before.before.none.ensures in
-    (omega arith, parts_start _ _ _ _ _ _ _ _ (ap (λ (x : Offers). x.ids) e) (ap (λ (x : Offers). x.rows) e) (ap (λ (x : Offers). x.negotiations) e) (ap (λ (x : Offers). x.schedules) e))
+    let e = c.before.before.before.before.none-none.ensures in
+    (omega arith, parts_start _ _ _ _ _ _ _ _ (ap (λ (x : Offers). x.ids-1) e) (ap (λ (x : Offers). x.rows-1) e) (ap (λ (x : Offers). x.negotiations-1) e) (ap (λ (x : Offers). x.schedules-1) e))
 
 -- a place of the table
-place : (c : tie.In-loop invariant-loop decreases-loop) → c.before.loop.i < 64
-place c = omega (arith, c.loop-test.true, c.before.before.before.before.before.before.before.count.ensures.low)
+place : (c : tie.In-loop-i invariant-loop decreases-loop) → c.before.loop-i.i < 64
+place c = omega (arith, c.loop-i-test.true, c.before.before.before.before.before.before.before.count-k.ensures.low)
 
-loop-again : tie.Need-loop-preserved invariant-loop decreases-loop
+loop-again : tie.Need-loop-i-preserved invariant-loop decreases-loop
 loop-again c =
     let d = c.before.before.before.before.before.before in
-    (omega (arith, d.loop-test.true), parts_turn _ _ _ _ _ _ _ _ (place d) d.before.loop.invariant.1 c.before.before.before.before.before.read-deal.ensures)
+    (omega (arith, d.loop-i-test.true), parts_turn _ _ _ _ _ _ _ _ (place d) d.before.loop-i.invariant.1 c.before.before.before.before.before.read_deal-g.ensures)
 
 returns : tie.Need-returns invariant-loop decreases-loop
-returns c = parts_done offer_in talk_in plan_in offers_of c.before.before.before.before.before.before.before.count.ensures (omega arith) c.before.loop.invariant.1
+returns c = parts_done offer_in talk_in plan_in offers_of c.before.before.before.before.before.before.before.count-k.ensures (omega arith) c.before.loop-i.invariant.1
 
-pub read-offers-spec : {M : Type 1} → statement M
-read-offers-spec =
+pub read_offers_spec : {M : Type 1} → statement M
+read_offers_spec =
     tie.close
     (tie.spec
     invariant-loop
@@ -69,6 +69,6 @@ read-offers-spec =
     (λ c. omega (arith, place c.before.before.before.before.before.before))
     (λ c. place c.before.before.before.before.before.before)
     (λ c. omega (arith, place c.before.before.before.before.before.before))
-    (λ c. omega (arith, c.before.before.before.before.before.before.loop-test.true))
+    (λ c. omega (arith, c.before.before.before.before.before.before.loop-i-test.true))
     loop-again
     returns)

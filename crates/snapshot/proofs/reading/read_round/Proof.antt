@@ -8,10 +8,10 @@ use Rattle.snapshot.proofs.reading.read_round.Tie as tie
 returns : tie.Need-returns
 unfolding round
 returns c =
-    rw c.new.ensures (takes_via round_from round_parts (λ x _. refl) (takes_then c.before.before.before.before.before.next.ensures.takes (takes_then c.before.before.before.before.read-terms.ensures c.before.before.before.next2.ensures.takes)))
+    rw c.new.ensures (takes_via round_from round_parts (λ x _. refl) (takes_then c.before.before.before.before.before.next-party.ensures.takes (takes_then c.before.before.before.before.read_terms-t.ensures c.before.before.before.next-time.ensures.takes)))
 
-pub read-round-spec : {M : Type 1} → statement M
-read-round-spec =
+pub read_round_spec : {M : Type 1} → statement M
+read_round_spec =
     tie.close
     (tie.spec
     (λ c κs. search rules)

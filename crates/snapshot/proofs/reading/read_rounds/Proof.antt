@@ -11,29 +11,29 @@ use Rattle.snapshot.specs.Filling.{FillingRounds, rounds_start, rounds_turn, rou
 use Rattle.snapshot.proofs.reading.read_rounds.Statement.{statement}
 use Rattle.snapshot.proofs.reading.read_rounds.Tie as tie
 
-abbrev invariant-loop : tie.invariant-loop
+abbrev invariant-loop : tie.invariant-loop-i
 invariant-loop s e limit k n rows₀ d₀ i₀ rows d i = (i ≤ n) × FillingRounds round s d₀ i rows d
 
-abbrev decreases-loop : tie.decreases-loop
+abbrev decreases-loop : tie.decreases-loop-i
 decreases-loop s e limit k n rows₀ d₀ i₀ rows d i = n - i
 
-loop-holds : tie.Need-loop-init invariant-loop decreases-loop
-loop-holds c = (omega arith, rounds_start _ _ _ (ap (λ (x : Negotiation). x.rounds) c.before.none.ensures ∙ none_padded no_round round_slots))
+loop-holds : tie.Need-loop-i-init invariant-loop decreases-loop
+loop-holds c = (omega arith, rounds_start _ _ _ (ap (λ (x : Negotiation). x.rounds) c.before.none-none.ensures ∙ none_padded no_round round_slots))
 
 -- a place of the table
-place : (c : tie.In-loop invariant-loop decreases-loop) → c.before.loop.i < 16
-place c = omega (arith, c.loop-test.true, c.before.before.before.before.count.ensures.low, c.before.before.before.before.before.round-limit.ensures, limit_in_slots c.before.before.before.before.before.before.before.args.edition)
+place : (c : tie.In-loop-i invariant-loop decreases-loop) → c.before.loop-i.i < 16
+place c = omega (arith, c.loop-i-test.true, c.before.before.before.before.count-k.ensures.low, c.before.before.before.before.before.round_limit-limit.ensures, limit_in_slots c.before.before.before.before.before.before.before.args.edition)
 
-loop-again : tie.Need-loop-preserved invariant-loop decreases-loop
+loop-again : tie.Need-loop-i-preserved invariant-loop decreases-loop
 loop-again c =
     let d = c.before.before.before in
-    (omega (arith, d.loop-test.true), rounds_turn _ _ _ (place d) d.before.loop.invariant.1 c.before.before.read-round.ensures)
+    (omega (arith, d.loop-i-test.true), rounds_turn _ _ _ (place d) d.before.loop-i.invariant.1 c.before.before.read_round-g.ensures)
 
 returns : tie.Need-returns invariant-loop decreases-loop
-returns c = rounds_done (rw c.before.before.before.before.before.before.round-limit.ensures at c.before.before.before.before.before.count.ensures) (omega arith) c.before.before.loop.invariant.1
+returns c = rounds_done (rw c.before.before.before.before.before.before.round_limit-limit.ensures at c.before.before.before.before.before.count-k.ensures) (omega arith) c.before.before.loop-i.invariant.1
 
-pub read-rounds-spec : {M : Type 1} → statement M
-read-rounds-spec =
+pub read_rounds_spec : {M : Type 1} → statement M
+read_rounds_spec =
     tie.close
     (tie.spec
     invariant-loop
@@ -47,7 +47,7 @@ read-rounds-spec =
     (λ c. omega (arith, place c.before.before.before))
     (λ c. place c.before.before.before)
     (λ c. omega (arith, place c.before.before.before))
-    (λ c. omega (arith, c.before.before.before.loop-test.true))
+    (λ c. omega (arith, c.before.before.before.loop-i-test.true))
     loop-again
-    (λ c. omega (arith, c.before.before.before.before.before.count.ensures.low, c.before.before.before.before.before.before.round-limit.ensures, limit_in_slots c.before.before.before.before.before.before.before.before.args.edition))
+    (λ c. omega (arith, c.before.before.before.before.before.count-k.ensures.low, c.before.before.before.before.before.before.round_limit-limit.ensures, limit_in_slots c.before.before.before.before.before.before.before.before.args.edition))
     returns)

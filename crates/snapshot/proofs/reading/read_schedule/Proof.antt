@@ -9,10 +9,10 @@ use Rattle.snapshot.proofs.reading.read_schedule.Tie as tie
 returns : tie.Need-returns
 unfolding schedule
 returns c =
-    simp (back c.before.before.before.before.before.read_kept.result.amount c.before.struct_told.given.0.1) (takes_via schedule_from schedule_parts (λ x _. refl) (takes_then c.before.before.before.before.before.before.before.before.before.next.ensures.takes (takes_then c.before.before.before.before.before.before.before.before.next2.ensures.takes (takes_then (takes_signed 0x99 c.before.before.before.before.before.before.before.next3.ensures c.before.before.of-bits.ensures) (takes_then c.before.before.before.before.before.before.next4.ensures.takes c.before.before.before.before.before.read_kept.ensures)))))
+    simp (back c.before.before.before.before.before.read_kept-k.result.amount c.before.struct_told-1.given.0.1) (takes_via schedule_from schedule_parts (λ x _. refl) (takes_then c.before.before.before.before.before.before.before.before.before.next-count.ensures.takes (takes_then c.before.before.before.before.before.before.before.before.next-code.ensures.takes (takes_then (takes_signed 0x99 c.before.before.before.before.before.before.before.next-installment.ensures c.before.before.of_bits.ensures) (takes_then c.before.before.before.before.before.before.next-first.ensures.takes c.before.before.before.before.before.read_kept-k.ensures)))))
 
-pub read-schedule-spec : {M : Type 1} → statement M
-read-schedule-spec =
+pub read_schedule_spec : {M : Type 1} → statement M
+read_schedule_spec =
     tie.close
     (tie.spec
     (λ c κs. search rules)

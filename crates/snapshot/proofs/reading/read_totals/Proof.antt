@@ -8,10 +8,10 @@ use Rattle.snapshot.proofs.reading.read_totals.Tie as tie
 returns : tie.Need-returns
 unfolding totals
 returns c =
-    takes_via totals_from totals_parts (λ x _. refl) (takes_then c.before.before.before.before.before.before.before.next.ensures.takes (takes_then (takes_signed 0x64 c.before.before.before.before.before.before.next2.ensures c.before.before.before.of-bits.ensures) (takes_then (takes_signed 0x65 c.before.before.before.before.before.next3.ensures c.before.before.of-bits2.ensures) (takes_signed 0x66 c.before.before.before.before.next4.ensures c.before.of-bits3.ensures))))
+    takes_via totals_from totals_parts (λ x _. refl) (takes_then c.before.before.before.before.before.before.before.next-offers.ensures.takes (takes_then (takes_signed 0x64 c.before.before.before.before.before.before.next-financed.ensures c.before.before.before.of_bits.ensures) (takes_then (takes_signed 0x65 c.before.before.before.before.before.next-repaid.ensures c.before.before.of_bits-2.ensures) (takes_signed 0x66 c.before.before.before.before.next-fees.ensures c.before.of_bits-3.ensures))))
 
-pub read-totals-spec : {M : Type 1} → statement M
-read-totals-spec =
+pub read_totals_spec : {M : Type 1} → statement M
+read_totals_spec =
     tie.close
     (tie.spec
     (λ c κs. search rules)

@@ -8,10 +8,10 @@ use Rattle.snapshot.proofs.writing.put_account.Tie as tie
 returns : tie.Need-returns
 unfolding account
 returns c =
-    puts_via account_from account_parts (λ x _. refl) refl (puts_then c.before.before.before.before.before.before.before.before.before.before.before.before.before.before.before.before.before.before.before.put.ensures (puts_then c.before.before.before.before.before.before.before.before.before.before.before.before.before.before.put-purse.ensures (puts_then c.before.before.before.before.before.before.before.before.before.before.put-half.ensures (puts_then c.before.before.before.before.before.before.put-half2.ensures c.before.before.put-flag.ensures))))
+    puts_via account_from account_parts (λ x _. refl) refl (puts_then c.before.before.before.before.before.before.before.before.before.before.before.before.before.before.before.before.before.before.before.put-p.ensures (puts_then c.before.before.before.before.before.before.before.before.before.before.before.before.before.before.put_purse-q.ensures (puts_then c.before.before.before.before.before.before.before.before.before.before.put_half-u.ensures (puts_then c.before.before.before.before.before.before.put_half-v.ensures c.before.before.put_flag.ensures))))
 
-pub put-account-spec : {M : Type 1} → statement M
-put-account-spec =
+pub put_account_spec : {M : Type 1} → statement M
+put_account_spec =
     tie.close
     (tie.spec
     (λ c κs. search rules)

@@ -10,38 +10,38 @@ use Rattle.snapshot.specs.Listing.{table_begun, table_more, table_whole}
 use Rattle.snapshot.proofs.writing.put_accounts.Statement.{statement}
 use Rattle.snapshot.proofs.writing.put_accounts.Tie as tie
 
-abbrev invariant-loop : tie.invariant-loop
+abbrev invariant-loop : tie.invariant-loop-i
 invariant-loop out₀ ink table n p₀ i₀ out p i = (i ≤ n) × Listing account ink (table_of table.ids table.rows i) out₀ p₀ out p
 
-abbrev decreases-loop : tie.decreases-loop
+abbrev decreases-loop : tie.decreases-loop-i
 decreases-loop out₀ ink table n p₀ i₀ out p i = n - i
 
 -- the arrays have 64 places
-ids_long : (s : tie.Start invariant-loop decreases-loop) → length s.args.t4.ids ≡ 64
+ids_long : (s : tie.Start invariant-loop decreases-loop) → length s.args.table.ids ≡ 64
 ids_long s = search rules
 
-rows_long : (s : tie.Start invariant-loop decreases-loop) → length s.args.t4.rows ≡ 64
+rows_long : (s : tie.Start invariant-loop decreases-loop) → length s.args.table.rows ≡ 64
 rows_long s = simp length-map at s.well-formed.1.1.1.0.1.1.1.0.1.0.1
 
-place : (c : tie.In-loop invariant-loop decreases-loop) → c.before.loop.i < 64
-place c = omega (arith, c.loop-test.true, c.before.before.before.before.before.before.before.requires)
+place : (c : tie.In-loop-i invariant-loop decreases-loop) → c.before.loop-i.i < 64
+place c = omega (arith, c.loop-i-test.true, c.before.before.before.before.before.before.before.requires)
 
-loop-holds : tie.Need-loop-init invariant-loop decreases-loop
+loop-holds : tie.Need-loop-i-init invariant-loop decreases-loop
 loop-holds c = (omega arith, table_begun _ _ _ _ _ _)
 
-loop-again : tie.Need-loop-preserved invariant-loop decreases-loop
+loop-again : tie.Need-loop-i-preserved invariant-loop decreases-loop
 loop-again c =
     let d = c.before.before.before.before.before.before in
     let s = d.before.before.before.before.before.before.before in
-    (omega (arith, d.loop-test.true), table_more _ _ s.args.t4.ids s.args.t4.rows _ _ _ (omega (arith, place d, ids_long s)) (omega (arith, place d, rows_long s)) d.before.loop.invariant.1 c.before.before.put-account.ensures)
+    (omega (arith, d.loop-i-test.true), table_more _ _ s.args.table.ids s.args.table.rows _ _ _ (omega (arith, place d, ids_long s)) (omega (arith, place d, rows_long s)) d.before.loop-i.invariant.1 c.before.before.put_account-p.ensures)
 
 returns : tie.Need-returns invariant-loop decreases-loop
 returns c =
     let s = c.before.before.before.before.before.before.before in
-    table_whole s.args.t4.ids s.args.t4.rows 0x70 64 (omega arith) (omega (arith, s.requires, ids_long s)) (omega (arith, s.requires, rows_long s)) s.requires c.before.before.before.before.put.ensures c.before.loop.invariant.1
+    table_whole s.args.table.ids s.args.table.rows 0x70 64 (omega arith) (omega (arith, s.requires, ids_long s)) (omega (arith, s.requires, rows_long s)) s.requires c.before.before.before.before.put-p.ensures c.before.loop-i.invariant.1
 
-pub put-accounts-spec : {M : Type 1} → statement M
-put-accounts-spec =
+pub put_accounts_spec : {M : Type 1} → statement M
+put_accounts_spec =
     tie.close
     (tie.spec
     invariant-loop
@@ -54,7 +54,7 @@ put-accounts-spec =
     (λ c. omega (arith, place c.before))
     (λ c κs. search rules)
     (λ c. omega (arith, place c.before.before.before.before.before.before))
-    (λ c. omega (arith, c.before.before.before.before.before.before.loop-test.true))
+    (λ c. omega (arith, c.before.before.before.before.before.before.loop-i-test.true))
     loop-again
     (λ c. puts_kept (returns c))
     returns)

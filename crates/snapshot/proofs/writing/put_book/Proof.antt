@@ -12,11 +12,11 @@ returns : tie.Need-returns
 unfolding layout fields
 returns c =
     puts_led 0x10 listed edition_in fields of_edition (edition_listed _ (tests_of _ c.before.before.before.before.before.before.before.before.before.before.before.before.before.before.before.before.before.before.before.before.before.before.before.before.before.before.before.before.before.before.before.requires).settings)
-    c.before.before.before.before.before.before.before.before.before.before.before.before.before.before.before.before.before.before.before.before.before.before.before.before.before.before.put.ensures
-    (puts_via model_from model_parts (λ x _. refl) refl (puts_then c.before.before.before.before.before.before.before.before.before.before.before.before.before.before.before.before.before.before.before.before.before.before.put-settings.ensures (puts_then c.before.before.before.before.before.before.before.before.before.before.before.before.before.before.before.before.before.put-totals.ensures (puts_then c.before.before.before.before.before.before.before.before.before.before.before.before.put-accounts.ensures (puts_then c.before.before.before.before.before.before.before.put-invoices.ensures c.before.before.put-offers.ensures)))))
+    c.before.before.before.before.before.before.before.before.before.before.before.before.before.before.before.before.before.before.before.before.before.before.before.before.before.before.put-e.ensures
+    (puts_via model_from model_parts (λ x _. refl) refl (puts_then c.before.before.before.before.before.before.before.before.before.before.before.before.before.before.before.before.before.before.before.before.before.before.put_settings-p.ensures (puts_then c.before.before.before.before.before.before.before.before.before.before.before.before.before.before.before.before.before.put_totals-q.ensures (puts_then c.before.before.before.before.before.before.before.before.before.before.before.before.put_accounts-u.ensures (puts_then c.before.before.before.before.before.before.before.put_invoices-v.ensures c.before.before.put_offers.ensures)))))
 
-pub put-book-spec : {M : Type 1} → statement M
-put-book-spec =
+pub put_book_spec : {M : Type 1} → statement M
+put_book_spec =
     tie.close
     (tie.spec
     (λ c. search rules)

@@ -9,10 +9,10 @@ use Rattle.snapshot.proofs.writing.put_deal.Tie as tie
 returns : tie.Need-returns
 unfolding deal
 returns c =
-    puts_via deal_from deal_parts (λ x _. refl) refl (puts_then c.before.before.before.before.before.before.before.before.before.before.before.before.before.before.before.before.before.put.ensures (puts_then c.before.before.before.before.before.before.before.before.before.before.before.before.put-offer.ensures (puts_then c.before.before.before.before.before.before.before.put-negotiation.ensures c.before.before.put-schedule.ensures)))
+    puts_via deal_from deal_parts (λ x _. refl) refl (puts_then c.before.before.before.before.before.before.before.before.before.before.before.before.before.before.before.before.before.put-p.ensures (puts_then c.before.before.before.before.before.before.before.before.before.before.before.before.put_offer-q.ensures (puts_then c.before.before.before.before.before.before.before.put_negotiation-u.ensures c.before.before.put_schedule.ensures)))
 
-pub put-deal-spec : {M : Type 1} → statement M
-put-deal-spec =
+pub put_deal_spec : {M : Type 1} → statement M
+put_deal_spec =
     tie.close
     (tie.spec
     (λ c κs. search rules)

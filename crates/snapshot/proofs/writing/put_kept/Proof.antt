@@ -9,21 +9,21 @@ use borrow.Author.Rules.{rules}
 use Rattle.snapshot.proofs.writing.put_kept.Statement.{statement}
 use Rattle.snapshot.proofs.writing.put_kept.Tie as tie
 
-returns : tie.Need-returns
+returns : tie.Need-returns-then-not-keeps_terms
 unfolding kept
 returns c =
-    let e = sym c.before.keeps-terms.ensures ∙ not-true _ c.if1.true in
+    let e = sym c.before.keeps_terms.ensures ∙ not-true _ c.if-not-keeps_terms.true-raw in
     puts_lacking _ _ _ e (unkept (keeps_terms c.before.before.before.args.edition) c.before.before.before.args.row c.before.before.before.requires e)
 
-returns-2 : tie.Need-returns-2
+returns-2 : tie.Need-returns
 unfolding kept
 returns-2 c =
-    puts_given _ _ _ (sym c.before.before.before.before.before.before.before.before.before.before.before.before.before.before.keeps-terms.ensures ∙ not-false _ c.before.before.before.before.before.before.before.before.before.before.before.before.before.if1.false)
-    (puts_then (as_signed 0x9a (back c.before.before.before.before.before.before.before.before.before.before.before.before.before.before.before.before.args.row.amount c.before.before.before.before.before.before.before.before.before.before.before.struct_told.given.1.1.1.1.0.1) c.before.before.before.before.before.before.before.before.before.before.put-signed.ensures)
-    (puts_then c.before.before.before.before.before.before.put-half.ensures c.before.before.put-half2.ensures))
+    puts_given _ _ _ (sym c.before.before.before.before.before.before.before.before.before.before.before.before.before.before.keeps_terms.ensures ∙ not-false _ c.before.before.before.before.before.before.before.before.before.before.before.before.before.if-not-keeps_terms.false-raw)
+    (puts_then (as_signed 0x9a (back c.before.before.before.before.before.before.before.before.before.before.before.before.before.before.before.before.args.row.amount c.before.before.before.before.before.before.before.before.before.before.before.struct_told-1.given.1.1.1.1.0.1) c.before.before.before.before.before.before.before.before.before.before.put_signed-p.ensures)
+    (puts_then c.before.before.before.before.before.before.put_half-q.ensures c.before.before.put_half.ensures))
 
-pub put-kept-spec : {M : Type 1} → statement M
-put-kept-spec =
+pub put_kept_spec : {M : Type 1} → statement M
+put_kept_spec =
     tie.close
     (tie.spec
     (λ c κs. search rules)

@@ -17,10 +17,10 @@ returns : tie.Need-returns
 unfolding negotiation
 returns c =
     let s = c.before.before.before.before.before.before.before.before.before.before.before.before.before.before.before in
-    puts_via negotiation_from negotiation_parts _ (same_rounds (round_limit s.args.edition) s.args.row s.requires (limit_in_slots s.args.edition) (long s)) (puts_then c.before.before.before.before.before.before.before.before.before.before.before.before.put.ensures (puts_then c.before.before.before.before.before.before.before.before.put-half.ensures c.before.before.put-rounds.ensures))
+    puts_via negotiation_from negotiation_parts _ (same_rounds (round_limit s.args.edition) s.args.row s.requires (limit_in_slots s.args.edition) (long s)) (puts_then c.before.before.before.before.before.before.before.before.before.before.before.before.put-p.ensures (puts_then c.before.before.before.before.before.before.before.before.put_half-q.ensures c.before.before.put_rounds.ensures))
 
-pub put-negotiation-spec : {M : Type 1} → statement M
-put-negotiation-spec =
+pub put_negotiation_spec : {M : Type 1} → statement M
+put_negotiation_spec =
     tie.close
     (tie.spec
     (λ c κs. search rules)

@@ -9,10 +9,10 @@ use Rattle.snapshot.proofs.writing.put_terms.Tie as tie
 returns : tie.Need-returns
 unfolding terms
 returns c =
-    puts_via terms_from terms_parts (λ x _. refl) refl (puts_then (as_signed 0x05 (back c.before.before.before.before.before.before.before.before.before.before.before.before.before.before.args.row.amount c.before.before.before.before.before.before.before.before.before.before.before.struct_told.given.0.1) c.before.before.before.before.before.before.before.before.before.before.put-signed.ensures) (puts_then c.before.before.before.before.before.before.put-half.ensures c.before.before.put.ensures))
+    puts_via terms_from terms_parts (λ x _. refl) refl (puts_then (as_signed 0x05 (back c.before.before.before.before.before.before.before.before.before.before.before.before.before.before.args.row.amount c.before.before.before.before.before.before.before.before.before.before.before.struct_told-1.given.0.1) c.before.before.before.before.before.before.before.before.before.before.put_signed-p.ensures) (puts_then c.before.before.before.before.before.before.put_half-q.ensures c.before.before.put.ensures))
 
-pub put-terms-spec : {M : Type 1} → statement M
-put-terms-spec =
+pub put_terms_spec : {M : Type 1} → statement M
+put_terms_spec =
     tie.close
     (tie.spec
     (λ c κs. search rules)

@@ -4,14 +4,14 @@ use borrow.Author.Rules.{rules}
 use Rattle.solgaverna.proofs.questions.solgaverna_answers.Statement.{statement}
 use Rattle.solgaverna.proofs.questions.solgaverna_answers.Tie as tie
 
-returns : tie.Need-returns
-returns c = let a = c.before.before.before.before.before.before.args in malformed a.out.now _ c.before.before.replay.ensures (not-true _ c.before.if1.true) c.refused.ensures
+returns : tie.Need-returns-then-not-number
+returns c = let a = c.before.before.before.before.before.before.args in malformed a.out-1.now _ c.before.before.replay-replayed.ensures (not-true _ c.before.if-not-number.true-raw) c.refused.ensures
 
-returns-2 : tie.Need-returns-2
-returns-2 c = let a = c.before.before.before.before.before.before.before.before.before.before.before.args in whole a.out.now _ c.before.before.before.before.before.before.before.replay.ensures (not-false _ c.before.before.before.before.before.before.if1.false) (counts c.looked-up.ensures c.before.before.before.answers.ensures)
+returns-2 : tie.Need-returns
+returns-2 c = let a = c.before.before.before.before.before.before.before.before.before.before.before.args in whole a.out-1.now _ c.before.before.before.before.before.before.before.replay-replayed.ensures (not-false _ c.before.before.before.before.before.before.if-not-number.false-raw) (counts c.looked_up.ensures c.before.before.before.answers-r.ensures)
 
-pub solgaverna-answers-spec : {M : Type 1} → statement M
-solgaverna-answers-spec =
+pub solgaverna_answers_spec : {M : Type 1} → statement M
+solgaverna_answers_spec =
     tie.close
     (tie.spec
     (λ c κs. search rules)

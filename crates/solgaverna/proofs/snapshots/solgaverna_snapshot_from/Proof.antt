@@ -5,20 +5,20 @@ use borrow.Author.Rules.{rules}
 use Rattle.solgaverna.proofs.snapshots.solgaverna_snapshot_from.Statement.{statement}
 use Rattle.solgaverna.proofs.snapshots.solgaverna_snapshot_from.Tie as tie
 
-returns : tie.Need-returns
-returns c = let a = c.before.before.before.before.before.before.args in unread a.from.now a.out.now _ c.before.before.read.ensures (not-true _ c.before.if1.true) c.refused.ensures
+returns : tie.Need-returns-then-not-wrong
+returns c = let a = c.before.before.before.before.before.before.args in unread a.from.now a.out-1.now _ c.before.before.read-loaded.ensures (not-true _ c.before.if-not-wrong.true-raw) c.refused.ensures
 
-goes-on-requires : tie.Need-goes-on-requires
-goes-on-requires c κs = read_sound _ c.before.before.read.ensures (not-false _ c.before.if1.false)
+goes-on-requires : tie.Need-goes_on-gone-requires
+goes-on-requires c κs = read_sound _ c.before.before.read-loaded.ensures (not-false _ c.before.if-not-wrong.false-raw)
 
-returns-2 : tie.Need-returns-2
-returns-2 c = let a = c.before.before.before.before.before.before.before.before.before.args in read a.from.now a.out.now _ c.before.before.before.before.before.read.ensures (not-false _ c.before.before.before.before.if1.false) (malformed a.out.now _ c.before.before.goes_on.ensures.0 (not-true _ c.before.if2.true) c.refused2.ensures)
+returns-2 : tie.Need-returns-then-not-stopped
+returns-2 c = let a = c.before.before.before.before.before.before.before.before.before.args in read a.from.now a.out-1.now _ c.before.before.before.before.before.read-loaded.ensures (not-false _ c.before.before.before.before.if-not-wrong.false-raw) (malformed a.out-1.now _ c.before.before.goes_on-gone.ensures.replayed (not-true _ c.before.if-not-stopped.true-raw) c.refused-then-not-stopped.ensures)
 
-put-snapshot-requires : tie.Need-put-snapshot-requires
+put-snapshot-requires : tie.Need-put_snapshot-requires
 put-snapshot-requires c κs = search rules
 
-returns-3 : tie.Need-returns-3
-returns-3 c = let a = c.before.before.before.before.before.before.before.before.before.before.before.before.before.args in read a.from.now a.out.now _ c.before.before.before.before.before.before.before.before.before.read.ensures (not-false _ c.before.before.before.before.before.before.before.before.if1.false) (whole a.out.now _ c.before.before.before.before.before.before.goes_on.ensures.0 (not-false _ c.before.before.before.before.before.if2.false) c.before.before.put-snapshot.ensures)
+returns-3 : tie.Need-returns
+returns-3 c = let a = c.before.before.before.before.before.before.before.before.before.before.before.before.before.args in read a.from.now a.out-1.now _ c.before.before.before.before.before.before.before.before.before.read-loaded.ensures (not-false _ c.before.before.before.before.before.before.before.before.if-not-wrong.false-raw) (whole a.out-1.now _ c.before.before.before.before.before.before.goes_on-gone.ensures.replayed (not-false _ c.before.before.before.before.before.if-not-stopped.false-raw) c.before.before.put_snapshot.ensures)
 
-pub solgaverna-snapshot-from-spec : {M : Type 1} → statement M
-solgaverna-snapshot-from-spec = tie.close (tie.spec (λ c κs. search rules) (λ c κs. search rules) returns goes-on-requires (λ c κs. search rules) returns-2 put-snapshot-requires (λ c. search rules) returns-3)
+pub solgaverna_snapshot_from_spec : {M : Type 1} → statement M
+solgaverna_snapshot_from_spec = tie.close (tie.spec (λ c κs. search rules) (λ c κs. search rules) returns goes-on-requires (λ c κs. search rules) returns-2 put-snapshot-requires (λ c. search rules) returns-3)

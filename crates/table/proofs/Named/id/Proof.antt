@@ -2,10 +2,10 @@ use borrow.Author.Rules.{rules}
 use Rattle.table.proofs.Named.id.Statement.{statement}
 use Rattle.table.proofs.Named.id.Tie as tie
 
-returns : tie.Need-returns
+returns : tie.Need-returns-in-Nothing
 returns c = search rules
 
-returns-2 : tie.Need-returns-2
+returns-2 : tie.Need-returns-in-Id
 returns-2 c = search rules
 
 pub id_spec : {M : Type 1} → statement M

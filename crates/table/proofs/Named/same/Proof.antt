@@ -11,8 +11,8 @@ use Rattle.table.proofs.Named.same.Tie as tie
 both : {a b : Named} {i j : ℕ} → a ≡ Id i → b ≡ Id j → eqb i j ≡ same a b
 both {a} {b} {i} p q = sym (ap (λ z. same z b) p ∙ ap (same (Id i)) q)
 
-returns-3 : tie.Need-returns-3
-returns-3 c = both c.before.before.before.before.self.given.1 c.before.other.given.1
+returns-3 : tie.Need-returns
+returns-3 c = both c.before.before.before.before.in-Id.is c.before.in-Id-other.is
 
 pub same_spec : {M : Type 1} → statement M
 same_spec =

@@ -3,6 +3,6 @@ use Rattle.journal.specs.Table.{padded}
 use Rattle.text.proofs.reading.no_line.Statement.{statement}
 use Rattle.text.proofs.reading.no_line.Tie as tie
 
-pub no-line-spec : {M : Type 1} → statement M
+pub no_line_spec : {M : Type 1} → statement M
 unfolding padded
-no-line-spec = tie.close (tie.spec (λ c. refl))
+no_line_spec = tie.close (tie.spec (λ c. refl))

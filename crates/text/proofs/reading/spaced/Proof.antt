@@ -9,22 +9,22 @@ use Rattle.text.specs.ReadingLaws.{there, first-of, no_space, after_space}
 use Rattle.text.proofs.reading.spaced.Statement.{statement}
 use Rattle.text.proofs.reading.spaced.Tie as tie
 
-returns : tie.Need-returns
+returns : tie.Need-returns-then-byte-ne32
 returns c =
     let s = c.before.before.before.before in
-    no_space s.args.f _ (λ e. c.before.if1.true (c.before.before.byte.ensures ∙ sym (first-of s.args.s.now s.args.at) ∙ e)) c.none.ensures
+    no_space s.args.f _ (λ e. c.before.if-byte-ne32.true (c.before.before.byte.ensures ∙ sym (first-of s.args.s.now s.args.at) ∙ e)) c.none.ensures
 
-room : (c : tie.Else1) → c.before.before.before.args.at < length c.before.before.before.args.s.now
-room c = let s = c.before.before.before in there s.args.s.now s.args.at (sym c.before.byte.ensures ∙ c.if1.false) (omega arith)
+room : (c : tie.Else-byte-ne32) → c.before.before.before.args.at < length c.before.before.before.args.s.now
+room c = let s = c.before.before.before in there s.args.s.now s.args.at (sym c.before.byte.ensures ∙ c.if-byte-ne32.false) (omega arith)
 
-returns-2 : tie.Need-returns-2
+returns-2 : tie.Need-returns
 returns-2 c =
     let s = c.before.before.before.before in
-    after_space s.args.f _ (first-of s.args.s.now s.args.at ∙ sym c.before.before.byte.ensures ∙ c.before.if1.false)
-    (c.numeral-at.ensures ∙ ap (numeral_in s.args.f) (sym (drop-drop 1 s.args.at s.args.s.now)))
+    after_space s.args.f _ (first-of s.args.s.now s.args.at ∙ sym c.before.before.byte.ensures ∙ c.before.if-byte-ne32.false)
+    (c.numeral_at.ensures ∙ ap (numeral_in s.args.f) (sym (drop-drop 1 s.args.at s.args.s.now)))
 
-pub spaced-spec : {M : Type 1} → statement M
-spaced-spec =
+pub spaced_spec : {M : Type 1} → statement M
+spaced_spec =
     tie.close
     (tie.spec
     (λ c κs. search rules)

@@ -9,49 +9,49 @@ use Rattle.text.specs.ReadingLaws.{lead_out, lead_not, lead_on, lead_done}
 use Rattle.text.proofs.reading.starts.Statement.{statement}
 use Rattle.text.proofs.reading.starts.Tie as tie
 
-abbrev invariant-loop : tie.invariant-loop
+abbrev invariant-loop : tie.invariant-loop-i
 invariant-loop s at n name i₀ i = (i ≤ n) × (leads (take n name) (drop at s) ≡ leads (drop i (take n name)) (drop i (drop at s)))
 
-abbrev decreases-loop : tie.decreases-loop
+abbrev decreases-loop : tie.decreases-loop-i
 decreases-loop s at n name i₀ i = n - i
 
 -- the array has the n bytes
-all : (s : tie.Start invariant-loop decreases-loop) → length (take s.args.n s.args.t4) ≡ s.args.n
-all s = length-take-le s.args.n s.args.t4 (omega (arith, s.requires.1, s.well-formed.1.1.1.0.1))
+all : (s : tie.Start invariant-loop decreases-loop) → length (take s.args.n s.args.name) ≡ s.args.n
+all s = length-take-le s.args.n s.args.name (omega (arith, s.requires.1, s.well-formed.1.1.1.0.1))
 
 -- the bytes at hand, where the text has one
 left : (s : tie.Start invariant-loop decreases-loop) → length (drop s.args.at s.args.s.now) ≡ length s.args.s.now - s.args.at
 left s = length-drop s.args.at s.args.s.now
 
-returns : tie.Need-returns invariant-loop decreases-loop
+returns : tie.Need-returns-then-s-at invariant-loop decreases-loop
 returns c =
     let s = c.before.before.before in
-    let l = c.before.before.loop in
-    sym (l.invariant.1 ∙ lead_out _ _ l.i (omega (arith, all s, c.before.loop-test.true)) (omega (arith, left s, c.if1.true)))
+    let l = c.before.before.loop-i in
+    sym (l.invariant.1 ∙ lead_out _ _ l.i (omega (arith, all s, c.before.loop-i-test.true)) (omega (arith, left s, c.if-s-at.true)))
 
-returns-2 : tie.Need-returns-2 invariant-loop decreases-loop
+returns-2 : tie.Need-returns-then-s-at-2 invariant-loop decreases-loop
 returns-2 c =
     let s = c.before.before.before.before.before in
-    let l = c.before.before.before.before.loop in
+    let l = c.before.before.before.before.loop-i in
     let x = get_or-drop s.args.at s.args.s.now l.i 0 in
-    let y = get_or-take s.args.n s.args.t4 l.i 0 c.before.before.before.loop-test.true in
-    sym (l.invariant.1 ∙ lead_not _ _ l.i (omega (arith, all s, c.before.before.before.loop-test.true)) (omega (arith, left s, c.before.before.if1.false)) (λ e. c.if2.true (sym x ∙ e ∙ y)))
+    let y = get_or-take s.args.n s.args.name l.i 0 c.before.before.before.loop-i-test.true in
+    sym (l.invariant.1 ∙ lead_not _ _ l.i (omega (arith, all s, c.before.before.before.loop-i-test.true)) (omega (arith, left s, c.before.before.if-s-at.false)) (λ e. c.if-s-at-2.true (sym x ∙ e ∙ y)))
 
-loop-again : tie.Need-loop-preserved invariant-loop decreases-loop
+loop-again : tie.Need-loop-i-preserved invariant-loop decreases-loop
 loop-again c =
     let s = c.before.before.before.before.before in
-    let l = c.before.before.before.before.loop in
+    let l = c.before.before.before.before.loop-i in
     let x = get_or-drop s.args.at s.args.s.now l.i 0 in
-    let y = get_or-take s.args.n s.args.t4 l.i 0 c.before.before.before.loop-test.true in
-    (omega arith, l.invariant.1 ∙ lead_on _ _ l.i (omega (arith, all s, c.before.before.before.loop-test.true)) (omega (arith, left s, c.before.before.if1.false)) (x ∙ c.if2.false ∙ sym y))
+    let y = get_or-take s.args.n s.args.name l.i 0 c.before.before.before.loop-i-test.true in
+    (omega arith, l.invariant.1 ∙ lead_on _ _ l.i (omega (arith, all s, c.before.before.before.loop-i-test.true)) (omega (arith, left s, c.before.before.if-s-at.false)) (x ∙ c.if-s-at-2.false ∙ sym y))
 
-returns-3 : tie.Need-returns-3 invariant-loop decreases-loop
+returns-3 : tie.Need-returns invariant-loop decreases-loop
 returns-3 c =
-    let l = c.before.loop in
+    let l = c.before.loop-i in
     sym (l.invariant.1 ∙ lead_done _ _ l.i (omega (arith, all c.before.before, l.invariant.0)))
 
-pub starts-spec : {M : Type 1} → statement M
-starts-spec =
+pub starts_spec : {M : Type 1} → statement M
+starts_spec =
     tie.close
     (tie.spec
     invariant-loop
@@ -59,8 +59,8 @@ starts-spec =
     (λ c. (search rules, refl))
     (λ c. omega (arith, c.before.before.requires))
     returns
-    (λ c. omega (arith, c.before.before.before.requires, c.if1.false))
-    (λ c. omega (arith, c.before.before.before.before.requires, c.before.if1.false))
+    (λ c. omega (arith, c.before.before.before.requires, c.if-s-at.false))
+    (λ c. omega (arith, c.before.before.before.before.requires, c.before.if-s-at.false))
     (λ c. omega (arith, c.before.before.before.before.requires))
     returns-2
     (λ c. omega (arith, c.before.before.before.before.before.requires))

@@ -7,31 +7,31 @@ use Rattle.text.specs.ReadingLaws.{tag_here, tag_on, no_tag}
 use Rattle.text.proofs.reading.tag_at.Statement.{statement}
 use Rattle.text.proofs.reading.tag_at.Tie as tie
 
-abbrev invariant-loop : tie.invariant-loop
+abbrev invariant-loop : tie.invariant-loop-k
 invariant-loop s at first past k₀ k = tag_in first past (drop at s) ≡ tag_by (past - k) k (drop at s)
 
-abbrev decreases-loop : tie.decreases-loop
+abbrev decreases-loop : tie.decreases-loop-k
 decreases-loop s at first past k₀ k = past - k
 
-loop-holds : tie.Need-loop-init invariant-loop decreases-loop
+loop-holds : tie.Need-loop-k-init invariant-loop decreases-loop
 unfolding tag_in
 loop-holds c = refl
 
-returns : tie.Need-returns invariant-loop decreases-loop
+returns : tie.Need-returns-then-named invariant-loop decreases-loop
 returns c =
-    let l = c.before.before.before.loop in
-    sym (l.invariant ∙ tag_here _ _ l.k c.before.before.loop-test.true (sym c.before.named.ensures ∙ c.if1.true))
+    let l = c.before.before.before.loop-k in
+    sym (l.invariant ∙ tag_here _ _ l.k c.before.before.loop-k-test.true (sym c.before.named.ensures ∙ c.if-named.true))
 
-loop-again : tie.Need-loop-preserved invariant-loop decreases-loop
+loop-again : tie.Need-loop-k-preserved invariant-loop decreases-loop
 loop-again c =
-    let l = c.before.before.before.loop in
-    l.invariant ∙ tag_on _ _ l.k c.before.before.loop-test.true (sym c.before.named.ensures ∙ c.if1.false)
+    let l = c.before.before.before.loop-k in
+    l.invariant ∙ tag_on _ _ l.k c.before.before.loop-k-test.true (sym c.before.named.ensures ∙ c.if-named.false)
 
-returns-2 : tie.Need-returns-2 invariant-loop decreases-loop
-returns-2 c = let l = c.before.loop in sym (l.invariant ∙ no_tag _ _ l.k c.loop-test.false)
+returns-2 : tie.Need-returns invariant-loop decreases-loop
+returns-2 c = let l = c.before.loop-k in sym (l.invariant ∙ no_tag _ _ l.k c.loop-k-test.false)
 
-pub tag-at-spec : {M : Type 1} → statement M
-tag-at-spec =
+pub tag_at_spec : {M : Type 1} → statement M
+tag_at_spec =
     tie.close
     (tie.spec
     invariant-loop
@@ -39,7 +39,7 @@ tag-at-spec =
     loop-holds
     (λ c κs. c.before.before.before.requires)
     returns
-    (λ c. omega (arith, c.before.before.loop-test.true))
-    (λ c. omega (arith, c.before.before.loop-test.true))
+    (λ c. omega (arith, c.before.before.loop-k-test.true))
+    (λ c. omega (arith, c.before.before.loop-k-test.true))
     loop-again
     returns-2)

@@ -16,26 +16,26 @@ use Rattle.text.specs.LineLaws.{word_fits, word_in}
 use Rattle.text.proofs.writing.put_line.Statement.{statement}
 use Rattle.text.proofs.writing.put_line.Tie as tie
 
-array-share-prefix-name : tie.Need-array-share-prefix-name
-array-share-prefix-name c = word_fits (word_of c.before.before.before.before.args.tag) c.before.before.word.ensures
+array-share-prefix-name : tie.Need-slice_bounds-name-end
+array-share-prefix-name c = word_fits (word_of c.before.before.before.before.args.tag) c.before.before.word-word.ensures
 
-slice-aggregate-put : tie.Need-slice-aggregate-put
-slice-aggregate-put c = sym (length-take-le _ _ (word_fits (word_of c.before.before.before.before.before.args.tag) c.before.before.before.word.ensures))
+slice-aggregate-put : tie.Need-slice_bounds-put-end
+slice-aggregate-put c = sym (length-take-le _ _ (word_fits (word_of c.before.before.before.before.before.args.tag) c.before.before.before.word-word.ensures))
 
-put-numerals-requires : tie.Need-put-numerals-requires
-put-numerals-requires c κs = omega (arith, ap (λ (r : Listed). r.0) c.before.before.listed.ensures, few_fields c.before.before.before.before.before.before.before.before.before.before.before.args.edition c.before.before.before.before.before.before.before.before.before.before.before.args.tag)
+put-numerals-requires : tie.Need-put_numerals-q-requires
+put-numerals-requires c κs = omega (arith, ap (λ (r : Listed). r.0) c.before.before.listed-row.ensures, few_fields c.before.before.before.before.before.before.before.before.before.before.before.args.edition c.before.before.before.before.before.before.before.before.before.before.before.args.tag)
 
 returns : tie.Need-returns
 unfolding line_of
 returns c =
     let s = c.before.before.before.before.before.before.before.before.before.before.before.before.before.before.before.before.before.before.before in
-    let f = c.before.before.before.before.before.before.before.before.before.before.listed.ensures in
+    let f = c.before.before.before.before.before.before.before.before.before.before.listed-row.ensures in
     let e = ap (λ (r : Listed). numerals_of (take r.0 r.1) s.args.numbers) f ∙ ap (λ (l : List ℕ). numerals_of l s.args.numbers) (take_padded (fields_for s.args.edition s.args.tag)) in
-    next (retext c.before.before.before.before.before.before.before.before.before.before.before.before.before.put.ensures (word_in (word_of s.args.tag) c.before.before.before.before.before.before.before.before.before.before.before.before.before.before.before.before.before.word.ensures))
-    (next (retext c.before.before.before.before.before.before.before.put-numerals.ensures e) c.before.before.put2.ensures)
+    next (retext c.before.before.before.before.before.before.before.before.before.before.before.before.before.put-put.ensures (word_in (word_of s.args.tag) c.before.before.before.before.before.before.before.before.before.before.before.before.before.before.before.before.before.word-word.ensures))
+    (next (retext c.before.before.before.before.before.before.before.put_numerals-q.ensures e) c.before.before.put.ensures)
 
-pub put-line-spec : {M : Type 1} → statement M
-put-line-spec =
+pub put_line_spec : {M : Type 1} → statement M
+put_line_spec =
     tie.close
     (tie.spec
     (λ c κs. search rules)

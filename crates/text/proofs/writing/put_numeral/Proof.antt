@@ -6,16 +6,16 @@ use Rattle.text.specs.Line.{numeral_of}
 use Rattle.text.proofs.writing.put_numeral.Statement.{statement}
 use Rattle.text.proofs.writing.put_numeral.Tie as tie
 
-returns : tie.Need-returns
+returns : tie.Need-returns-then-signed
 unfolding numeral_of
-returns c = retext c.before.before.put-signed.ensures (sym (pick_on _ _ (sym c.before.before.before.before.before.signed.ensures ∙ c.before.before.before.before.if1.true)))
+returns c = retext c.before.before.put_signed.ensures (sym (pick_on _ _ (sym c.before.before.before.before.before.signed.ensures ∙ c.before.before.before.before.if-signed.true)))
 
-returns-2 : tie.Need-returns-2
+returns-2 : tie.Need-returns
 unfolding numeral_of
-returns-2 c = retext c.before.before.put-decimal.ensures (sym (pick_off _ _ (sym c.before.before.before.before.before.signed.ensures ∙ c.before.before.before.before.if1.false)))
+returns-2 c = retext c.before.before.put_decimal.ensures (sym (pick_off _ _ (sym c.before.before.before.before.before.signed.ensures ∙ c.before.before.before.before.if-signed.false)))
 
-pub put-numeral-spec : {M : Type 1} → statement M
-put-numeral-spec =
+pub put_numeral_spec : {M : Type 1} → statement M
+put_numeral_spec =
     tie.close
     (tie.spec
     (λ c κs. search rules)

@@ -8,28 +8,28 @@ use Rattle.text.specs.LineLaws.{Numbering, no_number, one_number, all_numbers}
 use Rattle.text.proofs.writing.put_numerals.Statement.{statement}
 use Rattle.text.proofs.writing.put_numerals.Tie as tie
 
-abbrev invariant-loop : tie.invariant-loop
+abbrev invariant-loop : tie.invariant-loop-i
 invariant-loop out₀ ink n tags numbers p₀ i₀ out p i = (i ≤ n) × Numbering ink (take n tags) numbers out₀ p₀ i out p
 
-abbrev decreases-loop : tie.decreases-loop
+abbrev decreases-loop : tie.decreases-loop-i
 decreases-loop out₀ ink n tags numbers p₀ i₀ out p i = n - i
 
 -- the array has the n tags
-all : (s : tie.Start invariant-loop decreases-loop) → length (take s.args.n s.args.t5) ≡ s.args.n
-all s = length-take-le s.args.n s.args.t5 (omega (arith, s.requires, s.well-formed.1.1.1.1.0.1))
+all : (s : tie.Start invariant-loop decreases-loop) → length (take s.args.n s.args.tags) ≡ s.args.n
+all s = length-take-le s.args.n s.args.tags (omega (arith, s.requires, s.well-formed.1.1.1.1.0.1))
 
-loop-again : tie.Need-loop-preserved invariant-loop decreases-loop
+loop-again : tie.Need-loop-i-preserved invariant-loop decreases-loop
 loop-again c =
-    let l = c.before.before.before.before.before.loop in
+    let l = c.before.before.before.before.before.loop-i in
     let s = c.before.before.before.before.before.before.before in
-    let t = get_or-take s.args.n s.args.t5 l.i 0 c.before.before.before.before.loop-test.true in
-    (omega arith, one_number (omega (arith, all s, c.before.before.before.before.loop-test.true)) l.invariant.1 (rw t c.before.before.put-spaced.ensures))
+    let t = get_or-take s.args.n s.args.tags l.i 0 c.before.before.before.before.loop-i-test.true in
+    (omega arith, one_number (omega (arith, all s, c.before.before.before.before.loop-i-test.true)) l.invariant.1 (rw t c.before.before.put_spaced-p.ensures))
 
 returns : tie.Need-returns invariant-loop decreases-loop
-returns c = all_numbers (omega (arith, all c.before.before.before, c.before.loop.invariant.0)) c.before.loop.invariant.1
+returns c = all_numbers (omega (arith, all c.before.before.before, c.before.loop-i.invariant.0)) c.before.loop-i.invariant.1
 
-pub put-numerals-spec : {M : Type 1} → statement M
-put-numerals-spec =
+pub put_numerals_spec : {M : Type 1} → statement M
+put_numerals_spec =
     tie.close
     (tie.spec
     invariant-loop
@@ -42,5 +42,5 @@ put-numerals-spec =
     (λ c. search rules)
     (λ c. search rules)
     loop-again
-    (λ c. c.before.loop.invariant.1.long)
+    (λ c. c.before.loop-i.invariant.1.long)
     returns)

@@ -4,8 +4,8 @@ use Rattle.text.proofs.writing.put_spaced.Statement.{statement}
 use Rattle.text.proofs.writing.put_spaced.Tie as tie
 
 returns : tie.Need-returns
-returns c = next c.before.before.before.before.before.before.put.ensures c.before.before.put-numeral.ensures
+returns c = next c.before.before.before.before.before.before.put-put.ensures c.before.before.put_numeral.ensures
 
-pub put-spaced-spec : {M : Type 1} → statement M
-put-spaced-spec =
+pub put_spaced_spec : {M : Type 1} → statement M
+put_spaced_spec =
     tie.close (tie.spec (λ c. search rules) (λ c κs. search rules) (λ c κs. search rules) (λ c. search rules) returns)

@@ -7,14 +7,14 @@ use borrow.Author.Rules.{rules}
 use Rattle.totals.proofs.Totals.count.Statement.{statement}
 use Rattle.totals.proofs.Totals.count.Tie as tie
 
-returns : tie.Need-returns
+returns : tie.Need-returns-then-count-ge-COUNT_LIMIT
 returns c =
     c.refused.ensures ∙ (
-    refuses counted out_of_range _ _ _ (le-leb _ _ c.before.if1.true))
+    refuses counted out_of_range _ _ _ (le-leb _ _ c.before.if-count-ge-COUNT_LIMIT.true))
 
-returns-2 : tie.Need-returns-2
+returns-2 : tie.Need-returns
 returns-2 c =
-    goes_on counted out_of_range _ _ _ (lt-leb _ _ c.if1.false)
+    goes_on counted out_of_range _ _ _ (lt-leb _ _ c.if-count-ge-COUNT_LIMIT.false)
     (does counted _ _ refl)
 
 pub count_spec : {M : Type 1} → statement M

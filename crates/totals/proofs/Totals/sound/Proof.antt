@@ -9,12 +9,12 @@ unfolding totals_sound
 returns c =
     let s = c.before.before.before.before.before.before.args.self in
     rw (
-      simp (back s.financed (search rules)) at c.before.before.before.before.in-total-range.ensures,
-      simp (back s.repaid (search rules)) at c.before.before.in-total-range2.ensures,
-      simp (back s.fees (search rules)) at c.in-total-range3.ensures,
+      simp (back s.financed (search rules)) at c.before.before.before.before.in_total_range-financed.ensures,
+      simp (back s.repaid (search rules)) at c.before.before.in_total_range-repaid.ensures,
+      simp (back s.fees (search rules)) at c.in_total_range-fees.ensures,
     )
 
-pub sound-spec : {M : Type 1} → statement M
-sound-spec =
+pub sound_spec : {M : Type 1} → statement M
+sound_spec =
     tie.close
     (tie.spec (λ c κs. search rules) (λ c κs. search rules) (λ c κs. search rules) returns)
