@@ -102,8 +102,12 @@ class Names:
             if key in self.fields:
                 out.append(self.fields[key])
                 i += 1
-                if rest and (key, rest[0]) in self.raw:
-                    out.append(self.raw[(key, rest[0])])
+                word = {"taken": "true", "left": "false"}.get(rest[0], rest[0]) if rest else ""
+                if rest and (key, word) in self.raw:
+                    out.append(self.raw[(key, word)])
+                    i += 1
+                elif word in ("true", "false"):
+                    out.append(word)
                     i += 1
                 elif len(rest) > 1 and rest[0] == "ensures" and rest[1].isdigit() and key in self.clauses and int(rest[1]) < len(self.clauses[key]):
                     out += ["ensures", self.clauses[key][int(rest[1])]]
@@ -114,7 +118,206 @@ class Names:
         return out
 
 
+class Graph:
+    """The places of a function, by their old and new depth."""
+
+    def __init__(self, of):
+        self.at = {plain(it[0]): i for i, it in enumerate(of["places"])}
+        index = {it[0]: i for i, it in enumerate(of["places"])}
+        self.parent = [index.get(it[1]) for it in of["places"]]
+        self.arm = [it and it[0] for it in of["arms"]]
+        self.need = {}
+        for (old, new), (place, _) in zip(of["needs"], of["asked_at"]):
+            for word in ("", "overflow_", "nonzero_", "offset_bounds-", "bounds-"):
+                self.need.setdefault(plain(word + old), index.get(place))
+        self.order = [index.get(place) for place, _ in of["asked_at"]]
+
+    def above(self, i):
+        """The place before it: the steps of an arm are one today."""
+        if self.arm[i]:
+            while self.parent[i] is not None and self.arm[self.parent[i]] == self.arm[i]:
+                i = self.parent[i]
+        return self.parent[i]
+
+    def old_up(self, i, n):
+        for _ in range(n):
+            i = None if i is None else self.parent[i]
+        return i
+
+    def depth(self, i, to):
+        """How many steps back from i to a place, today; None if it is no place of its own any more."""
+        n = 0
+        while i is not None:
+            if i == to:
+                return n
+            i, n = self.above(i), n + 1
+        return None
+
+    def of_type(self, type_):
+        m = re.match(r"\(?tie\.(" + WORD + ")", type_.strip())
+        if not m:
+            return None
+        if m[1].startswith("Need-"):
+            return self.need.get(plain(m[1][5:]))
+        return self.at.get(plain(m[1]))
+
+
+CHAIN = re.compile(rf"({WORD})((?:\.before)+)(?![\w'-])(?!\.)")
+
+
+def split_arguments(text):
+    """The arguments of a call, each whole."""
+    out, depth, now = [], 0, ""
+    for c in text:
+        if c in "([{":
+            depth += 1
+        if c in ")]}":
+            depth -= 1
+        if c.isspace() and depth == 0:
+            if now:
+                out.append(now)
+            now = ""
+        else:
+            now += c
+    return out + ([now] if now else [])
+
+
+def binders(type_):
+    """The arguments of a signature by place: each a type, as far as they stand one after the other."""
+    out, rest = [], type_.strip()
+    while rest:
+        if rest[0] in "({":
+            depth, end = 0, 0
+            for end, c in enumerate(rest):
+                depth += (c in "({") - (c in ")}")
+                if depth == 0:
+                    break
+            inside, brace, after = rest[1:end], rest[0], rest[end + 1 :].strip()
+            m = re.match(r"([^:]*?) : (.*)", inside, re.S)
+            if m:
+                if brace == "(":
+                    out += [m[2]] * len(m[1].split())
+                rest = after.removeprefix("→").strip()
+                continue
+        if rest.startswith("tie.Need-"):
+            out.append(rest)
+            break
+        depth, cut = 0, None
+        for end, c in enumerate(rest):
+            depth += (c in "({[") - (c in ")}]")
+            if c == "→" and depth == 0:
+                cut = end
+                break
+        if cut is None:
+            break
+        out.append(rest[:cut])
+        rest = rest[cut + 1 :].strip()
+    return out
+
+
+def steps_back(body, env, graph):
+    """Rewrites what goes back from a place and is no field: x.before.before."""
+
+    def one(m):
+        i = env.get(m[1])
+        if i is None:
+            return m[0]
+        n = m[2].count(".before")
+        to = graph.old_up(i, n)
+        d = None if to is None else graph.depth(i, to)
+        if d is None:
+            return m[1]
+        return m[1] + ".before" * d
+
+    out, rest = "", body
+    while True:
+        m = re.search(rf"\blet ({WORD}) = ({WORD})((?:\.before)*) in(?![\w])", rest)
+        if not m:
+            return out + CHAIN.sub(one, rest)
+        head = CHAIN.sub(one, rest[: m.start()])
+        i = env.get(m[2])
+        to = graph.old_up(i, m[3].count(".before")) if i is not None else None
+        d = graph.depth(i, to) if to is not None else None
+        if i is not None:
+            # an inner place of an arm is the arm
+            env = env | {m[1]: to if d is not None else i}
+            out += head + f"let {m[1]} = {m[2]}{'.before' * (d or 0)} in"
+        else:
+            out += head + m[0]
+        rest = rest[m.end() :]
+
+
+def blocks(text):
+    """The declarations of a file: lines from one at the margin to the next signature."""
+    found, now = [], []
+    for line in text.split("\n"):
+        if re.match(r"(?:(?:pub|abbrev|unfoldable) )*" + WORD + " :", line) or line.startswith(("use ", "--")):
+            found.append(now)
+            now = []
+        now.append(line)
+    return ["\n".join(it) for it in [*found, now] if it]
+
+
+def walk_back(text, graph):
+    out = []
+    for block in blocks(text):
+        m = re.match(r"(?:(?:pub|abbrev|unfoldable) )*(" + WORD + r") :(.*?)\n(?=(?:unfolding .*\n)?" + r"\1(?= |$))", block + "\n", re.S) if not block.startswith(("use ", "--")) else None
+        if not m:
+            out.append(block)
+            continue
+        name, type_ = m[1], m[2]
+        args = binders(type_)
+        body = (block + "\n")[m.end() :]
+        clause = re.match(r"((?:unfolding [^\n]*\n)?)" + re.escape(name) + r"((?: [^=\n]*?)?) =(?=\s)", body)
+        if not clause:
+            out.append(block)
+            continue
+        head, rest = (block + "\n")[: m.end()] + clause[0], body[clause.end() :]
+        params = [it for it in split_arguments(clause[2]) if not it.startswith("{")]
+        env = {}
+        for p, t in zip(params, args):
+            i = graph.of_type(t)
+            if i is not None:
+                env[p] = i
+        # the type may go back too
+        names = {}
+        for group in re.finditer(r"\(([^():]*) : (tie\.[^()]*)\)", type_):
+            i = graph.of_type(group[2])
+            for p in group[1].split():
+                names[p] = i
+        head = (block + "\n")[: m.end()].replace(type_, steps_back(type_, names, graph), 1) + clause[0]
+        at = rest.find("tie.spec")
+        if at >= 0:
+            inner = rest[at + len("tie.spec") :]
+            depth, end = 0, len(inner)
+            for k, c in enumerate(inner):
+                depth += (c in "([{") - (c in ")]}")
+                if depth < 0:
+                    end = k
+                    break
+            items = split_arguments(inner[:end])
+            loops = [it for it in items if it.startswith(("invariant-", "decreases-"))]
+            goals = items[len(loops) :]
+            turned_goals = []
+            for k, item in enumerate(goals):
+                lam = re.match(r"\(λ (" + WORD + r")((?: " + WORD + r")*)\. ?(.*)\)$", item, re.S)
+                if lam and len(goals) == len(graph.order):
+                    item = f"(λ {lam[1]}{lam[2]}. {steps_back(lam[3], {lam[1]: graph.order[k]}, graph)})"
+                turned_goals.append(item)
+            if len(goals) != len(graph.order):
+                MISMATCH.append((len(goals), len(graph.order)))
+            rest = rest[: at + len("tie.spec")] + " " + " ".join(loops + turned_goals) + inner[end:]
+            out.append(head + rest.rstrip("\n"))
+            continue
+        out.append(head + steps_back(rest, env, graph).rstrip("\n") + ("\n" if block.endswith("\n") else ""))
+    return "\n".join(out)
+
+
+MISMATCH = []
+
+
 def turned(text, names, function):
+    text = walk_back(text, Graph(names.of))
     out = []
     for line in text.split("\n"):
         if line.startswith("use ") or line.lstrip().startswith("--"):
@@ -127,17 +330,24 @@ def turned(text, names, function):
                 first = tail[1:].split(".")
                 return "tie." + ".".join([names.tied(first[0])] + first[1:])
             steps = tail[1:].split(".")
+            k = 0
+            while k < len(steps) and steps[k] == "before":
+                k += 1
+            if k < len(steps):
+                # every place has the fields of those before it
+                steps = steps[k:]
             return head + "." + ".".join(names.path(steps))
 
         line = re.sub(rf"({WORD}|\))((?:\.{WORD})+)", one, line)
         for old, new in names.of["args"]:
             a, b = (it.replace(" ", "") for it in (old, new))
             line = re.sub(re.escape(a) + r"(?![\w'-])", b, line)
+        line = re.sub(r"(?<=[\w)'])\.fits(?=\.)", ".ranges", line)
         out.append(line)
     text = "\n".join(out)
     last = function.split(".")[-1]
-    spec = last + "_spec"
-    return re.sub(rf"(?<![^\s(]){re.escape(last.replace('_', '-'))}-spec(?![\w'-])|(?<![^\s(]){re.escape(last)}-spec(?![\w'-])|(?<![^\s(]){re.escape(last.replace('_', '-'))}_spec(?![\w'-])", spec, text)
+    dashed = re.escape(last.replace("_", "-"))
+    return re.sub(rf"(?<![^\s(])(?:{dashed}-spec|{re.escape(last)}-spec|{dashed}_spec)(?![\w'-])", last + "_spec", text)
 
 
 def main():
@@ -163,6 +373,8 @@ def main():
             new = turned(text, names, m[1])
             with open(path, "w", encoding="utf-8") as it:
                 it.write(new)
+            if MISMATCH:
+                print(f"{crate}::{m[1]}: {MISMATCH.pop()[0]} answers where {len(of['needs'])} are asked; settled: {' '.join(of['settled'])}")
             if names.missed:
                 print(f"{crate}::{m[1]}: {' '.join(sorted(names.missed))}")
 

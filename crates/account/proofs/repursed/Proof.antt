@@ -6,7 +6,7 @@ use Rattle.account.proofs.repursed.Statement.{statement}
 use Rattle.account.proofs.repursed.Tie as tie
 
 returns : tie.Need-returns-then-not-ok
-returns c = off _ (not-true _ c.before.if-not-ok.true-raw) c.refused.ensures
+returns c = off _ (not-true _ c.if-not-ok.true-raw) c.refused.ensures
 
 returns-2 : tie.Need-returns
 returns-2 c = on _ (not-false _ c.if-not-ok.false-raw) refl

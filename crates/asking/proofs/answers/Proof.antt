@@ -8,16 +8,16 @@ use Rattle.asking.proofs.answers.Tie as tie
 
 returns : tie.Need-returns-then-not-sound
 unfolding told_for left_by
-returns c = let e = sym c.before.sound.ensures.tested ∙ not-true _ c.if-not-sound.true-raw in (off _ e refl, off _ e refl)
+returns c = let e = sym c.sound.ensures.tested ∙ not-true _ c.if-not-sound.true-raw in (off _ e refl, off _ e refl)
 
 answers-sound-requires : tie.Need-answers_sound-requires
-answers-sound-requires c κs = let t = not-false _ c.before.if-not-sound.false-raw in (c.before.before.sound.ensures.shelved t, sym c.before.before.sound.ensures.tested ∙ t)
+answers-sound-requires c κs = let t = not-false _ c.if-not-sound.false-raw in (c.sound.ensures.shelved t, sym c.sound.ensures.tested ∙ t)
 
 returns-2 : tie.Need-returns
 unfolding told_for left_by
 returns-2 c =
-    let e = sym c.before.before.before.before.before.before.sound.ensures.tested ∙ not-false _ c.before.before.before.before.before.if-not-sound.false-raw in
-    (on _ e (c.said.ensures ∙ c.before.before.before.answers_sound.ensures.0), on _ e c.before.before.before.answers_sound.ensures.1)
+    let e = sym c.sound.ensures.tested ∙ not-false _ c.if-not-sound.false-raw in
+    (on _ e (c.said.ensures ∙ c.answers_sound.ensures.0), on _ e c.answers_sound.ensures.1)
 
 pub answers_spec : {M : Type 1} → statement M
 answers_spec =

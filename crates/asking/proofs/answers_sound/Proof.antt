@@ -7,23 +7,15 @@ use Rattle.asking.proofs.answers_sound.Statement.{statement}
 use Rattle.asking.proofs.answers_sound.Tie as tie
 
 returns : tie.Need-returns-then-dry
-returns c = let t = c.before.before.before.tell-dry.ensures in at_fault t.0 (answers_faulty _ _ (sym t.1.0 ∙ c.if-dry.true) ∙ ap faulty (sym t.1.1))
+returns c = let t = c.tell-dry.ensures in at_fault t.0 (answers_faulty _ _ (sym t.1.0 ∙ c.if-dry.true) ∙ ap faulty (sym t.1.1))
 
 returns-2 : tie.Need-returns-then-pen
-returns-2 c = let t = c.before.before.before.before.before.tell-dry.ensures in no_space t.0 (answers_whole _ _ (sym t.1.0 ∙ c.before.before.if-dry.false)) c.if-pen.true
+returns-2 c = let t = c.tell-dry.ensures in no_space t.0 (answers_whole _ _ (sym t.1.0 ∙ c.if-dry.false)) c.if-pen.true
 
 returns-3 : tie.Need-returns
-returns-3 c = let t = c.before.before.before.before.before.before.before.before.before.before.tell-dry.ensures in in_space t.0 (answers_whole _ _ (sym t.1.0 ∙ c.before.before.before.before.before.before.before.if-dry.false)) c.before.before.before.before.before.if-pen.false c.before.before.before.tell-wet.ensures.0
+returns-3 c = let t = c.tell-dry.ensures in in_space t.0 (answers_whole _ _ (sym t.1.0 ∙ c.if-dry.false)) c.if-pen.false c.tell-wet.ensures.0
 
 pub answers_sound_spec : {M : Type 1} → statement M
 answers_sound_spec =
     tie.close
-    (tie.spec
-    (λ c κs. search rules)
-    (λ c. search rules)
-    returns
-    (λ c. search rules)
-    returns-2
-    (λ c κs. search rules)
-    (λ c. search rules)
-    returns-3)
+    (tie.spec (λ c κs. search rules) (λ c. search rules) returns (λ c. search rules) returns-2 (λ c κs. search rules) (λ c. search rules) returns-3)

@@ -7,20 +7,12 @@ use Rattle.asking.proofs.put_schedule.Statement.{statement}
 use Rattle.asking.proofs.put_schedule.Tie as tie
 
 returns : tie.Need-returns-then-words-eq0
-returns c = retext c.before.before.put.ensures (schedule_none_lem c.before.before.before.before.before.before.before.args.words c.before.before.before.before.before.if-words-eq0.true)
+returns c = retext c.put.ensures (schedule_none_lem c.args.words c.if-words-eq0.true)
 
 returns-2 : tie.Need-returns
-returns-2 c = retext c.before.before.put_reply.ensures (schedule_some c.before.before.before.before.before.before.args.words c.before.before.before.before.if-words-eq0.false (omega (arith, length-drop 2 c.before.before.before.before.before.before.args.words, c.before.before.before.before.before.before.well-formed.1.1.1.0.1)))
+returns-2 c = retext c.put_reply.ensures (schedule_some c.args.words c.if-words-eq0.false (omega (arith, length-drop 2 c.args.words, c.well-formed.1.1.1.0.1)))
 
 pub put_schedule_spec : {M : Type 1} → statement M
 put_schedule_spec =
     tie.close
-    (tie.spec
-    (λ c. search rules)
-    (λ c. search rules)
-    (λ c κs. search rules)
-    (λ c. search rules)
-    returns
-    (λ c κs. search rules)
-    (λ c. search rules)
-    returns-2)
+    (tie.spec (λ c. search rules) (λ c. search rules) (λ c κs. search rules) (λ c. search rules) returns (λ c κs. search rules) (λ c. search rules) returns-2)

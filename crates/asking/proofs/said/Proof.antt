@@ -5,10 +5,10 @@ use Rattle.asking.proofs.said.Statement.{statement}
 use Rattle.asking.proofs.said.Tie as tie
 
 returns : tie.Need-returns-in-Done
-returns c = sym (ap answered c.before.in-Done.is)
+returns c = sym (ap answered c.in-Done.is)
 
 returns-2 : tie.Need-returns-in-Malformed
-returns-2 c = sym (ap answered c.before.in-Malformed.is)
+returns-2 c = sym (ap answered c.in-Malformed.is)
 
 pub said_spec : {M : Type 1} → statement M
 said_spec =

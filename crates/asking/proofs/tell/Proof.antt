@@ -29,60 +29,45 @@ loop-holds c = (omega arith, (omega arith, begins 0 refl))
 
 -- the line at hand
 abbrev text_of : tie.After-line_at-x invariant-loop decreases-loop → List ℕ
-text_of c = c.before.before.before.before.before.args.s.now
+text_of c = c.args.s.now
 
 abbrev place : tie.After-line_at-x invariant-loop decreases-loop → ℕ
-place c = c.before.before.loop-at.at
+place c = c.loop-at.at
 
-line-had : (c : tie.Else-not-x invariant-loop decreases-loop) → Had (line_in 1 0x61 0x80 (drop (place c.before.before) (text_of c.before.before)) (place c.before.before)) c.before.before.line_at-x.result
-line-had c = had _ c.before.before.line_at-x.ensures (not-false _ c.if-not-x.false)
+line-had : (c : tie.Else-not-x invariant-loop decreases-loop) → Had (line_in 1 0x61 0x80 (drop (place c.before.before) (text_of c.before.before)) (place c.before.before)) c.line_at-x.result
+line-had c = had _ c.line_at-x.ensures (not-false _ c.if-not-x.false)
 
-item-is : (c : tie.Else-not-x invariant-loop decreases-loop) → question_at (text_of c.before.before) (place c.before.before) ≡ item (line-had c).parts c.before.before.line_at-x.result.next
-item-is c = let d = c.before.before in at_line 1 0x61 0x80 (text_of d) (place d) d.before.loop-at-test.true ∙ (line-had c).is
+item-is : (c : tie.Else-not-x invariant-loop decreases-loop) → question_at (text_of c.before.before) (place c.before.before) ≡ item (line-had c).parts c.line_at-x.result.next
+item-is c = let d = c.before.before in at_line 1 0x61 0x80 (text_of d) (place d) d.loop-at-test.true ∙ (line-had c).is
 
-ahead : (c : tie.Else-not-x invariant-loop decreases-loop) → (place c.before.before < c.before.before.line_at-x.result.next) × (c.before.before.line_at-x.result.next ≤ length (text_of c.before.before))
+ahead : (c : tie.Else-not-x invariant-loop decreases-loop) → (place c.before.before < c.line_at-x.result.next) × (c.line_at-x.result.next ≤ length (text_of c.before.before))
 ahead c = leads _ _ (onward 1 0x61 0x80 (text_of c.before.before)) (item-is c)
 
 returns : tie.Need-returns-then-not-x invariant-loop decreases-loop
 returns c =
     let d = c.before.before in
-    let l = d.before.before.loop-at in
+    let l = d.loop-at in
     let t = text_of d in
-    let e = at_line 1 0x61 0x80 t l.at d.before.loop-at-test.true in
+    let e = at_line 1 0x61 0x80 t l.at d.loop-at-test.true in
     let g : d.line_at-x.result ≡ line_for (question_at t l.at) = rw e d.line_at-x.ensures in
-    let f = had_not (length t) l.at (question_at t l.at) (onward 1 0x61 0x80 t l.at) d.before.loop-at-test.true g (not-true _ c.if-not-x.true) in
+    let f = had_not (length t) l.at (question_at t l.at) (onward 1 0x61 0x80 t l.at) d.loop-at-test.true g (not-true _ c.if-not-x.true) in
     asked_bad _ t (stops (onward 1 0x61 0x80 t) l.invariant.1.1 f)
 
 loop-again : tie.Need-loop-at-preserved invariant-loop decreases-loop
 loop-again c =
     let b = c.before.before.before.before.before in
     let d = b.before.before in
-    let l = d.before.before.loop-at in
+    let l = d.loop-at in
     let a = ahead b in
-    (a.1, (omega (arith, a.0, l.invariant.1.0), goes_on (onward 1 0x61 0x80 (text_of d)) l.invariant.1.1 (item-is b) (retext c.before.before.put_answer-pen.ensures (question_is _ (line-had b)))))
+    (a.1, (omega (arith, a.0, l.invariant.1.0), goes_on (onward 1 0x61 0x80 (text_of d)) l.invariant.1.1 (item-is b) (retext c.put_answer-pen.ensures (question_is _ (line-had b)))))
 
 returns-2 : tie.Need-returns invariant-loop decreases-loop
 returns-2 c =
-    let l = c.before.loop-at in
-    let t = c.before.before.before.before.args.s.now in
+    let l = c.loop-at in
+    let t = c.args.s.now in
     asked_end _ t (ends (onward 1 0x61 0x80 t) l.invariant.1.1 (at-end 1 0x61 0x80 t l.at c.loop-at-test.false))
 
 pub tell_spec : {M : Type 1} → statement M
 tell_spec =
     tie.close
-    (tie.spec
-    invariant-loop
-    decreases-loop
-    loop-holds
-    (λ c κs. c.before.loop-at.invariant.0)
-    (λ c. omega (arith, c.before.before.before.loop-at-test.true, c.before.before.before.before.loop-at.invariant.1.0))
-    (λ c. c.before.before.before.before.loop-at.invariant.1.1.long)
-    returns
-    (λ c. search rules)
-    (λ c. search rules)
-    (λ c κs. c.before.before.before.before.before.before.before.before.before.requires)
-    (λ c. omega (arith, ahead c.before.before.before.before.before, c.before.before.before.before.before.before.before.before.before.loop-at.invariant.1.0))
-    (λ c. omega (arith, ahead c.before.before.before.before.before))
-    loop-again
-    (λ c. c.before.loop-at.invariant.1.1.long)
-    returns-2)
+    (tie.spec invariant-loop decreases-loop loop-holds (λ c κs. c.loop-at.invariant.0) (λ c. omega (arith, c.loop-at-test.true, c.loop-at.invariant.1.0)) (λ c. c.loop-at.invariant.1.1.long) returns (λ c. search rules) (λ c. search rules) (λ c κs. c.requires) (λ c. omega (arith, ahead c.before.before.before.before.before, c.loop-at.invariant.1.0)) (λ c. omega (arith, ahead c.before.before.before.before.before)) loop-again (λ c. c.loop-at.invariant.1.1.long) returns-2)

@@ -40,13 +40,13 @@ malformed-requires : tie.Need-malformed-requires
 malformed-requires c κs = search rules
 
 returns : tie.Need-returns-then-next-s
-returns c = part _ _ (sym c.before.before.before.before.before.decode-d.ensures ∙ ap reading c.before.before.before.in-Command.is) c.before.if-next-s.true c.malformed.ensures
+returns c = part _ _ (sym c.decode-d.ensures ∙ ap reading c.in-Command.is) c.if-next-s.true c.malformed.ensures
 
 apply-requires : tie.Need-apply-requires
 apply-requires c κs = search rules
 
 returns-2 : tie.Need-returns-in-Command
-returns-2 c = whole _ _ (sym c.before.before.before.before.before.decode-d.ensures ∙ ap reading c.before.before.before.in-Command.is) c.before.if-next-s.false c.apply.ensures
+returns-2 c = whole _ _ (sym c.decode-d.ensures ∙ ap reading c.in-Command.is) c.if-next-s.false c.apply.ensures
 
 enum_told : tie.Need-enum_told-1
 enum_told c = search rules
@@ -55,7 +55,7 @@ malformed-requires-2 : tie.Need-malformed-requires-in-Malformed
 malformed-requires-2 c κs = search rules
 
 returns-3 : tie.Need-returns-in-Malformed
-returns-3 c = faulty _ _ (sym c.before.before.before.decode-d.ensures ∙ ap reading c.before.in-Malformed.is) c.malformed-in-Malformed.ensures
+returns-3 c = faulty _ _ (sym c.decode-d.ensures ∙ ap reading c.in-Malformed.is) c.malformed-in-Malformed.ensures
 
 enum-told-2 : tie.Need-enum_told-in-End
 enum-told-2 c = search rules
@@ -64,21 +64,9 @@ malformed-requires-3 : tie.Need-malformed-requires-in-End
 malformed-requires-3 c κs = search rules
 
 returns-4 : tie.Need-returns-in-End
-returns-4 c = empty _ _ (sym c.before.before.before.decode-d.ensures ∙ ap reading c.before.in-End.is) c.malformed-in-End.ensures
+returns-4 c = empty _ _ (sym c.decode-d.ensures ∙ ap reading c.in-End.is) c.malformed-in-End.ensures
 
 pub apply_spec : {M : Type 1} → statement M
 apply_spec =
     tie.close
-    (tie.spec
-    decode-requires
-    enum-known-d
-    malformed-requires
-    returns
-    apply-requires
-    returns-2
-    enum_told
-    malformed-requires-2
-    returns-3
-    enum-told-2
-    malformed-requires-3
-    returns-4)
+    (tie.spec decode-requires enum-known-d malformed-requires returns apply-requires returns-2 enum_told malformed-requires-2 returns-3 enum-told-2 malformed-requires-3 returns-4)

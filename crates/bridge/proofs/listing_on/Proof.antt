@@ -6,10 +6,4 @@ use Rattle.bridge.proofs.listing_on.Tie as tie
 pub listing_on_spec : {M : Type 1} → statement M
 listing_on_spec =
     tie.close
-    (tie.spec
-    (λ c. search rules)
-    (λ c. search (taken, rules))
-    (λ c κs. search rules)
-    (λ c. search rules)
-    (λ c. search rules)
-    (λ c. search rules))
+    (tie.spec (λ c. search rules) (λ c. search (taken, rules)) (λ c κs. search rules) (λ c. search rules) (λ c. search rules) (λ c. search rules))

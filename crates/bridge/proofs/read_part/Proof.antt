@@ -6,9 +6,4 @@ use Rattle.bridge.proofs.read_part.Tie as tie
 pub read_part_spec : {M : Type 1} → statement M
 read_part_spec =
     tie.close
-    (tie.spec
-    (λ c κs. search rules)
-    (λ c. search rules)
-    (λ c. search (taken, rules))
-    (λ c κs. search rules)
-    (λ c. search rules))
+    (tie.spec (λ c κs. search rules) (λ c. search rules) (λ c. search (taken, rules)) (λ c κs. search rules) (λ c. search rules))

@@ -6,16 +6,4 @@ use Rattle.bridge.proofs.rescue_part.Tie as tie
 pub rescue_part_spec : {M : Type 1} → statement M
 rescue_part_spec =
     tie.close
-    (tie.spec
-    (λ c. search rules)
-    (λ c. search rules)
-    (λ c. search rules)
-    (λ c. search (taken, rules))
-    (λ c. search rules)
-    (λ c. search (taken, rules))
-    (λ c. search rules)
-    (λ c. search (taken, rules))
-    (λ c κs. search rules)
-    (λ c. search rules)
-    (λ c. search rules)
-    (λ c. search rules))
+    (tie.spec (λ c. search rules) (λ c. search rules) (λ c. search rules) (λ c. search (taken, rules)) (λ c. search rules) (λ c. search (taken, rules)) (λ c. search rules) (λ c. search (taken, rules)) (λ c κs. search rules) (λ c. search rules) (λ c. search rules) (λ c. search rules))

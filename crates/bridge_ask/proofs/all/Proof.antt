@@ -39,15 +39,4 @@ returns-2 c = search rules
 pub all_spec : {M : Type 1} → statement M
 all_spec =
     tie.close
-    (tie.spec
-    invariant-loop
-    decreases-loop
-    loop-holds
-    returns
-    mul-put
-    array-read-put
-    put-requires
-    add-i
-    loop-less
-    loop-again
-    returns-2)
+    (tie.spec invariant-loop decreases-loop loop-holds returns mul-put array-read-put put-requires add-i loop-less loop-again returns-2)

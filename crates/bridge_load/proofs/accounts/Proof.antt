@@ -62,22 +62,4 @@ returns c = search rules
 pub accounts_spec : {M : Type 1} → statement M
 accounts_spec =
     tie.close
-    (tie.spec
-    invariant-loop
-    decreases-loop
-    count-requires
-    least-requires
-    none-requires
-    on-requires
-    loop-holds
-    get-requires
-    mul-ids
-    array-write-ids
-    account-requires
-    mul-rows
-    array-set-from-rows
-    on-requires-2
-    add-i
-    loop-less
-    loop-again
-    returns)
+    (tie.spec invariant-loop decreases-loop count-requires least-requires none-requires on-requires loop-holds get-requires mul-ids array-write-ids account-requires mul-rows array-set-from-rows on-requires-2 add-i loop-less loop-again returns)

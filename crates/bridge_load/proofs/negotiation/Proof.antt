@@ -65,23 +65,4 @@ returns c = search rules
 pub negotiation_spec : {M : Type 1} → statement M
 negotiation_spec =
     tie.close
-    (tie.spec
-    invariant-loop
-    decreases-loop
-    get-requires
-    half-requires
-    cast-least
-    least-requires
-    on-requires
-    loop-holds
-    round-requires
-    mul-rows
-    array-set-from-rows
-    on-requires-2
-    add-i
-    loop-less
-    loop-again
-    get-requires-2
-    get-requires-3
-    half-requires-2
-    returns)
+    (tie.spec invariant-loop decreases-loop get-requires half-requires cast-least least-requires on-requires loop-holds round-requires mul-rows array-set-from-rows on-requires-2 add-i loop-less loop-again get-requires-2 get-requires-3 half-requires-2 returns)

@@ -77,27 +77,4 @@ returns c = search rules
 pub offers_spec : {M : Type 1} → statement M
 offers_spec =
     tie.close
-    (tie.spec
-    invariant-loop
-    decreases-loop
-    count-requires
-    least-requires
-    none-requires
-    on-requires
-    loop-holds
-    get-requires
-    mul-ids
-    array-write-ids
-    offer-requires
-    mul-rows
-    array-set-from-rows
-    schedule-requires
-    mul-schedules
-    array-set-from-schedules
-    negotiation-requires
-    mul-negotiations
-    array-set-from-negotiations
-    add-i
-    loop-less
-    loop-again
-    returns)
+    (tie.spec invariant-loop decreases-loop count-requires least-requires none-requires on-requires loop-holds get-requires mul-ids array-write-ids offer-requires mul-rows array-set-from-rows schedule-requires mul-schedules array-set-from-schedules negotiation-requires mul-negotiations array-set-from-negotiations add-i loop-less loop-again returns)

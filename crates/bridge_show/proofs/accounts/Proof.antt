@@ -48,18 +48,4 @@ returns-2 c = search rules
 pub accounts_spec : {M : Type 1} → statement M
 accounts_spec =
     tie.close
-    (tie.spec
-    invariant-loop
-    decreases-loop
-    put-requires
-    loop-holds
-    returns
-    mul-account
-    array-read-account
-    mul-account-2
-    array-copy-out-account
-    account-requires
-    add-i
-    loop-less
-    loop-again
-    returns-2)
+    (tie.spec invariant-loop decreases-loop put-requires loop-holds returns mul-account array-read-account mul-account-2 array-copy-out-account account-requires add-i loop-less loop-again returns-2)

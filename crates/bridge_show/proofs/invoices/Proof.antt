@@ -63,23 +63,4 @@ returns-2 c = search rules
 pub invoices_spec : {M : Type 1} → statement M
 invoices_spec =
     tie.close
-    (tie.spec
-    invariant-loop
-    decreases-loop
-    put-requires
-    loop-holds
-    returns
-    mul-row
-    array-copy-out-row
-    mul-put
-    array-read-put
-    put-requires-2
-    put-requires-3
-    bits-requires
-    put-requires-4
-    cast-put
-    put-requires-5
-    add-i
-    loop-less
-    loop-again
-    returns-2)
+    (tie.spec invariant-loop decreases-loop put-requires loop-holds returns mul-row array-copy-out-row mul-put array-read-put put-requires-2 put-requires-3 bits-requires put-requires-4 cast-put put-requires-5 add-i loop-less loop-again returns-2)

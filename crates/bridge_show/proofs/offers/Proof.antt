@@ -63,23 +63,4 @@ returns-2 c = search rules
 pub offers_spec : {M : Type 1} → statement M
 offers_spec =
     tie.close
-    (tie.spec
-    invariant-loop
-    decreases-loop
-    put-requires
-    loop-holds
-    returns
-    mul-offer
-    array-read-offer
-    mul-offer-2
-    array-copy-out-offer
-    offer-requires
-    mul-apart
-    array-copy-out-apart
-    mul-apart-2
-    array-copy-out-apart-2
-    apart-requires
-    add-i
-    loop-less
-    loop-again
-    returns-2)
+    (tie.spec invariant-loop decreases-loop put-requires loop-holds returns mul-offer array-read-offer mul-offer-2 array-copy-out-offer offer-requires mul-apart array-copy-out-apart mul-apart-2 array-copy-out-apart-2 apart-requires add-i loop-less loop-again returns-2)

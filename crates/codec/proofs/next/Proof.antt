@@ -11,16 +11,16 @@ use Rattle.codec.proofs.next.Statement.{statement}
 use Rattle.codec.proofs.next.Tie as tie
 
 -- past the second test a whole field is there
-room : (c : tie.Else-not-begins) → c.before.before.before.before.before.args.c.at + 11 ≤ length c.before.before.before.before.before.args.s.now
+room : (c : tie.Else-not-begins) → c.args.c.at + 11 ≤ length c.args.s.now
 room c =
-    let a = c.before.before.before.before.before.args in
-    begins_room a.tag 8 a.c.at a.s.now (sym c.before.begins.ensures ∙ not-false _ c.if-not-begins.false-raw)
+    let a = c.args in
+    begins_room a.tag 8 a.c.at a.s.now (sym c.begins.ensures ∙ not-false _ c.if-not-begins.false-raw)
 
 returns : tie.Need-returns-then-c-ne0
-returns c = let a = c.before.before.before.args in next_refused a.s.now a.c a.tag a.top (ne_eqb a.c.code 0 c.if-c-ne0.true)
+returns c = let a = c.args in next_refused a.s.now a.c a.tag a.top (ne_eqb a.c.code 0 c.if-c-ne0.true)
 
 returns-2 : tie.Need-returns-then-not-begins
-returns-2 c = let a = c.before.before.before.before.before.args in next_wrong a.s.now a.c a.tag a.top c.before.before.if-c-ne0.false (sym c.before.begins.ensures ∙ not-true _ c.if-not-begins.true-raw)
+returns-2 c = let a = c.args in next_wrong a.s.now a.c a.tag a.top c.if-c-ne0.false (sym c.begins.ensures ∙ not-true _ c.if-not-begins.true-raw)
 
 add-number : tie.Need-overflow_add-at
 add-number c = omega (arith, room c)
@@ -31,8 +31,8 @@ add-t10 c = omega (arith, room c.before.before)
 returns-3 : tie.Need-returns-then-top-x
 returns-3 c =
     let d = c.before.before in
-    let a = d.before.before.before.before.before.args in
-    next_high a.s.now a.c a.tag a.top d.before.before.if-c-ne0.false (sym d.before.begins.ensures ∙ not-false _ d.if-not-begins.false-raw) (rw c.before.number-x.ensures at c.if-top-x.true)
+    let a = d.args in
+    next_high a.s.now a.c a.tag a.top d.if-c-ne0.false (sym d.begins.ensures ∙ not-false _ d.if-not-begins.false-raw) (rw c.number-x.ensures at c.if-top-x.true)
 
 add-t9 : tie.Need-overflow_add-result-2
 add-t9 c = omega (arith, room c.before.before)
@@ -40,19 +40,10 @@ add-t9 c = omega (arith, room c.before.before)
 returns-4 : tie.Need-returns
 returns-4 c =
     let d = c.before.before in
-    let a = d.before.before.before.before.before.args in
-    next_in a.s.now a.c a.tag a.top d.before.before.if-c-ne0.false (sym d.before.begins.ensures ∙ not-false _ d.if-not-begins.false-raw) c.before.number-x.ensures c.if-top-x.false
+    let a = d.args in
+    next_in a.s.now a.c a.tag a.top d.if-c-ne0.false (sym d.begins.ensures ∙ not-false _ d.if-not-begins.false-raw) c.number-x.ensures c.if-top-x.false
 
 pub next_spec : {M : Type 1} → statement M
 next_spec =
     tie.close
-    (tie.spec
-    returns
-    (λ c κs. search rules)
-    returns-2
-    add-number
-    (λ c κs. search rules)
-    add-t10
-    returns-3
-    add-t9
-    returns-4)
+    (tie.spec returns (λ c κs. search rules) returns-2 add-number (λ c κs. search rules) add-t10 returns-3 add-t9 returns-4)

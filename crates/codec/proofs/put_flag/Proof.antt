@@ -7,10 +7,10 @@ use Rattle.codec.proofs.put_flag.Statement.{statement}
 use Rattle.codec.proofs.put_flag.Tie as tie
 
 returns : tie.Need-returns-then-v
-returns c = puts_flag _ (sym (ap one_if c.before.before.before.before.if-v.true)) (puts_within _ (omega arith) c.before.before.put.ensures)
+returns c = puts_flag _ (sym (ap one_if c.if-v.true)) (puts_within _ (omega arith) c.put.ensures)
 
 returns-2 : tie.Need-returns
-returns-2 c = puts_flag _ (sym (ap one_if c.before.before.before.before.if-v.false)) (puts_within _ (omega arith) c.before.before.put-2.ensures)
+returns-2 c = puts_flag _ (sym (ap one_if c.if-v.false)) (puts_within _ (omega arith) c.put-2.ensures)
 
 pub put_flag_spec : {M : Type 1} → statement M
 put_flag_spec = tie.close (tie.spec (λ c κs. search rules) (λ c. search rules) returns (λ c κs. search rules) (λ c. search rules) returns-2)

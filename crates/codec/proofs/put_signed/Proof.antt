@@ -8,8 +8,8 @@ use Rattle.codec.proofs.put_signed.Tie as tie
 
 returns : tie.Need-returns
 returns c =
-    let e = to_z-of_z c.before.before.before.before.before.before.ranges.v in
-    puts_signed _ (c.before.before.before.bits.ensures ∙ ap bits_of e) e c.before.before.put.ensures
+    let e = to_z-of_z c.ranges.v in
+    puts_signed _ (c.bits.ensures ∙ ap bits_of e) e c.put.ensures
 
 pub put_signed_spec : {M : Type 1} → statement M
 put_signed_spec = tie.close (tie.spec (λ c κs. search rules) (λ c κs. search rules) (λ c. search rules) returns)

@@ -11,15 +11,15 @@ use Rattle.installments.proofs.falling_first.Statement.{statement}
 use Rattle.installments.proofs.falling_first.Tie as tie
 
 -- past the test the arguments are in range
-ok : (s : tie.Else-not-falling_ok) → falling_ok s.before.before.args.amount s.before.before.args.rate s.before.before.args.count 0 0 ≡ true
-ok s = sym s.before.falling_ok.ensures ∙ not-false _ s.if-not-falling_ok.false-raw
+ok : (s : tie.Else-not-falling_ok) → falling_ok s.args.amount s.args.rate s.args.count 0 0 ≡ true
+ok s = sym s.falling_ok.ensures ∙ not-false _ s.if-not-falling_ok.false-raw
 
-given : (s : tie.Else-not-falling_ok) → FallingIn s.before.before.args.amount s.before.before.args.rate s.before.before.args.count 0 0
+given : (s : tie.Else-not-falling_ok) → FallingIn s.args.amount s.args.rate s.args.count 0 0
 given s = falling_in _ _ _ _ _ (ok s)
 
 returns : tie.Need-returns-then-not-falling_ok
 unfolding first_if
-returns c = off _ (sym c.before.falling_ok.ensures ∙ not-true _ c.if-not-falling_ok.true-raw) refl
+returns c = off _ (sym c.falling_ok.ensures ∙ not-true _ c.if-not-falling_ok.true-raw) refl
 
 falling-member-requires : tie.Need-falling_member-requires
 falling-member-requires c κs = let g = given c in omega arith

@@ -18,32 +18,21 @@ mul-interest c = let a = c.args in record { fits = omega (arith, product_le a.am
 
 add-result : tie.Need-overflow_add-result
 unfolding outstanding interest
-add-result c = let a = c.before.args in record { fits = omega (arith, outstanding_le a.amount a.count a.k, interest_le a.amount a.rate a.count a.k (omega arith) (omega arith)) }
+add-result c = let a = c.args in record { fits = omega (arith, outstanding_le a.amount a.count a.k, interest_le a.amount a.rate a.count a.k (omega arith) (omega arith)) }
 
 returns : tie.Need-returns-then-k-count
 unfolding falling_member outstanding interest
-returns c = let a = c.before.args in rw (principal_last a.amount a.count a.k (omega arith))
+returns c = let a = c.args in rw (principal_last a.amount a.count a.k (omega arith))
 
 add-result-2 : tie.Need-overflow_add-result-2
 unfolding outstanding interest
-add-result-2 c = let a = c.before.args in record { fits = omega (arith, div-le_self a.amount a.count, interest_le a.amount a.rate a.count a.k (omega arith) (omega arith)) }
+add-result-2 c = let a = c.args in record { fits = omega (arith, div-le_self a.amount a.count, interest_le a.amount a.rate a.count a.k (omega arith) (omega arith)) }
 
 returns-2 : tie.Need-returns
 unfolding falling_member outstanding interest
-returns-2 c = let a = c.before.args in rw (principal_else a.amount a.count a.k (λ e. c.if-k-count.false (omega arith)))
+returns-2 c = let a = c.args in rw (principal_else a.amount a.count a.k (λ e. c.if-k-count.false (omega arith)))
 
 pub falling_member_spec : {M : Type 1} → statement M
 falling_member_spec =
     tie.close
-    (tie.spec
-    (λ c. search rules)
-    mul-outstanding
-    sub-outstanding
-    mul-interest
-    (λ c. search rules)
-    (λ c. search rules)
-    (λ c. search rules)
-    add-result
-    returns
-    add-result-2
-    returns-2)
+    (tie.spec (λ c. search rules) mul-outstanding sub-outstanding mul-interest (λ c. search rules) (λ c. search rules) (λ c. search rules) add-result returns add-result-2 returns-2)

@@ -10,19 +10,19 @@ use Rattle.installments.proofs.flat_ok.Statement.{statement}
 use Rattle.installments.proofs.flat_ok.Tie as tie
 
 -- past the test the count and the installment are in range
-ok : (s : tie.Else-not-even_ok) → even_ok s.before.before.args.count s.before.before.args.installment s.before.before.args.elapsed s.before.before.args.repaid ≡ true
-ok s = sym s.before.even_ok.ensures ∙ not-false _ s.if-not-even_ok.false-raw
+ok : (s : tie.Else-not-even_ok) → even_ok s.args.count s.args.installment s.args.elapsed s.args.repaid ≡ true
+ok s = sym s.even_ok.ensures ∙ not-false _ s.if-not-even_ok.false-raw
 
-given : (s : tie.Else-not-even_ok) → EvenIn s.before.before.args.count s.before.before.args.installment s.before.before.args.elapsed s.before.before.args.repaid
+given : (s : tie.Else-not-even_ok) → EvenIn s.args.count s.args.installment s.args.elapsed s.args.repaid
 given s = even_in _ _ _ _ (ok s)
 
 returns : tie.Need-returns-then-not-even_ok
 unfolding flat_ok
-returns c = rw (sym c.before.even_ok.ensures ∙ not-true _ c.if-not-even_ok.true-raw)
+returns c = rw (sym c.even_ok.ensures ∙ not-true _ c.if-not-even_ok.true-raw)
 
 mul-earlier : tie.Need-overflow_mul-earlier
 mul-earlier c =
-    let a = c.before.before.args in
+    let a = c.args in
     let g = given c in
     record { fits = omega (arith, times_le (a.count - 1) a.installment (omega arith) g.high) }
 

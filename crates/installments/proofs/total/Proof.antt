@@ -12,15 +12,15 @@ use Rattle.installments.proofs.total.Statement.{statement}
 use Rattle.installments.proofs.total.Tie as tie
 
 -- past the test the arguments are in range
-ok : (s : tie.Else-not-terms_ok) → terms_ok s.before.before.args.amount s.before.before.args.rate ≡ true
-ok s = sym s.before.terms_ok.ensures ∙ not-false _ s.if-not-terms_ok.false-raw
+ok : (s : tie.Else-not-terms_ok) → terms_ok s.args.amount s.args.rate ≡ true
+ok s = sym s.terms_ok.ensures ∙ not-false _ s.if-not-terms_ok.false-raw
 
-given : (s : tie.Else-not-terms_ok) → TermsIn s.before.before.args.amount s.before.before.args.rate
+given : (s : tie.Else-not-terms_ok) → TermsIn s.args.amount s.args.rate
 given s = terms_in_lem _ _ (ok s)
 
 returns : tie.Need-returns-then-not-terms_ok
 unfolding total_if
-returns c = off _ (sym c.before.terms_ok.ensures ∙ not-true _ c.if-not-terms_ok.true-raw) refl
+returns c = off _ (sym c.terms_ok.ensures ∙ not-true _ c.if-not-terms_ok.true-raw) refl
 
 mul-result : tie.Need-overflow_mul-result
 mul-result c = let g = given c in record { fits = omega (arith, mul-le-mul g.amount_high g.rate_high) }

@@ -8,27 +8,27 @@ use borrow.Author.Rules.{rules}
 use Rattle.invoice.proofs.register_refusal.Statement.{statement}
 use Rattle.invoice.proofs.register_refusal.Tie as tie
 
-amount_in : (c : tie.After-in_amount_range) → not c.in_amount_range.result ≡ not (in_amount c.before.args.amount)
-amount_in c = ap not (simp (to_z-of_z c.before.ranges.amount) at c.in_amount_range.ensures)
+amount_in : (c : tie.After-in_amount_range) → not c.in_amount_range.result ≡ not (in_amount c.args.amount)
+amount_in c = ap not (simp (to_z-of_z c.ranges.amount) at c.in_amount_range.ensures)
 
 returns : tie.Need-returns-then-not-in_amount_range
 returns c = fails invalid_input _ (sym (amount_in c.before) ∙ c.if-not-in_amount_range.true-raw)
 
 returns-2 : tie.Need-returns-then-exists
 returns-2 c =
-    passes invalid_input _ (sym (amount_in c.before.before) ∙ c.before.if-not-in_amount_range.false-raw)
+    passes invalid_input _ (sym (amount_in c.before.before) ∙ c.if-not-in_amount_range.false-raw)
     (fails already_exists _ c.if-exists.true)
 
 returns-3 : tie.Need-returns-then-full
 returns-3 c =
-    passes invalid_input _ (sym (amount_in c.before.before.before) ∙ c.before.before.if-not-in_amount_range.false-raw)
-    (passes already_exists _ c.before.if-exists.false
+    passes invalid_input _ (sym (amount_in c.before.before.before) ∙ c.if-not-in_amount_range.false-raw)
+    (passes already_exists _ c.if-exists.false
     (fails no_room _ c.if-full.true))
 
 returns-4 : tie.Need-returns
 returns-4 c =
-    passes invalid_input _ (sym (amount_in c.before.before.before) ∙ c.before.before.if-not-in_amount_range.false-raw)
-    (passes already_exists _ c.before.if-exists.false
+    passes invalid_input _ (sym (amount_in c.before.before.before) ∙ c.if-not-in_amount_range.false-raw)
+    (passes already_exists _ c.if-exists.false
     (passes no_room _ c.if-full.false none_left))
 
 pub register_refusal_spec : {M : Type 1} → statement M

@@ -28,10 +28,10 @@ tag c = get_or (start c).args.s.now (start c).args.at 0
 abbrev fs : tie.After-tags-1 → List ℕ
 fs c = fields_of (start c).args.edition (tag c)
 
-row : (c : tie.After-tags-1) → c.before.fields-row.result ≡ row_fields (fs c)
-row c = c.before.fields-row.ensures
+row : (c : tie.After-tags-1) → c.fields-row.result ≡ row_fields (fs c)
+row c = c.fields-row.ensures
 
-count : (c : tie.After-tags-1) → c.before.fields-row.result.0 ≡ length (fs c)
+count : (c : tie.After-tags-1) → c.fields-row.result.0 ≡ length (fs c)
 count c = ap (λ (r : Listed). r.0) (row c)
 
 -- whether the record begins there, and what its fields hold
@@ -58,7 +58,7 @@ returns-2 : tie.Need-returns-then-not-begins
 returns-2 c =
     let d = c.before.before in
     let a = (start d).args in
-    at_record_lem a.edition a.s.now a.at d.before.before.before.if-s-at.false (no_head a.edition (tag d) (fs d) a.s.now a.at (begun c.before ∙ not-true _ c.if-not-begins.true-raw))
+    at_record_lem a.edition a.s.now a.at d.if-s-at.false (no_head a.edition (tag d) (fs d) a.s.now a.at (begun c.before ∙ not-true _ c.if-not-begins.true-raw))
 
 gather-requires : tie.Need-gather-found-requires
 gather-requires c κs =
@@ -70,7 +70,7 @@ returns-3 c =
     let g = c.before.before.before in
     let d = g.before.before.before in
     let a = (start d).args in
-    at_record_lem a.edition a.s.now a.at d.before.before.before.if-s-at.false (not_well a.edition (tag d) (fs d) a.s.now a.at (ap (λ (x : Gathered). x.0) (sym (held g)) ∙ not-true _ c.if-not-found.true))
+    at_record_lem a.edition a.s.now a.at d.if-s-at.false (not_well a.edition (tag d) (fs d) a.s.now a.at (ap (λ (x : Gathered). x.0) (sym (held g)) ∙ not-true _ c.if-not-found.true))
 
 good : (c : tie.Else-not-found) → (gathered_in (fs c.before.before.before.before.before.before) (drop ((start c.before.before.before.before.before.before).args.at + 3) (start c.before.before.before.before.before.before).args.s.now)).0 ≡ true
 good c = ap (λ (x : Gathered). x.0) (sym (held c.before.before.before)) ∙ not-false _ c.if-not-found.false
@@ -84,29 +84,14 @@ returns-4 c =
     let g = e.before.before.before in
     let d = g.before.before.before in
     let a = (start d).args in
-    at_record_lem a.edition a.s.now a.at d.before.before.before.if-s-at.false
+    at_record_lem a.edition a.s.now a.at d.if-s-at.false
     (c.build.ensures
-    ∙ ap (λ (v : Values). made a.edition (tag d) v a.at (a.at + (3 + 11 * d.before.fields-row.result.0))) c.before.named.ensures
-    ∙ ap (λ (x : Gathered). made a.edition (tag d) (named x.1) a.at (a.at + (3 + 11 * d.before.fields-row.result.0))) (held g)
+    ∙ ap (λ (v : Values). made a.edition (tag d) v a.at (a.at + (3 + 11 * d.fields-row.result.0))) c.named.ensures
+    ∙ ap (λ (x : Gathered). made a.edition (tag d) (named x.1) a.at (a.at + (3 + 11 * d.fields-row.result.0))) (held g)
     ∙ ap (λ (n : ℕ). made a.edition (tag d) (named (gathered_in (fs d) (drop (a.at + 3) a.s.now)).1) a.at (a.at + (3 + 11 * n))) (count d)
-    ∙ whole a.edition (tag d) (fs d) a.s.now a.at (begun g.before.before ∙ not-false _ g.before.if-not-begins.false-raw) (good e))
+    ∙ whole a.edition (tag d) (fs d) a.s.now a.at (begun g.before.before ∙ not-false _ g.if-not-begins.false-raw) (good e))
 
 pub decode_spec : {M : Type 1} → statement M
 decode_spec =
     tie.close
-    (tie.spec
-    returns
-    (λ c. search rules)
-    (λ c κs. search rules)
-    (λ c. omega (arith, count c, few (start c).args.edition (tag c)))
-    (λ c κs. search rules)
-    returns-2
-    (λ c. search rules)
-    gather-requires
-    returns-3
-    named-requires
-    (λ c. omega (arith, count c.before.before.before.before.before.before.before, few (start c.before.before.before.before.before.before.before).args.edition (tag c.before.before.before.before.before.before.before)))
-    (λ c. omega (arith, count c.before.before.before.before.before.before.before, few (start c.before.before.before.before.before.before.before).args.edition (tag c.before.before.before.before.before.before.before)))
-    (λ c. omega (arith, count c.before.before.before.before.before.before.before, within c.before.before.before.before.before))
-    (λ c κs. search rules)
-    returns-4)
+    (tie.spec returns (λ c. search rules) (λ c κs. search rules) (λ c. omega (arith, count c, few (start c).args.edition (tag c))) (λ c κs. search rules) returns-2 (λ c. search rules) gather-requires returns-3 named-requires (λ c. omega (arith, count c.before.before.before.before.before.before.before, few (start c.before.before.before.before.before.before.before).args.edition (tag c.before.before.before.before.before.before.before))) (λ c. omega (arith, count c.before.before.before.before.before.before.before, few (start c.before.before.before.before.before.before.before).args.edition (tag c.before.before.before.before.before.before.before))) (λ c. omega (arith, count c.before.before.before.before.before.before.before, within c.before.before.before.before.before)) (λ c κs. search rules) returns-4)

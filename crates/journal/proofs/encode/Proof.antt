@@ -4,7 +4,7 @@ use Rattle.journal.proofs.encode.Statement.{statement}
 use Rattle.journal.proofs.encode.Tie as tie
 
 returns : tie.Need-returns
-returns c = rw (command_parts c.before.before.before.before.before.before.before.args.edition c.before.before.before.before.before.before.before.args.c c.before.before.before.before.before.split-parts.ensures) at c.before.before.encode_parts.ensures
+returns c = rw (command_parts c.args.edition c.args.c c.split-parts.ensures) at c.encode_parts.ensures
 
 pub encode_spec : {M : Type 1} → statement M
 encode_spec =

@@ -25,18 +25,18 @@ whole c = record_of (start c).args.edition (start c).args.tag (start c).args.val
 abbrev fs : tie.After-tags-1 → List ℕ
 fs c = fields_of (start c).args.edition (start c).args.tag
 
-count : (c : tie.After-tags-1) → c.before.fields-row.result.0 ≡ length (fs c)
-count c = ap (λ (r : Listed). r.0) c.before.fields-row.ensures
+count : (c : tie.After-tags-1) → c.fields-row.result.0 ≡ length (fs c)
+count c = ap (λ (r : Listed). r.0) c.fields-row.ensures
 
-size_is : (c : tie.After-tags-1) → 3 + 11 * c.before.fields-row.result.0 ≡ length (whole c)
+size_is : (c : tie.After-tags-1) → 3 + 11 * c.fields-row.result.0 ≡ length (whole c)
 size_is c = ap (λ (n : ℕ). 3 + 11 * n) (count c) ∙ sym (length_record (start c).args.edition (start c).args.tag (start c).args.values)
 
 -- past the tests there is room
-room : (c : tie.Else-out-at-2) → (start c.before.before).args.at + (3 + 11 * c.before.before.before.fields-row.result.0) ≤ length (start c.before.before).args.out-1.now
-room c = omega (arith, c.if-out-at-2.false, c.before.if-out-at.false)
+room : (c : tie.Else-out-at-2) → (start c.before.before).args.at + (3 + 11 * c.fields-row.result.0) ≤ length (start c.before.before).args.out-1.now
+room c = omega (arith, c.if-out-at-2.false, c.if-out-at.false)
 
 -- the buffer past the head, and past the fields
-head-put : (c : tie.After-put_head) → c.put_head.new.0 ≡ placed (start c.before.before.before.before).args.at (head_of (start c.before.before.before.before).args.tag (11 * c.before.before.before.before.before.fields-row.result.0)) (start c.before.before.before.before).args.out-1.now
+head-put : (c : tie.After-put_head) → c.put_head.new.0 ≡ placed (start c.before.before.before.before).args.at (head_of (start c.before.before.before.before).args.tag (11 * c.fields-row.result.0)) (start c.before.before.before.before).args.out-1.now
 unfolding head_of bytes_of
 head-put c = let d = c.before.before.before.before in c.put_head.ensures ∙ laid_in (start d).args.at _ (start d).args.out-1.now (omega (arith, room c.before.before))
 
@@ -52,15 +52,15 @@ all-put c =
     let h = c.before.before.before.before in
     let d = h.before.before.before.before in
     let a = (start d).args in
-    ◌∙◌ {b = stored a.out-1.now a.at a.tag a.values d.before.fields-row.result}
+    ◌∙◌ {b = stored a.out-1.now a.at a.tag a.values d.fields-row.result}
     (rw (head-put h) at c.put_fields.ensures)
-    (parts_placed a.edition a.tag a.values a.out-1.now a.at d.before.fields-row.ensures (room h.before.before))
+    (parts_placed a.edition a.tag a.values a.out-1.now a.at d.fields-row.ensures (room h.before.before))
 
 returns : tie.Need-returns-then-out-at
 returns c = let d = c.before in short (start d).args.at (whole d) (start d).args.out-1.now (omega (arith, size_is d, c.if-out-at.true))
 
 returns-2 : tie.Need-returns-then-out-at-2
-returns-2 c = let d = c.before.before in short (start d).args.at (whole d) (start d).args.out-1.now (omega (arith, size_is d, c.if-out-at-2.true, c.before.if-out-at.false))
+returns-2 c = let d = c.before.before in short (start d).args.at (whole d) (start d).args.out-1.now (omega (arith, size_is d, c.if-out-at-2.true, c.if-out-at.false))
 
 put-fields-requires : tie.Need-put_fields-requires
 put-fields-requires c κs =
@@ -83,16 +83,4 @@ returns-3 c =
 pub encode_parts_spec : {M : Type 1} → statement M
 encode_parts_spec =
     tie.close
-    (tie.spec
-    (λ c κs. search rules)
-    (λ c. omega (arith, count c, few (start c).args.edition (start c).args.tag))
-    (λ c. omega (arith, count c, few (start c).args.edition (start c).args.tag))
-    returns
-    (λ c. search rules)
-    returns-2
-    (λ c. search rules)
-    (λ c κs. search rules)
-    (λ c. search rules)
-    put-fields-requires
-    same_length
-    returns-3)
+    (tie.spec (λ c κs. search rules) (λ c. omega (arith, count c, few (start c).args.edition (start c).args.tag)) (λ c. omega (arith, count c, few (start c).args.edition (start c).args.tag)) returns (λ c. search rules) returns-2 (λ c. search rules) (λ c κs. search rules) (λ c. search rules) put-fields-requires same_length returns-3)

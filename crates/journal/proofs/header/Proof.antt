@@ -17,31 +17,31 @@ use Rattle.journal.proofs.header.Tie as tie
 returns : tie.Need-returns-then-not-begins
 unfolding opening_of
 returns c =
-    let s = c.before.before.before.args.s.now in
-    let e : begins 0x10 2 s ≡ false = sym c.before.begins.ensures ∙ not-true _ c.if-not-begins.true-raw in
+    let s = c.args.s.now in
+    let e : begins 0x10 2 s ≡ false = sym c.begins.ensures ∙ not-true _ c.if-not-begins.true-raw in
     off _ (ap (λ (t : Bool). t && listed (edition_in s)) e) refl
 
 cast-e : tie.Need-overflow_cast-e
 cast-e c =
-    let s = c.before.before.before.before.args.s.now in
-    omega (arith, c.pair-e.ensures, number_small 2 (drop 3 s) (bytes_drop 3 s (λ i. (c.before.before.before.shared_slice_known-1.given i).fits)))
+    let s = c.args.s.now in
+    omega (arith, c.pair-e.ensures, number_small 2 (drop 3 s) (bytes_drop 3 s (λ i. (c.shared_slice_known-1.given i).fits)))
 
 -- whether there is the edition that the call gave
-known : (c : tie.After-is_listed) → listed (edition_in c.before.before.before.before.before.args.s.now) ≡ c.is_listed.result
-known c = ap listed (sym c.before.pair-e.ensures) ∙ sym c.is_listed.ensures
+known : (c : tie.After-is_listed) → listed (edition_in c.args.s.now) ≡ c.is_listed.result
+known c = ap listed (sym c.pair-e.ensures) ∙ sym c.is_listed.ensures
 
 returns-2 : tie.Need-returns-then-not-is_listed
 unfolding opening_of
 returns-2 c =
-    let s = c.before.before.before.before.before.before.args.s.now in
+    let s = c.args.s.now in
     off _ (ap (λ (t : Bool). begins 0x10 2 s && t) (known c.before ∙ not-true _ c.if-not-is_listed.true-raw) ∙ and_off (begins 0x10 2 s)) refl
 
 returns-3 : tie.Need-returns
 unfolding opening_of
 returns-3 c =
-    let s = c.before.before.before.before.before.before.args.s.now in
-    let a : begins 0x10 2 s ≡ true = sym c.before.before.before.before.begins.ensures ∙ not-false _ c.before.before.before.if-not-begins.false-raw in
-    on _ (ap (λ (t : Bool). t && listed (edition_in s)) a ∙ known c.before ∙ not-false _ c.if-not-is_listed.false-raw) (ap (λ e. good_header e 5) c.before.before.pair-e.ensures)
+    let s = c.args.s.now in
+    let a : begins 0x10 2 s ≡ true = sym c.begins.ensures ∙ not-false _ c.if-not-begins.false-raw in
+    on _ (ap (λ (t : Bool). t && listed (edition_in s)) a ∙ known c.before ∙ not-false _ c.if-not-is_listed.false-raw) (ap (λ e. good_header e 5) c.pair-e.ensures)
 
 pub header_spec : {M : Type 1} → statement M
 header_spec =

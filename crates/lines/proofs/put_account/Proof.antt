@@ -10,24 +10,14 @@ use Rattle.lines.proofs.put_account.Tie as tie
 returns : tie.Need-returns
 unfolding account_line
 returns c =
-    let p = c.before.before.before.before.before.before.before.before.before.before.before.before.before.before.before.before.before.before.before.before.args.row.purse-1 in
-    let balance = c.before.before.before.before.before.before.before.before.before.before.before.magnitude-balance.ensures ∙ ap magnitude_of (back p.balance (search rules)) in
-    let allowance = c.before.before.before.before.before.before.before.before.before.magnitude-allowance.ensures ∙ ap magnitude_of (back p.allowance (search rules)) in
-    let offered = c.before.before.before.before.before.before.before.magnitude-offered.ensures ∙ ap magnitude_of (back p.offered (search rules)) in
-    let accepted = c.before.before.before.before.before.magnitude-accepted.ensures ∙ ap magnitude_of (back p.accepted (search rules)) in
-    next c.before.before.before.before.before.before.before.before.before.before.before.before.before.before.before.before.put-past.ensures (retext c.before.before.put_numbers.ensures (cc))
+    let p = c.args.row.purse-1 in
+    let balance = c.magnitude-balance.ensures ∙ ap magnitude_of (back p.balance (search rules)) in
+    let allowance = c.magnitude-allowance.ensures ∙ ap magnitude_of (back p.allowance (search rules)) in
+    let offered = c.magnitude-offered.ensures ∙ ap magnitude_of (back p.offered (search rules)) in
+    let accepted = c.magnitude-accepted.ensures ∙ ap magnitude_of (back p.accepted (search rules)) in
+    next c.put-past.ensures (retext c.put_numbers.ensures (cc))
 
 pub put_account_spec : {M : Type 1} → statement M
 put_account_spec =
     tie.close
-    (tie.spec
-    (λ c. search rules)
-    (λ c κs. search rules)
-    (λ c κs. search rules)
-    (λ c κs. search rules)
-    (λ c κs. search rules)
-    (λ c κs. search rules)
-    (λ c. search rules)
-    (λ c κs. search rules)
-    (λ c. search rules)
-    returns)
+    (tie.spec (λ c. search rules) (λ c κs. search rules) (λ c κs. search rules) (λ c κs. search rules) (λ c κs. search rules) (λ c κs. search rules) (λ c. search rules) (λ c κs. search rules) (λ c. search rules) returns)

@@ -22,35 +22,20 @@ loop-holds c = (search rules, search rules, retext (none _ _ _) (sym (lines_none
 
 returns : tie.Need-returns-then-n-i invariant-loop decreases-loop
 returns c =
-    let e : c.before.before.loop-i.i ≡ c.before.before.before.before.args.n = omega arith in
-    rw e at c.before.before.loop-i.invariant.2
+    let e : c.loop-i.i ≡ c.args.n = omega arith in
+    rw e at c.loop-i.invariant.2
 
 loop-again : tie.Need-loop-i-preserved invariant-loop decreases-loop
 loop-again c =
-    let l = c.before.before.before.before.before.before.before.loop-i in
-    (search rules, search rules, retext (next l.invariant.2 c.before.before.put_account-p.ensures) (sym (lines_turn no_account _ _ l.i (search rules) (search rules))))
+    let l = c.loop-i in
+    (search rules, search rules, retext (next l.invariant.2 c.put_account-p.ensures) (sym (lines_turn no_account _ _ l.i (search rules) (search rules))))
 
 returns-2 : tie.Need-returns invariant-loop decreases-loop
 returns-2 c =
-    let l = c.before.loop-i in
+    let l = c.loop-i in
     retext l.invariant.2 (ap account_lines (table_all _ _ l.i _ (search rules) l.invariant.1))
 
 pub put_accounts_spec : {M : Type 1} → statement M
 put_accounts_spec =
     tie.close
-    (tie.spec
-    invariant-loop
-    decreases-loop
-    loop-holds
-    (λ c. kept c.before.before.loop-i.invariant.2)
-    returns
-    (λ c. search rules)
-    (λ c. search rules)
-    (λ c. search rules)
-    (λ c. search rules)
-    (λ c κs. search rules)
-    (λ c. search rules)
-    (λ c. search rules)
-    loop-again
-    (λ c. kept c.before.loop-i.invariant.2)
-    returns-2)
+    (tie.spec invariant-loop decreases-loop loop-holds (λ c. kept c.loop-i.invariant.2) returns (λ c. search rules) (λ c. search rules) (λ c. search rules) (λ c. search rules) (λ c κs. search rules) (λ c. search rules) (λ c. search rules) loop-again (λ c. kept c.loop-i.invariant.2) returns-2)

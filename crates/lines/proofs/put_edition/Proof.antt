@@ -6,15 +6,9 @@ use Rattle.lines.proofs.put_edition.Tie as tie
 
 returns : tie.Need-returns
 unfolding edition_line
-returns c = next c.before.before.before.before.before.before.before.put-past.ensures c.before.before.put_numbers.ensures
+returns c = next c.put-past.ensures c.put_numbers.ensures
 
 pub put_edition_spec : {M : Type 1} → statement M
 put_edition_spec =
     tie.close
-    (tie.spec
-    (λ c. search rules)
-    (λ c κs. search rules)
-    (λ c. search rules)
-    (λ c κs. search rules)
-    (λ c. search rules)
-    returns)
+    (tie.spec (λ c. search rules) (λ c κs. search rules) (λ c. search rules) (λ c κs. search rules) (λ c. search rules) returns)

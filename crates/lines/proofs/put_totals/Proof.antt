@@ -10,22 +10,13 @@ use Rattle.lines.proofs.put_totals.Tie as tie
 returns : tie.Need-returns
 unfolding totals_line
 returns c =
-    let row = c.before.before.before.before.before.before.before.before.before.before.before.before.before.before.before.before.before.args.totals in
-    let financed = c.before.before.before.before.before.before.before.before.before.magnitude-financed.ensures ∙ ap magnitude_of (back row.financed c.before.before.before.before.before.before.before.before.before.before.struct_told-1.given.0.1) in
-    let repaid = c.before.before.before.before.before.before.before.magnitude-repaid.ensures ∙ ap magnitude_of (back row.repaid c.before.before.before.before.before.before.before.before.struct_told-2-1.given.1.0.1) in
-    let fees = c.before.before.before.before.before.magnitude-fees.ensures ∙ ap magnitude_of (back row.fees c.before.before.before.before.before.before.struct_told-3-1.given.1.1.0.1) in
-    next c.before.before.before.before.before.before.before.before.before.before.before.before.before.put-past.ensures (retext c.before.before.put_numbers.ensures (cc))
+    let row = c.args.totals in
+    let financed = c.magnitude-financed.ensures ∙ ap magnitude_of (back row.financed c.struct_told-1.given.0.1) in
+    let repaid = c.magnitude-repaid.ensures ∙ ap magnitude_of (back row.repaid c.struct_told-2-1.given.1.0.1) in
+    let fees = c.magnitude-fees.ensures ∙ ap magnitude_of (back row.fees c.struct_told-3-1.given.1.1.0.1) in
+    next c.put-past.ensures (retext c.put_numbers.ensures (cc))
 
 pub put_totals_spec : {M : Type 1} → statement M
 put_totals_spec =
     tie.close
-    (tie.spec
-    (λ c. search rules)
-    (λ c κs. search rules)
-    (λ c κs. search rules)
-    (λ c κs. search rules)
-    (λ c κs. search rules)
-    (λ c. search rules)
-    (λ c κs. search rules)
-    (λ c. search rules)
-    returns)
+    (tie.spec (λ c. search rules) (λ c κs. search rules) (λ c κs. search rules) (λ c κs. search rules) (λ c κs. search rules) (λ c. search rules) (λ c κs. search rules) (λ c. search rules) returns)

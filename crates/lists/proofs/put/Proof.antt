@@ -26,16 +26,16 @@ loop-holds : tie.Need-loop-j-init invariant-loop decreases-loop
 loop-holds c = (omega arith, paste-zero c.args.out.now c.args.at c.args.numbers.now)
 
 mul-out-2 : tie.Need-offset_bounds-out-at invariant-loop decreases-loop
-mul-out-2 c = omega (arith, c.before.before.before.requires, ap length c.before.before.loop-j.invariant.1 ∙ kept c.before.before.before c.before.before.loop-j.j c.before.before.loop-j.invariant.0)
+mul-out-2 c = omega (arith, c.requires, ap length c.loop-j.invariant.1 ∙ kept c.before.before.before c.loop-j.j c.loop-j.invariant.0)
 
 slice-write-out : tie.Need-bounds-out-at invariant-loop decreases-loop
-slice-write-out c = omega (arith, c.before.before.before.requires, ap length c.before.before.loop-j.invariant.1 ∙ kept c.before.before.before c.before.before.loop-j.j c.before.before.loop-j.invariant.0)
+slice-write-out c = omega (arith, c.requires, ap length c.loop-j.invariant.1 ∙ kept c.before.before.before c.loop-j.j c.loop-j.invariant.0)
 
 loop-again : tie.Need-loop-j-preserved invariant-loop decreases-loop
 loop-again c =
     let s = c.before.before.before in
-    let l = c.before.before.loop-j in
-    let h : l.j < length s.args.numbers.now = c.before.loop-j-test.true in (
+    let l = c.loop-j in
+    let h : l.j < length s.args.numbers.now = c.loop-j-test.true in (
       omega arith,
       ap (λ (x : List ℕ). set x (s.args.at + l.j) (get_or s.args.numbers.now l.j 0)) l.invariant.1
           ∙ paste-suc s.args.out.now s.args.at s.args.numbers.now l.j 0 (omega (arith, s.requires)) h
@@ -43,7 +43,7 @@ loop-again c =
     )
 
 same_length : tie.Need-shape_of-out invariant-loop decreases-loop
-same_length c = ap length c.before.loop-j.invariant.1 ∙ kept c.before.before c.before.loop-j.j c.before.loop-j.invariant.0
+same_length c = ap length c.loop-j.invariant.1 ∙ kept c.before.before c.loop-j.j c.loop-j.invariant.0
 
 returns : tie.Need-returns invariant-loop decreases-loop
 unfolding placed
@@ -51,8 +51,8 @@ returns c =
     let s = c.before.before in
     let l = s.args.out.now in
     let w = s.args.numbers.now in
-    let e : c.before.loop-j.j ≡ length w = omega (arith, c.before.loop-j.invariant.0, c.loop-j-test.false) in
-    c.before.loop-j.invariant.1
+    let e : c.loop-j.j ≡ length w = omega (arith, c.loop-j.invariant.0, c.loop-j-test.false) in
+    c.loop-j.invariant.1
     ∙ ap (paste l s.args.at w) e
     ∙ ap (λ (x : List ℕ). take s.args.at l ++ x ++ drop (s.args.at + length w) l) (take_all (length w) w (omega arith))
     ∙ append_assoc (take s.args.at l) w _
@@ -60,17 +60,4 @@ returns c =
 pub put_spec : {M : Type 1} → statement M
 put_spec =
     tie.close
-    (tie.spec
-    invariant-loop
-    decreases-loop
-    loop-holds
-    (λ c. search rules)
-    (λ c. search rules)
-    (λ c. search rules)
-    mul-out-2
-    slice-write-out
-    (λ c. search rules)
-    (λ c. search rules)
-    loop-again
-    same_length
-    returns)
+    (tie.spec invariant-loop decreases-loop loop-holds (λ c. search rules) (λ c. search rules) (λ c. search rules) mul-out-2 slice-write-out (λ c. search rules) (λ c. search rules) loop-again same_length returns)

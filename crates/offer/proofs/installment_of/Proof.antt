@@ -8,10 +8,10 @@ use Rattle.offer.proofs.installment_of.Statement.{statement}
 use Rattle.offer.proofs.installment_of.Tie as tie
 
 returns : tie.Need-returns-in_default
-returns c = ap (λ (q : ℕ × ℤ). q.1) (ap installment_says (sym c.in_default.is) ∙ c.before.before.installment.ensures)
+returns c = ap (λ (q : ℕ × ℤ). q.1) (ap installment_says (sym c.in_default.is) ∙ c.installment.ensures)
 
 returns-2 : tie.Need-returns
-returns-2 c = back c.before.in-Of.x (search rules) ∙ ap (λ (q : ℕ × ℤ). q.1) (ap installment_says (sym c.before.in-Of.is) ∙ c.before.before.before.installment.ensures)
+returns-2 c = back c.in-Of.x (search rules) ∙ ap (λ (q : ℕ × ℤ). q.1) (ap installment_says (sym c.in-Of.is) ∙ c.installment.ensures)
 
 pub installment_of_spec : {M : Type 1} → statement M
 installment_of_spec =

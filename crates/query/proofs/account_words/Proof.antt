@@ -5,12 +5,12 @@ use Rattle.query.proofs.account_words.Tie as tie
 
 returns : tie.Need-returns
 returns c =
-    let p = c.before.before.before.before.before.before.before.before.before.before.before.args.account.row-1.purse-1 in
+    let p = c.args.account.row-1.purse-1 in
     rw (
-      simp (back p.balance (search rules)) at c.before.before.before.before.before.before.before.bits-balance.ensures,
-      simp (back p.allowance (search rules)) at c.before.before.before.before.before.bits-allowance.ensures,
-      simp (back p.offered (search rules)) at c.before.before.before.bits-offered.ensures,
-      simp (back p.accepted (search rules)) at c.before.bits-accepted.ensures,
+      simp (back p.balance (search rules)) at c.bits-balance.ensures,
+      simp (back p.allowance (search rules)) at c.bits-allowance.ensures,
+      simp (back p.offered (search rules)) at c.bits-offered.ensures,
+      simp (back p.accepted (search rules)) at c.bits-accepted.ensures,
     )
     at c.words_four.ensures
 

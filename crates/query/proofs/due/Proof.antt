@@ -11,27 +11,19 @@ use Rattle.query.proofs.due.Tie as tie
 
 returns : tie.Need-returns-then-schedule_zero
 unfolding due_in due_as
-returns c = ap due_as (on _ (sym c.before.schedule_zero.ensures ∙ c.if-schedule_zero.true) refl)
+returns c = ap due_as (on _ (sym c.schedule_zero.ensures ∙ c.if-schedule_zero.true) refl)
 
 returns-2 : tie.Need-returns-in-Number
 unfolding due_in due_as
-returns-2 c = ap due_as (off _ (sym c.before.before.before.before.before.before.before.schedule_zero.ensures ∙ c.before.before.before.before.before.before.if-schedule_zero.false)
-    (ap (λ (x : ℕ × (ℕ × ℕ)). x.1) (sym (ap due_says c.before.in-Number.is) ∙ rw c.before.before.before.before.before.before.before.before.before.keeps_terms-kept.ensures at (simp (back c.before.before.before.before.before.before.before.before.before.before.args.d.offer-1.repaid c.before.before.before.before.struct_told-1.given.1.1.1.1.1.0.1) at c.before.before.before.due.ensures))))
+returns-2 c = ap due_as (off _ (sym c.schedule_zero.ensures ∙ c.if-schedule_zero.false)
+    (ap (λ (x : ℕ × (ℕ × ℕ)). x.1) (sym (ap due_says c.in-Number.is) ∙ rw c.keeps_terms-kept.ensures at (simp (back c.args.d.offer-1.repaid c.struct_told-1.given.1.1.1.1.1.0.1) at c.due.ensures))))
 
 returns-3 : tie.Need-returns-in-Invalid
 unfolding due_in due_as
-returns-3 c = ap due_as (off _ (sym c.before.before.before.before.before.before.schedule_zero.ensures ∙ c.before.before.before.before.before.if-schedule_zero.false)
-    (ap (λ (x : ℕ × (ℕ × ℕ)). x.1) (sym (ap due_says c.in-Invalid.is) ∙ rw c.before.before.before.before.before.before.before.before.keeps_terms-kept.ensures at (simp (back c.before.before.before.before.before.before.before.before.before.args.d.offer-1.repaid c.before.before.before.struct_told-1.given.1.1.1.1.1.0.1) at c.before.before.due.ensures))))
+returns-3 c = ap due_as (off _ (sym c.schedule_zero.ensures ∙ c.if-schedule_zero.false)
+    (ap (λ (x : ℕ × (ℕ × ℕ)). x.1) (sym (ap due_says c.in-Invalid.is) ∙ rw c.keeps_terms-kept.ensures at (simp (back c.args.d.offer-1.repaid c.struct_told-1.given.1.1.1.1.1.0.1) at c.due.ensures))))
 
 pub due_spec : {M : Type 1} → statement M
 due_spec =
     tie.close
-    (tie.spec
-    (λ c κs. search rules)
-    (λ c κs. search rules)
-    returns
-    (λ c κs. search rules)
-    (λ c. search rules)
-    (λ c. search rules)
-    returns-2
-    returns-3)
+    (tie.spec (λ c κs. search rules) (λ c κs. search rules) returns (λ c κs. search rules) (λ c. search rules) (λ c. search rules) returns-2 returns-3)

@@ -9,7 +9,7 @@ use Rattle.query.proofs.due_words.Tie as tie
 
 returns : tie.Need-returns
 unfolding due_as
-returns c = c.words_two.ensures ∙ ap (λ (d : Due). twelve (0, d.number ∷ d.owed ∷ [])) c.before.due-d.ensures
+returns c = c.words_two.ensures ∙ ap (λ (d : Due). twelve (0, d.number ∷ d.owed ∷ [])) c.due-d.ensures
 
 pub due_words_spec : {M : Type 1} → statement M
 due_words_spec = tie.close (tie.spec (λ c κs. search rules) (λ c κs. search rules) returns)

@@ -11,14 +11,14 @@ use Rattle.query.proofs.get_negotiation_deadline.Statement.{statement}
 use Rattle.query.proofs.get_negotiation_deadline.Tie as tie
 
 returns : tie.Need-returns-then-not-sound
-returns c = refuses reply book_unsound _ _ _ (ap not (sym c.before.sound.ensures.tested) ∙ c.if-not-sound.true-raw)
+returns c = refuses reply book_unsound _ _ _ (ap not (sym c.sound.ensures.tested) ∙ c.if-not-sound.true-raw)
 
 see-requires : tie.Need-see-seen-requires
-see-requires c κs = (c.before.before.sound.ensures.shelved (not-false c.before.before.sound.result c.before.if-not-sound.false-raw)).offers-1
+see-requires c κs = (c.sound.ensures.shelved (not-false c.sound.result c.if-not-sound.false-raw)).offers-1
 
 returns-2 : tie.Need-returns
-returns-2 c = goes_on reply book_unsound _ _ _ (ap not (sym c.before.before.before.before.before.sound.ensures.tested) ∙ c.before.before.before.before.if-not-sound.false-raw)
-    (does reply _ _ (ap (λ (s : SeenDeal). s.row-1.negotiation-1.deadline ∷ []) c.before.before.see-seen.ensures))
+returns-2 c = goes_on reply book_unsound _ _ _ (ap not (sym c.sound.ensures.tested) ∙ c.if-not-sound.false-raw)
+    (does reply _ _ (ap (λ (s : SeenDeal). s.row-1.negotiation-1.deadline ∷ []) c.see-seen.ensures))
 
 pub get_negotiation_deadline_spec : {M : Type 1} → statement M
 get_negotiation_deadline_spec = tie.close (tie.spec (λ c κs. search rules) returns see-requires returns-2)

@@ -13,14 +13,14 @@ use Rattle.query.proofs.get_negotiation_status.Statement.{statement}
 use Rattle.query.proofs.get_negotiation_status.Tie as tie
 
 returns : tie.Need-returns-then-not-sound
-returns c = refuses reply book_unsound _ _ _ (ap not (sym c.before.sound.ensures.tested) ∙ c.if-not-sound.true-raw)
+returns c = refuses reply book_unsound _ _ _ (ap not (sym c.sound.ensures.tested) ∙ c.if-not-sound.true-raw)
 
 see-requires : tie.Need-see-seen-requires
-see-requires c κs = (c.before.before.sound.ensures.shelved (not-false c.before.before.sound.result c.before.if-not-sound.false-raw)).offers-1
+see-requires c κs = (c.sound.ensures.shelved (not-false c.sound.result c.if-not-sound.false-raw)).offers-1
 
 returns-2 : tie.Need-returns
-returns-2 c = goes_on reply book_unsound _ _ _ (ap not (sym c.before.before.before.before.before.before.before.sound.ensures.tested) ∙ c.before.before.before.before.before.before.if-not-sound.false-raw)
-    (does reply _ _ (ap (λ (n : ℕ). n ∷ []) (c.status-n.ensures ∙ ap (λ (s : SeenDeal). standing s c.before.before.before.before.before.before.before.before.args.now) c.before.before.before.before.see-seen.ensures)))
+returns-2 c = goes_on reply book_unsound _ _ _ (ap not (sym c.sound.ensures.tested) ∙ c.if-not-sound.false-raw)
+    (does reply _ _ (ap (λ (n : ℕ). n ∷ []) (c.status-n.ensures ∙ ap (λ (s : SeenDeal). standing s c.args.now) c.see-seen.ensures)))
 
 pub get_negotiation_status_spec : {M : Type 1} → statement M
 get_negotiation_status_spec =

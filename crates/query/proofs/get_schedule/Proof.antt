@@ -13,30 +13,23 @@ use Rattle.query.proofs.get_schedule.Statement.{statement}
 use Rattle.query.proofs.get_schedule.Tie as tie
 
 returns : tie.Need-returns-then-not-sound
-returns c = refuses reply book_unsound _ _ _ (ap not (sym c.before.sound.ensures.tested) ∙ c.if-not-sound.true-raw)
+returns c = refuses reply book_unsound _ _ _ (ap not (sym c.sound.ensures.tested) ∙ c.if-not-sound.true-raw)
 
 see-requires : tie.Need-see-seen-requires
-see-requires c κs = (c.before.before.sound.ensures.shelved (not-false c.before.before.sound.result c.before.if-not-sound.false-raw)).offers-1
+see-requires c κs = (c.sound.ensures.shelved (not-false c.sound.result c.if-not-sound.false-raw)).offers-1
 
 returns-2 : tie.Need-returns-then-schedule_zero
 unfolding schedule_values
-returns-2 c = goes_on reply book_unsound _ _ _ (ap not (sym c.before.before.before.before.before.before.before.sound.ensures.tested) ∙ c.before.before.before.before.before.before.if-not-sound.false-raw)
-    (does reply _ _ (on _ (ap (λ (s : SeenDeal). schedule_zero s.row-1.schedule-1) (sym c.before.before.before.before.see-seen.ensures) ∙ sym c.before.schedule_zero.ensures ∙ c.if-schedule_zero.true) refl))
+returns-2 c = goes_on reply book_unsound _ _ _ (ap not (sym c.sound.ensures.tested) ∙ c.if-not-sound.false-raw)
+    (does reply _ _ (on _ (ap (λ (s : SeenDeal). schedule_zero s.row-1.schedule-1) (sym c.see-seen.ensures) ∙ sym c.schedule_zero.ensures ∙ c.if-schedule_zero.true) refl))
 
 returns-3 : tie.Need-returns
 unfolding schedule_values
-returns-3 c = goes_on reply book_unsound _ _ _ (ap not (sym c.before.before.before.before.before.before.before.before.sound.ensures.tested) ∙ c.before.before.before.before.before.before.before.if-not-sound.false-raw)
-    (does reply _ _ (off _ (ap (λ (s : SeenDeal). schedule_zero s.row-1.schedule-1) (sym c.before.before.before.before.before.see-seen.ensures) ∙ sym c.before.before.schedule_zero.ensures ∙ c.before.if-schedule_zero.false)
-    (ap schedule_order (c.of-numbers.ensures ∙ ap (λ (s : SeenDeal). schedule_numbers s.row-1.schedule-1) c.before.before.before.before.before.see-seen.ensures))))
+returns-3 c = goes_on reply book_unsound _ _ _ (ap not (sym c.sound.ensures.tested) ∙ c.if-not-sound.false-raw)
+    (does reply _ _ (off _ (ap (λ (s : SeenDeal). schedule_zero s.row-1.schedule-1) (sym c.see-seen.ensures) ∙ sym c.schedule_zero.ensures ∙ c.if-schedule_zero.false)
+    (ap schedule_order (c.of-numbers.ensures ∙ ap (λ (s : SeenDeal). schedule_numbers s.row-1.schedule-1) c.see-seen.ensures))))
 
 pub get_schedule_spec : {M : Type 1} → statement M
 get_schedule_spec =
     tie.close
-    (tie.spec
-    (λ c κs. search rules)
-    returns
-    see-requires
-    (λ c κs. search rules)
-    returns-2
-    (λ c κs. search rules)
-    returns-3)
+    (tie.spec (λ c κs. search rules) returns see-requires (λ c κs. search rules) returns-2 (λ c κs. search rules) returns-3)

@@ -14,13 +14,13 @@ use Rattle.query.proofs.list.Statement.{statement}
 use Rattle.query.proofs.list.Tie as tie
 
 returns : tie.Need-returns-then-not-sound
-returns c = refuses told book_unsound _ _ _ (ap not (sym c.before.sound.ensures.tested) ∙ c.if-not-sound.true-raw)
+returns c = refuses told book_unsound _ _ _ (ap not (sym c.sound.ensures.tested) ∙ c.if-not-sound.true-raw)
 
 returns-2 : tie.Need-returns
-returns-2 c = goes_on told book_unsound _ _ _ (ap not (sym c.before.before.before.before.before.before.before.sound.ensures.tested) ∙ c.before.before.before.before.before.before.if-not-sound.false-raw)
-    (c.before.before.list.ensures
-    ∙ ap (λ (t : Table Offer). answered told ([], c.before.before.before.before.before.before.before.before.before.args.out-1.now) (list_rule c.before.before.before.before.before.before.before.before.before.args.w t c.before.before.before.before.before.before.before.before.before.args.out-1.now))
-    (ap offers_of c.before.before.before.before.offers_only-rows.ensures ∙ offers_held (c.before.before.before.before.before.before.before.sound.ensures.shelved (not-false c.before.before.before.before.before.before.before.sound.result c.before.before.before.before.before.before.if-not-sound.false-raw))))
+returns-2 c = goes_on told book_unsound _ _ _ (ap not (sym c.sound.ensures.tested) ∙ c.if-not-sound.false-raw)
+    (c.list.ensures
+    ∙ ap (λ (t : Table Offer). answered told ([], c.args.out-1.now) (list_rule c.args.w t c.args.out-1.now))
+    (ap offers_of c.offers_only-rows.ensures ∙ offers_held (c.sound.ensures.shelved (not-false c.sound.result c.if-not-sound.false-raw))))
 
 pub list_spec : {M : Type 1} → statement M
 list_spec =

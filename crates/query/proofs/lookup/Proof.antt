@@ -9,8 +9,8 @@ returns : tie.Need-returns
 returns c =
     let s = c.before.before.before.before.before.before.before in
     c.answer.ensures (model_of s.args.book) (record {
-      deal_seen = c.before.before.see-deal.ensures;
-      account_seen = c.before.see-account.ensures;
+      deal_seen = c.see-deal.ensures;
+      account_seen = c.see-account.ensures;
       totals_seen = refl;
       settings_seen = refl;
       counted = count_held s.requires;

@@ -9,10 +9,10 @@ use Rattle.query.proofs.offer_words.Statement.{statement}
 use Rattle.query.proofs.offer_words.Tie as tie
 
 returns : tie.Need-returns-then-not-deal
-returns c = c.words_none.ensures ∙ ap twelve (refuses reply not_found _ _ _ c.before.if-not-deal.true)
+returns c = c.words_none.ensures ∙ ap twelve (refuses reply not_found _ _ _ c.if-not-deal.true)
 
 returns-2 : tie.Need-returns
-returns-2 c = c.words_ten.ensures ∙ ap twelve (goes_on reply not_found _ _ _ c.before.before.before.before.if-not-deal.false (does reply _ _ (ap in_order c.before.of.ensures)))
+returns-2 c = c.words_ten.ensures ∙ ap twelve (goes_on reply not_found _ _ _ c.if-not-deal.false (does reply _ _ (ap in_order c.of.ensures)))
 
 pub offer_words_spec : {M : Type 1} → statement M
 offer_words_spec =

@@ -11,13 +11,13 @@ use Rattle.query.proofs.schedule_words.Tie as tie
 
 returns : tie.Need-returns-then-schedule_zero
 unfolding schedule_values
-returns c = c.words_none.ensures ∙ ap (λ (v : List ℕ). twelve (0, v)) (on _ (sym c.before.before.schedule_zero.ensures ∙ c.before.if-schedule_zero.true) refl)
+returns c = c.words_none.ensures ∙ ap (λ (v : List ℕ). twelve (0, v)) (on _ (sym c.schedule_zero.ensures ∙ c.if-schedule_zero.true) refl)
 
 returns-2 : tie.Need-returns
 unfolding schedule_values
 returns-2 c =
     c.words_five.ensures
-    ∙ ap (λ (v : List ℕ). twelve (0, v)) (off _ (sym c.before.before.before.schedule_zero.ensures ∙ c.before.before.if-schedule_zero.false) (ap (λ (n : ScheduleNumbers). schedule_order n) c.before.of-n.ensures))
+    ∙ ap (λ (v : List ℕ). twelve (0, v)) (off _ (sym c.schedule_zero.ensures ∙ c.if-schedule_zero.false) (ap (λ (n : ScheduleNumbers). schedule_order n) c.of-n.ensures))
 
 pub schedule_words_spec : {M : Type 1} → statement M
 schedule_words_spec =

@@ -32,18 +32,18 @@ abbrev id_at : St → ℕ → ℕ
 id_at s i = get_or s.args.questions.now (3 * i + 1) 0
 
 below-o : (c : tie.After-spot_by-offer_spot invariant-loop decreases-loop) → c.spot_by-offer_spot.result.at-deal < 64
-below-o c = spot_below c.before.before.before.before.before.before.before.before.before.before.before.before.before.before.before.requires.shelved.offers-1.shelf (omega arith) (Id (id_at c.before.before.before.before.before.before.before.before.before.before.before.before.before.before.before c.before.before.before.before.before.before.before.before.loop-i.i)) c.spot_by-offer_spot.ensures
+below-o c = spot_below c.requires.shelved.offers-1.shelf (omega arith) (Id (id_at c c.loop-i.i)) c.spot_by-offer_spot.ensures
 
 below-a : (c : tie.After-spot_by-account_spot invariant-loop decreases-loop) → c.spot_by-account_spot.result.at-deal < 64
-below-a c = spot_below c.before.before.before.before.before.before.before.before.before.before.before.before.before.before.before.before.before.before.before.before.before.before.before.requires.shelved.accounts-1 (omega arith) (Id (id_at c.before.before.before.before.before.before.before.before.before.before.before.before.before.before.before.before.before.before.before.before.before.before.before c.before.before.before.before.before.before.before.before.before.before.before.before.before.before.before.before.loop-i.i)) c.spot_by-account_spot.ensures
+below-a c = spot_below c.requires.shelved.accounts-1 (omega arith) (Id (id_at c c.loop-i.i)) c.spot_by-account_spot.ensures
 
-shown : (c : tie.After-at-account invariant-loop decreases-loop) (k : Table Invoice) → Shows (model_by c.before.before.before.before.before.before.before.before.before.before.before.before.before.before.before.before.before.before.before.before.before.before.before.before.before.args.book.accounts-1 k c.before.before.before.before.before.before.before.before.before.before.before.before.before.before.before.before.before.before.before.before.before.before.before.before.before.args.book.offers-1 c.before.before.before.before.before.before.before.before.before.before.before.before.before.before.before.before.before.before.before.before.before.before.before.before.before.args.book.totals-1 c.before.before.before.before.before.before.before.before.before.before.before.before.before.before.before.before.before.before.before.before.before.before.before.before.before.args.book.settings-1) (id_at c.before.before.before.before.before.before.before.before.before.before.before.before.before.before.before.before.before.before.before.before.before.before.before.before.before c.before.before.before.before.before.before.before.before.before.before.before.before.before.before.before.before.before.before.loop-i.i) c.before.before.before.before.before.before.at-deal.result c.at-account.result c.before.before.before.before.before.before.before.before.before.before.before.before.before.before.before.before.before.before.before.before.before.before.before.before.before.args.book.totals-1 c.before.before.before.before.before.before.before.before.before.before.before.before.before.before.before.before.before.before.before.before.before.before.before.before.before.args.book.settings-1 c.before.before.before.before.before.before.before.before.before.before.before.before.before.before.before.before.before.before.before.before.before.before.before.before.before.args.book.offers-1.count
+shown : (c : tie.After-at-account invariant-loop decreases-loop) (k : Table Invoice) → Shows (model_by c.args.book.accounts-1 k c.args.book.offers-1 c.args.book.totals-1 c.args.book.settings-1) (id_at c c.loop-i.i) c.at-deal.result c.at-account.result c.args.book.totals-1 c.args.book.settings-1 c.args.book.offers-1.count
 shown c k =
-    let s = c.before.before.before.before.before.before.before.before.before.before.before.before.before.before.before.before.before.before.before.before.before.before.before.before.before in
-    let key = Id (id_at s c.before.before.before.before.before.before.before.before.before.before.before.before.before.before.before.before.before.before.loop-i.i) in
+    let s = c in
+    let key = Id (id_at s c.loop-i.i) in
     record {
-      deal_seen = c.before.before.before.before.before.before.at-deal.ensures ∙ ap seen_deal (sym (deal_read_lem s.requires.shelved.offers-1 _ _ _ key c.before.before.before.before.before.before.before.before.before.before.spot_by-offer_spot.ensures));
-      account_seen = c.at-account.ensures ∙ ap seen_account (sym (spot_found s.requires.shelved.accounts-1 (omega arith) key c.before.before.spot_by-account_spot.ensures));
+      deal_seen = c.at-deal.ensures ∙ ap seen_deal (sym (deal_read_lem s.requires.shelved.offers-1 _ _ _ key c.spot_by-offer_spot.ensures));
+      account_seen = c.at-account.ensures ∙ ap seen_account (sym (spot_found s.requires.shelved.accounts-1 (omega arith) key c.spot_by-account_spot.ensures));
       totals_seen = refl;
       settings_seen = refl;
       counted = sym s.requires.shelved.offers-1.shelf.counted;
@@ -75,33 +75,33 @@ element-copy-out-account-row c = omega (arith, below-a c)
 
 mul-put : tie.Need-overflow_mul-i invariant-loop decreases-loop
 mul-put c =
-    let s = c.before.before.before.before.before.before.before.before.before.before.before.before.before.before.before.before.before.before.before.before.before.before.before.before.before.before.before in
-    omega (arith, reply_room (c.before.before.before.before.before.before.before.before.before.before.before.before.before.before.before.before.before.before.before.before.loop-i.invariant []) s.requires.room c.before.before.before.before.before.before.before.before.before.before.before.before.before.before.before.before.before.before.before.loop-i-test.true, reply_length (c.before.before.before.before.before.before.before.before.before.before.before.before.before.before.before.before.before.before.before.before.loop-i.invariant []) s.requires.room, s.well-formed.1.1.0.0)
+    let s = c in
+    omega (arith, reply_room (c.loop-i.invariant []) s.requires.room c.loop-i-test.true, reply_length (c.loop-i.invariant []) s.requires.room, s.well-formed.1.1.0.0)
 
 put-requires : tie.Need-put-requires invariant-loop decreases-loop
 put-requires c κs =
     omega (
       arith,
-      reply_room (c.before.before.before.before.before.before.before.before.before.before.before.before.before.before.before.before.before.before.before.before.before.loop-i.invariant []) c.before.before.before.before.before.before.before.before.before.before.before.before.before.before.before.before.before.before.before.before.before.before.before.before.before.before.before.before.requires.room c.before.before.before.before.before.before.before.before.before.before.before.before.before.before.before.before.before.before.before.before.loop-i-test.true,
-      ap length (c.before.before.answer-words.ensures _ (shown c.before.before.before [])) ∙ twelve_long (reply_to _ _ _ _),
+      reply_room (c.loop-i.invariant []) c.requires.room c.loop-i-test.true,
+      ap length (c.answer-words.ensures _ (shown c.before.before.before [])) ∙ twelve_long (reply_to _ _ _ _),
     )
 
 add-i : tie.Need-overflow_add-i invariant-loop decreases-loop
-add-i c = omega (arith, c.before.before.before.before.before.before.before.before.before.before.before.before.before.before.before.before.before.before.before.before.before.before.before.loop-i-test.true, c.before.before.before.before.before.before.before.before.before.before.before.before.before.before.before.before.before.before.before.before.before.before.before.before.before.before.before.before.before.before.before.well-formed.1.0.0)
+add-i c = omega (arith, c.loop-i-test.true, c.well-formed.1.0.0)
 
 loop-less : tie.Need-loop-i-smaller invariant-loop decreases-loop
-loop-less c = omega (arith, c.before.before.before.before.before.before.before.before.before.before.before.before.before.before.before.before.before.before.before.before.before.before.before.loop-i-test.true)
+loop-less c = omega (arith, c.loop-i-test.true)
 
 loop-again : tie.Need-loop-i-preserved invariant-loop decreases-loop
 loop-again c k =
-    let s = c.before.before.before.before.before.before.before.before.before.before.before.before.before.before.before.before.before.before.before.before.before.before.before.before.before.before.before.before.before.before.before in
-    reply_on (c.before.before.before.before.before.before.before.before.before.before.before.before.before.before.before.before.before.before.before.before.before.before.before.before.loop-i.invariant k) s.requires.room c.before.before.before.before.before.before.before.before.before.before.before.before.before.before.before.before.before.before.before.before.before.before.before.loop-i-test.true (c.before.before.before.before.before.answer-words.ensures _ (shown c.before.before.before.before.before.before k)) c.before.before.put.ensures
+    let s = c in
+    reply_on (c.loop-i.invariant k) s.requires.room c.loop-i-test.true (c.answer-words.ensures _ (shown c.before.before.before.before.before.before k)) c.put.ensures
 
 same_length : tie.Need-shape_of-out invariant-loop decreases-loop
-same_length c = reply_length (c.before.loop-i.invariant (invoices_of c.before.before.before.before.before.before.before.before.args.book.invoices)) c.before.before.before.before.before.before.before.before.requires.room
+same_length c = reply_length (c.loop-i.invariant (invoices_of c.args.book.invoices)) c.requires.room
 
 returns : tie.Need-returns invariant-loop decreases-loop
-returns c = reply_done (c.before.loop-i.invariant (invoices_of c.before.before.before.before.before.before.before.before.args.book.invoices)) c.before.before.before.before.before.before.before.before.requires.room c.loop-i-test.false
+returns c = reply_done (c.loop-i.invariant (invoices_of c.args.book.invoices)) c.requires.room c.loop-i-test.false
 
 mul-code : tie.Need-overflow_mul-code invariant-loop decreases-loop
 mul-code c = search rules
@@ -139,39 +139,4 @@ shared-slice-read-time c = search rules
 pub write_spec : {M : Type 1} → statement M
 write_spec =
     tie.close
-    (tie.spec
-    invariant-loop
-    decreases-loop
-    (λ c k. reply_start _ _ _)
-    mul-code
-    mul-code-2
-    shared-slice-read-code
-    mul-id
-    add-id
-    mul-id-2
-    shared-slice-read-id
-    mul-time
-    add-time
-    mul-time-2
-    shared-slice-read-time
-    (λ c κs. search rules)
-    mul-offer
-    element-copy-out-offer
-    mul-negotiation
-    element-copy-out-negotiation
-    mul-schedule
-    element-copy-out-schedule
-    (λ c κs. search rules)
-    (λ c κs. search rules)
-    mul-account-row
-    element-copy-out-account-row
-    (λ c κs. search rules)
-    (λ c κs. search rules)
-    mul-put
-    (λ c. search rules)
-    put-requires
-    add-i
-    loop-less
-    loop-again
-    same_length
-    returns)
+    (tie.spec invariant-loop decreases-loop (λ c k. reply_start _ _ _) mul-code mul-code-2 shared-slice-read-code mul-id add-id mul-id-2 shared-slice-read-id mul-time add-time mul-time-2 shared-slice-read-time (λ c κs. search rules) mul-offer element-copy-out-offer mul-negotiation element-copy-out-negotiation mul-schedule element-copy-out-schedule (λ c κs. search rules) (λ c κs. search rules) mul-account-row element-copy-out-account-row (λ c κs. search rules) (λ c κs. search rules) mul-put (λ c. search rules) put-requires add-i loop-less loop-again same_length returns)

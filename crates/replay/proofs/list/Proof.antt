@@ -6,25 +6,15 @@ use Rattle.replay.proofs.list.Statement.{statement}
 use Rattle.replay.proofs.list.Tie as tie
 
 returns : tie.Need-returns-then-out-s
-returns c = at_once _ c.before.before.before.before.before.before.before.before.before.requires.1 c.before.before.before.walk-all.ensures.wrote (omega arith) c.before.before.before.before.before.before.if-out-ge-ROOM.true c.before.before.before.before.before.if-out-s.true-raw (omega arith)
+returns c = at_once _ c.requires.1 c.walk-all.ensures.wrote (omega arith) c.if-out-ge-ROOM.true c.if-out-s.true-raw (omega arith)
 
 returns-2 : tie.Need-returns-then-p
-returns-2 c = no_space c.before.before.before.before.walk-dry.ensures.wrote c.if-p.true
+returns-2 c = no_space c.walk-dry.ensures.wrote c.if-p.true
 
 returns-3 : tie.Need-returns
-returns-3 c = in_space c.before.before.before.before.before.before.before.before.before.walk-dry.ensures.wrote c.before.before.before.before.before.if-p.false c.before.before.before.walk-wet.ensures.wrote
+returns-3 c = in_space c.walk-dry.ensures.wrote c.if-p.false c.walk-wet.ensures.wrote
 
 pub list_spec : {M : Type 1} → statement M
 list_spec =
     tie.close
-    (tie.spec
-    (λ c. search rules)
-    (λ c κs. search rules)
-    (λ c. search rules)
-    returns
-    (λ c κs. search rules)
-    (λ c. search rules)
-    returns-2
-    (λ c κs. search rules)
-    (λ c. search rules)
-    returns-3)
+    (tie.spec (λ c. search rules) (λ c κs. search rules) (λ c. search rules) returns (λ c κs. search rules) (λ c. search rules) returns-2 (λ c κs. search rules) (λ c. search rules) returns-3)

@@ -9,18 +9,18 @@ use Rattle.replay.proofs.listing_from.Tie as tie
 
 returns : tie.Need-returns-then-not-sound
 unfolding listed_from shown_from
-returns c = let e = sym c.before.sound.ensures.tested ∙ not-true c.before.sound.result c.if-not-sound.true-raw in (off _ e refl, off _ e refl)
+returns c = let e = sym c.sound.ensures.tested ∙ not-true c.sound.result c.if-not-sound.true-raw in (off _ e refl, off _ e refl)
 
 list-requires : tie.Need-list-requires
 list-requires c κs =
-    let t = not-false c.before.before.sound.result c.before.if-not-sound.false-raw in
-    (c.before.before.sound.ensures.shelved t, bounded c.before.before.before.before.before.args.book _ c.before.before.before.before.before.well-formed.0 (sym c.before.before.sound.ensures.tested ∙ t))
+    let t = not-false c.sound.result c.if-not-sound.false-raw in
+    (c.sound.ensures.shelved t, bounded c.args.book _ c.well-formed.0 (sym c.sound.ensures.tested ∙ t))
 
 returns-2 : tie.Need-returns
 unfolding listed_from shown_from
 returns-2 c =
-    let e = sym c.before.before.before.before.before.sound.ensures.tested ∙ not-false c.before.before.before.before.before.sound.result c.before.before.before.before.if-not-sound.false-raw in
-    (on _ e c.before.before.list.ensures.0, on _ e c.before.before.list.ensures.1)
+    let e = sym c.sound.ensures.tested ∙ not-false c.sound.result c.if-not-sound.false-raw in
+    (on _ e c.list.ensures.0, on _ e c.list.ensures.1)
 
 pub listing_from_spec : {M : Type 1} → statement M
 listing_from_spec = tie.close (tie.spec (λ c κs. search rules) returns list-requires (λ c. search rules) returns-2)

@@ -6,7 +6,7 @@ use Rattle.replay.proofs.put_book.Tie as tie
 
 returns : tie.Need-returns
 unfolding book_text
-returns c = next c.before.before.before.before.before.before.before.put_accounts-p.ensures c.before.before.put_totals.ensures
+returns c = next c.put_accounts-p.ensures c.put_totals.ensures
 
 pub put_book_spec : {M : Type 1} → statement M
 put_book_spec = tie.close (tie.spec (λ c κs. search rules) (λ c κs. search rules) (λ c. search rules) returns)

@@ -54,64 +54,64 @@ abbrev decreases-loop : tie.decreases-loop-c
 decreases-loop s out₀ ink first accounts₀ invoices₀ offers₀ totals₀ settings₀ pen₀ at₀ k₀ out accounts invoices offers totals settings pen at k =
     length s - at
 
-record-read : (c : tie.After-names-names invariant-loop2 decreases-loop2 invariant-loop decreases-loop) → read_at c.before.before.before.before.before.loop-c.settings-1.edition c.before.before.before.before.before.before.before.before.before.before.before.before.before.args.s.now c.before.before.before.before.before.loop-c.at-seen ≡ found c.before.before.in-Command.c c.before.before.in-Command.next
-record-read c = sym c.before.before.before.before.read-d.ensures ∙ ap reading c.before.before.in-Command.is
+record-read : (c : tie.After-names-names invariant-loop2 decreases-loop2 invariant-loop decreases-loop) → read_at c.loop-c.settings-1.edition c.args.s.now c.loop-c.at-seen ≡ found c.in-Command.c c.in-Command.next
+record-read c = sym c.read-d.ensures ∙ ap reading c.in-Command.is
 
-shelved : (c : tie.After-names-names invariant-loop2 decreases-loop2 invariant-loop decreases-loop) → Shelved (book_by c.before.before.before.before.before.loop-c.accounts-1 c.before.before.before.before.before.loop-c.invoices-1 c.before.before.before.before.before.loop-c.offers-1 c.before.before.before.before.before.loop-c.totals-1 c.before.before.before.before.before.loop-c.settings-1)
-shelved c = c.before.before.before.before.before.loop-c.invariant.plays.stand.shelved
+shelved : (c : tie.After-names-names invariant-loop2 decreases-loop2 invariant-loop decreases-loop) → Shelved (book_by c.loop-c.accounts-1 c.loop-c.invoices-1 c.loop-c.offers-1 c.loop-c.totals-1 c.loop-c.settings-1)
+shelved c = c.loop-c.invariant.plays.stand.shelved
 
-more : (c : tie.After-names-names invariant-loop2 decreases-loop2 invariant-loop decreases-loop) → Fits w64 (c.before.before.before.before.before.loop-c.k + 1)
-more c = omega (arith, c.before.before.before.before.before.loop-c.invariant.plays.stand.few, ahead _ _ _ (record-read c))
+more : (c : tie.After-names-names invariant-loop2 decreases-loop2 invariant-loop decreases-loop) → Fits w64 (c.loop-c.k + 1)
+more c = omega (arith, c.loop-c.invariant.plays.stand.few, ahead _ _ _ (record-read c))
 
 below-o : (c : tie.After-spot_by-po invariant-loop2 decreases-loop2 invariant-loop decreases-loop) → c.spot_by-po.result.at-seen < 64
-below-o c = spot_below (shelved c.before.before.before.before).offers-1.shelf (omega arith) c.before.before.before.before.names-names.result.offer-1 c.spot_by-po.ensures
+below-o c = spot_below (shelved c.before.before.before.before).offers-1.shelf (omega arith) c.names-names.result.offer-1 c.spot_by-po.ensures
 
-seen-o : (c : tie.Joined-po invariant-loop2 decreases-loop2 invariant-loop decreases-loop) → seen_as c.before.before.spot_by-po.result.here c.if-po.deal ≡ offer_by (model_of (book_by c.before.before.before.before.before.before.before.before.before.before.before.loop-c.accounts-1 c.before.before.before.before.before.before.before.before.before.before.before.loop-c.invoices-1 c.before.before.before.before.before.before.before.before.before.before.before.loop-c.offers-1 c.before.before.before.before.before.before.before.before.before.before.before.loop-c.totals-1 c.before.before.before.before.before.before.before.before.before.before.before.loop-c.settings-1)) c.before.before.before.before.before.before.names-names.result.offer-1
-seen-o c = ⊎_elim (λ t. deal_here (shelved c.before.before.before.before.before.before).offers-1 _ _ _ c.before.before.before.before.before.before.names-names.result.offer-1 c.before.before.spot_by-po.ensures t.0.taken t.4) (λ l. deal_away (shelved c.before.before.before.before.before.before).offers-1 no_deal.offer-1 no_deal.negotiation no_deal.schedule c.before.before.before.before.before.before.names-names.result.offer-1 c.before.before.spot_by-po.ensures l.0.left (l.1 ∙ c.before.none-deal.ensures)) c.if-po.branch
+seen-o : (c : tie.Joined-po invariant-loop2 decreases-loop2 invariant-loop decreases-loop) → seen_as c.spot_by-po.result.here c.if-po.deal ≡ offer_by (model_of (book_by c.loop-c.accounts-1 c.loop-c.invoices-1 c.loop-c.offers-1 c.loop-c.totals-1 c.loop-c.settings-1)) c.names-names.result.offer-1
+seen-o c = ⊎_elim (λ t. deal_here (shelved c.before.before.before.before.before.before).offers-1 _ _ _ c.names-names.result.offer-1 c.spot_by-po.ensures t.0.taken t.4) (λ l. deal_away (shelved c.before.before.before.before.before.before).offers-1 no_deal.offer-1 no_deal.negotiation no_deal.schedule c.names-names.result.offer-1 c.spot_by-po.ensures l.0.left (l.1 ∙ c.none-deal.ensures)) c.if-po.branch
 
 below-i : (c : tie.After-spot_by-pi invariant-loop2 decreases-loop2 invariant-loop decreases-loop) → c.spot_by-pi.result.at-seen < 64
-below-i c = spot_below (shelved c.before.before.before.before.before.before.before.before.before.before.before).invoices-1 (omega arith) c.before.before.before.before.key-key.result c.spot_by-pi.ensures
+below-i c = spot_below (shelved c).invoices-1 (omega arith) c.key-key.result c.spot_by-pi.ensures
 
-seen-i : (c : tie.After-at-seen invariant-loop2 decreases-loop2 invariant-loop decreases-loop) → c.at-seen.result ≡ invoice_by (model_of (book_by c.before.before.before.before.before.before.before.before.before.before.before.before.before.before.before.before.before.before.loop-c.accounts-1 c.before.before.before.before.before.before.before.before.before.before.before.before.before.before.before.before.before.before.loop-c.invoices-1 c.before.before.before.before.before.before.before.before.before.before.before.before.before.before.before.before.before.before.loop-c.offers-1 c.before.before.before.before.before.before.before.before.before.before.before.before.before.before.before.before.before.before.loop-c.totals-1 c.before.before.before.before.before.before.before.before.before.before.before.before.before.before.before.before.before.before.loop-c.settings-1)) c.before.before.before.before.before.before.key-key.result
-seen-i c = c.at-seen.ensures ∙ ap seen_invoice (sym (spot_found (shelved c.before.before.before.before.before.before.before.before.before.before.before.before.before).invoices-1 (omega arith) c.before.before.before.before.before.before.key-key.result c.before.before.spot_by-pi.ensures))
+seen-i : (c : tie.After-at-seen invariant-loop2 decreases-loop2 invariant-loop decreases-loop) → c.at-seen.result ≡ invoice_by (model_of (book_by c.loop-c.accounts-1 c.loop-c.invoices-1 c.loop-c.offers-1 c.loop-c.totals-1 c.loop-c.settings-1)) c.key-key.result
+seen-i c = c.at-seen.ensures ∙ ap seen_invoice (sym (spot_found (shelved c).invoices-1 (omega arith) c.key-key.result c.spot_by-pi.ensures))
 
 below-a : (c : tie.After-spot_by-pa invariant-loop2 decreases-loop2 invariant-loop decreases-loop) → c.spot_by-pa.result.at-seen < 64
-below-a c = spot_below (shelved c.before.before.before.before.before.before.before.before.before.before.before.before.before.before.before.before.before.before).accounts-1 (omega arith) c.before.before.before.before.before.before.before.before.before.before.before.before.before.before.before.before.before.before.names-names.result.first c.spot_by-pa.ensures
+below-a c = spot_below (shelved c).accounts-1 (omega arith) c.names-names.result.first c.spot_by-pa.ensures
 
-seen-a : (c : tie.After-at-sa invariant-loop2 decreases-loop2 invariant-loop decreases-loop) → c.at-sa.result ≡ account_by (model_of (book_by c.before.before.before.before.before.before.before.before.before.before.before.before.before.before.before.before.before.before.before.before.before.before.before.before.before.loop-c.accounts-1 c.before.before.before.before.before.before.before.before.before.before.before.before.before.before.before.before.before.before.before.before.before.before.before.before.before.loop-c.invoices-1 c.before.before.before.before.before.before.before.before.before.before.before.before.before.before.before.before.before.before.before.before.before.before.before.before.before.loop-c.offers-1 c.before.before.before.before.before.before.before.before.before.before.before.before.before.before.before.before.before.before.before.before.before.before.before.before.before.loop-c.totals-1 c.before.before.before.before.before.before.before.before.before.before.before.before.before.before.before.before.before.before.before.before.before.before.before.before.before.loop-c.settings-1)) c.before.before.before.before.before.before.before.before.before.before.before.before.before.before.before.before.before.before.before.before.names-names.result.first
-seen-a c = c.at-sa.ensures ∙ ap seen_account (sym (spot_found (shelved c.before.before.before.before.before.before.before.before.before.before.before.before.before.before.before.before.before.before.before.before).accounts-1 (omega arith) c.before.before.before.before.before.before.before.before.before.before.before.before.before.before.before.before.before.before.before.before.names-names.result.first c.before.before.spot_by-pa.ensures))
+seen-a : (c : tie.After-at-sa invariant-loop2 decreases-loop2 invariant-loop decreases-loop) → c.at-sa.result ≡ account_by (model_of (book_by c.loop-c.accounts-1 c.loop-c.invoices-1 c.loop-c.offers-1 c.loop-c.totals-1 c.loop-c.settings-1)) c.names-names.result.first
+seen-a c = c.at-sa.ensures ∙ ap seen_account (sym (spot_found (shelved c).accounts-1 (omega arith) c.names-names.result.first c.spot_by-pa.ensures))
 
 below-b : (c : tie.After-spot_by-pb invariant-loop2 decreases-loop2 invariant-loop decreases-loop) → c.spot_by-pb.result.at-seen < 64
-below-b c = spot_below (shelved c.before.before.before.before.before.before.before.before.before.before.before.before.before.before.before.before.before.before.before.before.before.before.before.before).accounts-1 (omega arith) c.before.before.before.before.before.before.before.before.before.before.key-kb.result c.spot_by-pb.ensures
+below-b c = spot_below (shelved c.before.before.before.before.before.before.before.before.before.before.before.before.before.before.before.before.before.before.before.before.before.before).accounts-1 (omega arith) c.key-kb.result c.spot_by-pb.ensures
 
-seen_b : (c : tie.After-at-sb invariant-loop2 decreases-loop2 invariant-loop decreases-loop) → c.at-sb.result ≡ account_by (model_of (book_by c.before.before.before.before.before.before.before.before.before.before.before.before.before.before.before.before.before.before.before.before.before.before.before.before.before.before.before.before.before.before.before.loop-c.accounts-1 c.before.before.before.before.before.before.before.before.before.before.before.before.before.before.before.before.before.before.before.before.before.before.before.before.before.before.before.before.before.before.before.loop-c.invoices-1 c.before.before.before.before.before.before.before.before.before.before.before.before.before.before.before.before.before.before.before.before.before.before.before.before.before.before.before.before.before.before.before.loop-c.offers-1 c.before.before.before.before.before.before.before.before.before.before.before.before.before.before.before.before.before.before.before.before.before.before.before.before.before.before.before.before.before.before.before.loop-c.totals-1 c.before.before.before.before.before.before.before.before.before.before.before.before.before.before.before.before.before.before.before.before.before.before.before.before.before.before.before.before.before.before.before.loop-c.settings-1)) c.before.before.before.before.before.before.before.before.before.before.before.before.key-kb.result
-seen_b c = c.at-sb.ensures ∙ ap seen_account (sym (spot_found (shelved c.before.before.before.before.before.before.before.before.before.before.before.before.before.before.before.before.before.before.before.before.before.before.before.before.before.before).accounts-1 (omega arith) c.before.before.before.before.before.before.before.before.before.before.before.before.key-kb.result c.before.before.spot_by-pb.ensures))
+seen_b : (c : tie.After-at-sb invariant-loop2 decreases-loop2 invariant-loop decreases-loop) → c.at-sb.result ≡ account_by (model_of (book_by c.loop-c.accounts-1 c.loop-c.invoices-1 c.loop-c.offers-1 c.loop-c.totals-1 c.loop-c.settings-1)) c.key-kb.result
+seen_b c = c.at-sb.ensures ∙ ap seen_account (sym (spot_found (shelved c.before.before.before.before.before.before.before.before.before.before.before.before.before.before.before.before.before.before.before.before.before.before.before.before).accounts-1 (omega arith) c.key-kb.result c.spot_by-pb.ensures))
 
-step : (c : tie.After-turn-turn invariant-loop2 decreases-loop2 invariant-loop decreases-loop) → Turned (book_by c.before.before.before.before.before.before.before.before.before.before.before.before.before.before.before.before.before.before.before.before.before.before.before.before.before.before.before.before.before.before.before.before.before.loop-c.accounts-1 c.before.before.before.before.before.before.before.before.before.before.before.before.before.before.before.before.before.before.before.before.before.before.before.before.before.before.before.before.before.before.before.before.before.loop-c.invoices-1 c.before.before.before.before.before.before.before.before.before.before.before.before.before.before.before.before.before.before.before.before.before.before.before.before.before.before.before.before.before.before.before.before.before.loop-c.offers-1 c.before.before.before.before.before.before.before.before.before.before.before.before.before.before.before.before.before.before.before.before.before.before.before.before.before.before.before.before.before.before.before.before.before.loop-c.totals-1 c.before.before.before.before.before.before.before.before.before.before.before.before.before.before.before.before.before.before.before.before.before.before.before.before.before.before.before.before.before.before.before.before.before.loop-c.settings-1) c.before.before.before.before.before.before.before.before.before.before.before.before.before.before.before.before.before.before.before.before.before.before.before.before.before.before.before.before.before.before.in-Command.c (keys_by c.before.before.before.before.before.before.before.before.before.before.before.before.before.before.before.before.before.before.before.before.before.before.before.before.before.before.before.before.names-names.result.first c.before.before.before.before.before.before.before.before.before.before.before.before.before.before.key-kb.result c.before.before.before.before.before.before.before.before.before.before.before.before.before.before.before.before.before.before.before.before.before.key-key.result c.before.before.before.before.before.before.before.before.before.before.before.before.before.before.before.before.before.before.before.before.before.before.before.before.before.before.before.before.names-names.result.offer-1) c.turn-turn.result
-step c = turned (shelved c.before.before.before.before.before.before.before.before.before.before.before.before.before.before.before.before.before.before.before.before.before.before.before.before.before.before.before.before) (fetched c.before.before.before.before.before.before.before.before.before.before.before.before.before.before.before.before.before.before.before.before.before.before.before.before.before.before.before.before.names-names.ensures (seen-o c.before.before.before.before.before.before.before.before.before.before.before.before.before.before.before.before.before.before.before.before.before.before) c.before.before.before.before.before.before.before.before.before.before.before.before.before.before.before.before.before.before.before.before.before.key-key.ensures (seen-i c.before.before.before.before.before.before.before.before.before.before.before.before.before.before.before) c.before.before.before.before.before.before.before.before.before.before.before.before.before.before.key-kb.ensures (seen-a c.before.before.before.before.before.before.before.before) (seen_b c.before.before) c.before.same-one.ensures) (counts_by_lem (shelved c.before.before.before.before.before.before.before.before.before.before.before.before.before.before.before.before.before.before.before.before.before.before.before.before.before.before.before.before)) c.turn-turn.ensures
+step : (c : tie.After-turn-turn invariant-loop2 decreases-loop2 invariant-loop decreases-loop) → Turned (book_by c.loop-c.accounts-1 c.loop-c.invoices-1 c.loop-c.offers-1 c.loop-c.totals-1 c.loop-c.settings-1) c.in-Command.c (keys_by c.names-names.result.first c.key-kb.result c.key-key.result c.names-names.result.offer-1) c.turn-turn.result
+step c = turned (shelved c.before.before.before.before.before.before.before.before.before.before.before.before.before.before.before.before.before.before.before.before.before.before.before.before.before.before) (fetched c.names-names.ensures (seen-o c.before.before.before.before.before.before.before.before.before.before.before.before.before.before.before.before.before.before.before.before.before.before) c.key-key.ensures (seen-i c.before.before.before.before.before.before.before.before.before.before.before.before.before.before.before) c.key-kb.ensures (seen-a c.before.before.before.before.before.before.before.before) (seen_b c.before.before) c.same-one.ensures) (counts_by_lem (shelved c.before.before.before.before.before.before.before.before.before.before.before.before.before.before.before.before.before.before.before.before.before.before.before.before.before.before)) c.turn-turn.ensures
 
-left-a : (c : tie.After-turn-turn invariant-loop2 decreases-loop2 invariant-loop decreases-loop) → Left 64 account_row (accounts_of c.before.before.before.before.before.before.before.before.before.before.before.before.before.before.before.before.before.before.before.before.before.before.before.before.before.before.before.before.before.before.before.before.before.loop-c.accounts-1) (next (step c)).accounts-1 c.before.before.before.before.before.before.before.before.before.before.before.before.before.before.before.before.before.before.before.before.before.before.before.before.before.before.before.before.names-names.result.first c.before.before.before.before.before.before.before.before.before.before.before.before.before.before.key-kb.result c.before.before.before.before.before.before.before.before.before.before.spot_by-pa.result.here c.turn-turn.result.near.parties.first.here c.turn-turn.result.near.parties.first.row c.turn-turn.result.near.parties.second.row
-left-a c = accounts_left (step c) (was_by _ _ (spot_found (shelved c.before.before.before.before.before.before.before.before.before.before.before.before.before.before.before.before.before.before.before.before.before.before.before.before.before.before.before.before).accounts-1 (omega arith) c.before.before.before.before.before.before.before.before.before.before.before.before.before.before.before.before.before.before.before.before.before.before.before.before.before.before.before.before.names-names.result.first c.before.before.before.before.before.before.before.before.before.before.spot_by-pa.ensures))
+left-a : (c : tie.After-turn-turn invariant-loop2 decreases-loop2 invariant-loop decreases-loop) → Left 64 account_row (accounts_of c.loop-c.accounts-1) (next (step c)).accounts-1 c.names-names.result.first c.key-kb.result c.spot_by-pa.result.here c.turn-turn.result.near.parties.first.here c.turn-turn.result.near.parties.first.row c.turn-turn.result.near.parties.second.row
+left-a c = accounts_left (step c) (was_by _ _ (spot_found (shelved c.before.before.before.before.before.before.before.before.before.before.before.before.before.before.before.before.before.before.before.before.before.before.before.before.before.before).accounts-1 (omega arith) c.names-names.result.first c.spot_by-pa.ensures))
 
-left-i : (c : tie.After-turn-turn invariant-loop2 decreases-loop2 invariant-loop decreases-loop) → Left 64 invoice_row (invoices_of c.before.before.before.before.before.before.before.before.before.before.before.before.before.before.before.before.before.before.before.before.before.before.before.before.before.before.before.before.before.before.before.before.before.loop-c.invoices-1) (next (step c)).invoices-1 c.before.before.before.before.before.before.before.before.before.before.before.before.before.before.before.before.before.before.before.before.before.key-key.result c.before.before.before.before.before.before.before.before.before.before.before.before.before.before.before.before.before.before.before.before.before.key-key.result c.before.before.before.before.before.before.before.before.before.before.before.before.before.before.before.before.before.spot_by-pi.result.here c.turn-turn.result.near.paper.here c.turn-turn.result.near.paper.row c.turn-turn.result.near.paper.row
-left-i c = invoices_left (step c) (was_by _ _ (spot_found (shelved c.before.before.before.before.before.before.before.before.before.before.before.before.before.before.before.before.before.before.before.before.before.before.before.before.before.before.before.before).invoices-1 (omega arith) c.before.before.before.before.before.before.before.before.before.before.before.before.before.before.before.before.before.before.before.before.before.key-key.result c.before.before.before.before.before.before.before.before.before.before.before.before.before.before.before.before.before.spot_by-pi.ensures))
+left-i : (c : tie.After-turn-turn invariant-loop2 decreases-loop2 invariant-loop decreases-loop) → Left 64 invoice_row (invoices_of c.loop-c.invoices-1) (next (step c)).invoices-1 c.key-key.result c.key-key.result c.spot_by-pi.result.here c.turn-turn.result.near.paper.here c.turn-turn.result.near.paper.row c.turn-turn.result.near.paper.row
+left-i c = invoices_left (step c) (was_by _ _ (spot_found (shelved c.before.before.before.before.before.before.before.before.before.before.before.before.before.before.before.before.before.before.before.before.before.before.before.before.before.before).invoices-1 (omega arith) c.key-key.result c.spot_by-pi.ensures))
 
-left-o : (c : tie.After-turn-turn invariant-loop2 decreases-loop2 invariant-loop decreases-loop) → Left 64 deal_row (deals_of c.before.before.before.before.before.before.before.before.before.before.before.before.before.before.before.before.before.before.before.before.before.before.before.before.before.before.before.before.before.before.before.before.before.loop-c.offers-1) (next (step c)).offers-1 c.before.before.before.before.before.before.before.before.before.before.before.before.before.before.before.before.before.before.before.before.before.before.before.before.before.before.before.before.names-names.result.offer-1 c.before.before.before.before.before.before.before.before.before.before.before.before.before.before.before.before.before.before.before.before.before.before.before.before.before.before.before.before.names-names.result.offer-1 c.before.before.before.before.before.before.before.before.before.before.before.before.before.before.before.before.before.before.before.before.before.before.before.before.spot_by-po.result.here c.turn-turn.result.near.deal.here c.turn-turn.result.near.deal.row c.turn-turn.result.near.deal.row
-left-o c = offers_left (step c) (was_by _ _ (deal_read_lem (shelved c.before.before.before.before.before.before.before.before.before.before.before.before.before.before.before.before.before.before.before.before.before.before.before.before.before.before.before.before).offers-1 no_deal.offer-1 no_deal.negotiation no_deal.schedule c.before.before.before.before.before.before.before.before.before.before.before.before.before.before.before.before.before.before.before.before.before.before.before.before.before.before.before.before.names-names.result.offer-1 c.before.before.before.before.before.before.before.before.before.before.before.before.before.before.before.before.before.before.before.before.before.before.before.before.spot_by-po.ensures))
+left-o : (c : tie.After-turn-turn invariant-loop2 decreases-loop2 invariant-loop decreases-loop) → Left 64 deal_row (deals_of c.loop-c.offers-1) (next (step c)).offers-1 c.names-names.result.offer-1 c.names-names.result.offer-1 c.spot_by-po.result.here c.turn-turn.result.near.deal.here c.turn-turn.result.near.deal.row c.turn-turn.result.near.deal.row
+left-o c = offers_left (step c) (was_by _ _ (deal_read_lem (shelved c.before.before.before.before.before.before.before.before.before.before.before.before.before.before.before.before.before.before.before.before.before.before.before.before.before.before).offers-1 no_deal.offer-1 no_deal.negotiation no_deal.schedule c.names-names.result.offer-1 c.spot_by-po.ensures))
 
-wrote-a : (c : tie.After-over-ma invariant-loop2 decreases-loop2 invariant-loop decreases-loop) → as_accounts c.before.before.before.before.before.before.before.before.before.before.before.before.before.before.before.before.before.before.before.before.before.before.before.before.before.before.before.before.before.before.before.before.before.before.before.before.before.before.before.before.before.before.before.before.loop-c.accounts-1.ids (set (set c.before.before.before.before.before.before.before.before.before.before.before.before.before.before.before.before.before.before.before.before.before.before.before.before.before.before.before.before.before.before.before.before.before.before.before.before.before.before.before.before.before.before.before.before.loop-c.accounts-1.rows c.before.before.before.before.before.before.before.before.before.before.before.before.before.before.before.spot_by-pb.result.at-seen c.before.before.before.over-mb.result) c.before.before.before.before.before.before.before.before.before.before.before.before.before.before.before.before.before.before.before.before.before.spot_by-pa.result.at-seen c.over-ma.result) c.before.before.before.before.before.before.before.before.before.before.before.before.before.before.before.before.before.before.before.before.before.before.before.before.before.before.before.before.before.before.before.before.before.before.before.before.before.before.before.before.before.before.before.before.loop-c.accounts-1.count ≡ stored_accounts (put_by (put_by (accounts_of c.before.before.before.before.before.before.before.before.before.before.before.before.before.before.before.before.before.before.before.before.before.before.before.before.before.before.before.before.before.before.before.before.before.before.before.before.before.before.before.before.before.before.before.before.loop-c.accounts-1) c.before.before.before.before.before.before.before.before.before.before.before.before.before.before.before.before.before.before.before.before.before.before.before.before.before.key-kb.result c.before.before.before.before.before.before.before.before.before.before.before.turn-turn.result.near.parties.second.row) c.before.before.before.before.before.before.before.before.before.before.before.before.before.before.before.before.before.before.before.before.before.before.before.before.before.before.before.before.before.before.before.before.before.before.before.before.before.before.before.names-names.result.first c.before.before.before.before.before.before.before.before.before.before.before.turn-turn.result.near.parties.first.row)
-wrote-a c = accounts_wrote (shelved c.before.before.before.before.before.before.before.before.before.before.before.before.before.before.before.before.before.before.before.before.before.before.before.before.before.before.before.before.before.before.before.before.before.before.before.before.before.before.before).accounts-1 c.before.before.before.before.before.before.before.before.before.before.before.before.before.before.before.before.before.before.before.before.before.before.before.before.before.before.before.before.before.before.before.before.before.before.before.before.before.before.before.names-names.result.first c.before.before.before.before.before.before.before.before.before.before.before.before.before.before.before.before.before.before.before.before.before.before.before.before.before.key-kb.result c.before.before.before.before.before.before.before.before.before.before.before.before.before.before.before.before.before.before.before.before.before.spot_by-pa.ensures c.before.before.before.before.before.before.before.before.before.before.before.before.before.before.before.spot_by-pb.ensures c.before.before.before.before.before.before.before.before.before.before.before.turn-turn.result.near.parties.first.row c.before.before.before.before.before.before.before.before.before.before.before.turn-turn.result.near.parties.second.row c.before.before.before.over-mb.ensures c.over-ma.ensures
+wrote-a : (c : tie.After-over-ma invariant-loop2 decreases-loop2 invariant-loop decreases-loop) → as_accounts c.loop-c.accounts-1.ids (set (set c.loop-c.accounts-1.rows c.spot_by-pb.result.at-seen c.over-mb.result) c.spot_by-pa.result.at-seen c.over-ma.result) c.loop-c.accounts-1.count ≡ stored_accounts (put_by (put_by (accounts_of c.loop-c.accounts-1) c.key-kb.result c.turn-turn.result.near.parties.second.row) c.names-names.result.first c.turn-turn.result.near.parties.first.row)
+wrote-a c = accounts_wrote (shelved c.before.before.before.before.before.before.before.before.before.before.before.before.before.before.before.before.before.before.before.before.before.before.before.before.before.before.before.before.before.before.before.before.before.before.before.before.before).accounts-1 c.names-names.result.first c.key-kb.result c.spot_by-pa.ensures c.spot_by-pb.ensures c.turn-turn.result.near.parties.first.row c.turn-turn.result.near.parties.second.row c.over-mb.ensures c.over-ma.ensures
 
-wrote-i : (c : tie.After-over-mi invariant-loop2 decreases-loop2 invariant-loop decreases-loop) → as_invoices c.before.before.before.before.before.before.before.before.before.before.before.before.before.before.before.before.before.before.before.before.before.before.before.before.before.before.before.before.before.before.before.before.before.before.before.before.before.before.before.before.before.before.before.before.before.before.loop-c.invoices-1.ids (set c.before.before.before.before.before.before.before.before.before.before.before.before.before.before.before.before.before.before.before.before.before.before.before.before.before.before.before.before.before.before.before.before.before.before.before.before.before.before.before.before.before.before.before.before.before.before.loop-c.invoices-1.rows c.before.before.before.before.before.before.before.before.before.before.before.before.before.before.before.before.before.before.before.before.before.before.before.before.before.before.before.before.before.before.spot_by-pi.result.at-seen c.over-mi.result) c.before.before.before.before.before.before.before.before.before.before.before.before.before.before.before.before.before.before.before.before.before.before.before.before.before.before.before.before.before.before.before.before.before.before.before.before.before.before.before.before.before.before.before.before.before.before.loop-c.invoices-1.count ≡ stored_invoices (put_by (put_by (invoices_of c.before.before.before.before.before.before.before.before.before.before.before.before.before.before.before.before.before.before.before.before.before.before.before.before.before.before.before.before.before.before.before.before.before.before.before.before.before.before.before.before.before.before.before.before.before.before.loop-c.invoices-1) c.before.before.before.before.before.before.before.before.before.before.before.before.before.before.before.before.before.before.before.before.before.before.before.before.before.before.before.before.before.before.before.before.before.before.key-key.result c.before.before.before.before.before.before.before.before.before.before.before.before.before.turn-turn.result.near.paper.row) c.before.before.before.before.before.before.before.before.before.before.before.before.before.before.before.before.before.before.before.before.before.before.before.before.before.before.before.before.before.before.before.before.before.before.key-key.result c.before.before.before.before.before.before.before.before.before.before.before.before.before.turn-turn.result.near.paper.row)
-wrote-i c = once stored_invoices (invoices_of c.before.before.before.before.before.before.before.before.before.before.before.before.before.before.before.before.before.before.before.before.before.before.before.before.before.before.before.before.before.before.before.before.before.before.before.before.before.before.before.before.before.before.before.before.before.before.loop-c.invoices-1) c.before.before.before.before.before.before.before.before.before.before.before.before.before.before.before.before.before.before.before.before.before.before.before.before.before.before.before.before.before.before.before.before.before.before.key-key.result c.before.before.before.before.before.before.before.before.before.before.before.before.before.turn-turn.result.near.paper.row (invoice_wrote (shelved c.before.before.before.before.before.before.before.before.before.before.before.before.before.before.before.before.before.before.before.before.before.before.before.before.before.before.before.before.before.before.before.before.before.before.before.before.before.before.before.before.before).invoices-1 c.before.before.before.before.before.before.before.before.before.before.before.before.before.before.before.before.before.before.before.before.before.before.before.before.before.before.before.before.before.before.before.before.before.before.key-key.result c.before.before.before.before.before.before.before.before.before.before.before.before.before.before.before.before.before.before.before.before.before.before.before.before.before.before.before.before.before.before.spot_by-pi.ensures c.before.before.before.before.before.before.before.before.before.before.before.before.before.turn-turn.result.near.paper.row c.over-mi.ensures)
+wrote-i : (c : tie.After-over-mi invariant-loop2 decreases-loop2 invariant-loop decreases-loop) → as_invoices c.loop-c.invoices-1.ids (set c.loop-c.invoices-1.rows c.spot_by-pi.result.at-seen c.over-mi.result) c.loop-c.invoices-1.count ≡ stored_invoices (put_by (put_by (invoices_of c.loop-c.invoices-1) c.key-key.result c.turn-turn.result.near.paper.row) c.key-key.result c.turn-turn.result.near.paper.row)
+wrote-i c = once stored_invoices (invoices_of c.loop-c.invoices-1) c.key-key.result c.turn-turn.result.near.paper.row (invoice_wrote (shelved c.before.before.before.before.before.before.before.before.before.before.before.before.before.before.before.before.before.before.before.before.before.before.before.before.before.before.before.before.before.before.before.before.before.before.before.before.before.before.before).invoices-1 c.key-key.result c.spot_by-pi.ensures c.turn-turn.result.near.paper.row c.over-mi.ensures)
 
-wrote-o : (c : tie.Joined-po-2 invariant-loop2 decreases-loop2 invariant-loop decreases-loop) → c.if-po-2.offers-1 ≡ stored_deals (put_by (put_by (deals_of c.before.before.before.before.before.before.before.before.before.before.before.before.before.before.before.before.before.before.before.before.before.before.before.before.before.before.before.before.before.before.before.before.before.before.before.before.before.before.before.before.before.before.before.before.before.before.before.loop-c.offers-1) c.before.before.before.before.before.before.before.before.before.before.before.before.before.before.before.before.before.before.before.before.before.before.before.before.before.before.before.before.before.before.before.before.before.before.before.before.before.before.before.before.before.before.names-names.result.offer-1 c.before.before.before.before.before.before.before.before.before.before.before.before.before.before.turn-turn.result.near.deal.row) c.before.before.before.before.before.before.before.before.before.before.before.before.before.before.before.before.before.before.before.before.before.before.before.before.before.before.before.before.before.before.before.before.before.before.before.before.before.before.before.before.before.before.names-names.result.offer-1 c.before.before.before.before.before.before.before.before.before.before.before.before.before.before.turn-turn.result.near.deal.row)
-wrote-o c = once stored_deals (deals_of c.before.before.before.before.before.before.before.before.before.before.before.before.before.before.before.before.before.before.before.before.before.before.before.before.before.before.before.before.before.before.before.before.before.before.before.before.before.before.before.before.before.before.before.before.before.before.before.loop-c.offers-1) c.before.before.before.before.before.before.before.before.before.before.before.before.before.before.before.before.before.before.before.before.before.before.before.before.before.before.before.before.before.before.before.before.before.before.before.before.before.before.before.before.before.before.names-names.result.offer-1 c.before.before.before.before.before.before.before.before.before.before.before.before.before.before.turn-turn.result.near.deal.row (⊎_elim (λ t. t.4 ∙ deal_there (shelved c.before.before.before.before.before.before.before.before.before.before.before.before.before.before.before.before.before.before.before.before.before.before.before.before.before.before.before.before.before.before.before.before.before.before.before.before.before.before.before.before.before.before).offers-1 no_deal.offer-1 no_deal.negotiation no_deal.schedule c.before.before.before.before.before.before.before.before.before.before.before.before.before.before.before.before.before.before.before.before.before.before.before.before.before.before.before.before.before.before.before.before.before.before.before.before.before.before.before.before.before.before.names-names.result.offer-1 c.before.before.before.before.before.before.before.before.before.before.before.before.before.before.before.before.before.before.before.before.before.before.before.before.before.before.before.before.before.before.before.before.before.before.before.before.before.before.spot_by-po.ensures c.before.before.before.before.before.before.before.before.before.before.before.before.before.before.turn-turn.result.near.deal.row t.0.taken) (λ l. l.1 ∙ deal_gone (shelved c.before.before.before.before.before.before.before.before.before.before.before.before.before.before.before.before.before.before.before.before.before.before.before.before.before.before.before.before.before.before.before.before.before.before.before.before.before.before.before.before.before.before).offers-1 no_deal.offer-1 no_deal.negotiation no_deal.schedule c.before.before.before.before.before.before.before.before.before.before.before.before.before.before.before.before.before.before.before.before.before.before.before.before.before.before.before.before.before.before.before.before.before.before.before.before.before.before.before.before.before.before.names-names.result.offer-1 c.before.before.before.before.before.before.before.before.before.before.before.before.before.before.before.before.before.before.before.before.before.before.before.before.before.before.before.before.before.before.before.before.before.before.before.before.before.before.spot_by-po.ensures c.before.before.before.before.before.before.before.before.before.before.before.before.before.before.turn-turn.result.near.deal.row l.0.left) c.if-po-2.branch)
+wrote-o : (c : tie.Joined-po-2 invariant-loop2 decreases-loop2 invariant-loop decreases-loop) → c.if-po-2.offers-1 ≡ stored_deals (put_by (put_by (deals_of c.loop-c.offers-1) c.names-names.result.offer-1 c.turn-turn.result.near.deal.row) c.names-names.result.offer-1 c.turn-turn.result.near.deal.row)
+wrote-o c = once stored_deals (deals_of c.loop-c.offers-1) c.names-names.result.offer-1 c.turn-turn.result.near.deal.row (⊎_elim (λ t. t.4 ∙ deal_there (shelved c.before.before.before.before.before.before.before.before.before.before.before.before.before.before.before.before.before.before.before.before.before.before.before.before.before.before.before.before.before.before.before.before.before.before.before.before.before.before.before.before).offers-1 no_deal.offer-1 no_deal.negotiation no_deal.schedule c.names-names.result.offer-1 c.spot_by-po.ensures c.turn-turn.result.near.deal.row t.0.taken) (λ l. l.1 ∙ deal_gone (shelved c.before.before.before.before.before.before.before.before.before.before.before.before.before.before.before.before.before.before.before.before.before.before.before.before.before.before.before.before.before.before.before.before.before.before.before.before.before.before.before.before).offers-1 no_deal.offer-1 no_deal.negotiation no_deal.schedule c.names-names.result.offer-1 c.spot_by-po.ensures c.turn-turn.result.near.deal.row l.0.left) c.if-po-2.branch)
 
-ids-o : (c : tie.Joined-po-2 invariant-loop2 decreases-loop2 invariant-loop decreases-loop) → c.if-po-2.offers-1.ids ≡ c.before.before.before.before.before.before.before.before.before.before.before.before.before.before.before.before.before.before.before.before.before.before.before.before.before.before.before.before.before.before.before.before.before.before.before.before.before.before.before.before.before.before.before.before.before.before.before.loop-c.offers-1.ids
+ids-o : (c : tie.Joined-po-2 invariant-loop2 decreases-loop2 invariant-loop decreases-loop) → c.if-po-2.offers-1.ids ≡ c.loop-c.offers-1.ids
 ids-o c = ⊎_elim (λ t. ap (λ z. z.ids) t.4) (λ l. ap (λ z. z.ids) l.1) c.if-po-2.branch
 
-count-o : (c : tie.Joined-po-2 invariant-loop2 decreases-loop2 invariant-loop decreases-loop) → c.if-po-2.offers-1.count ≡ c.before.before.before.before.before.before.before.before.before.before.before.before.before.before.before.before.before.before.before.before.before.before.before.before.before.before.before.before.before.before.before.before.before.before.before.before.before.before.before.before.before.before.before.before.before.before.before.loop-c.offers-1.count
+count-o : (c : tie.Joined-po-2 invariant-loop2 decreases-loop2 invariant-loop decreases-loop) → c.if-po-2.offers-1.count ≡ c.loop-c.offers-1.count
 count-o c = ⊎_elim (λ t. ap (λ z. z.count) t.4) (λ l. ap (λ z. z.count) l.1) c.if-po-2.branch
 
 stored-a : (c : tie.Joined-pa-turn invariant-loop2 decreases-loop2 invariant-loop decreases-loop) → c.if-pa-turn.accounts-1 ≡ stored_accounts (next (step c.before.before.before.before.before.before.before.before.before.before.before.before.before.before.before.before.before)).accounts-1
@@ -120,17 +120,17 @@ stored-a c = ⊎_elim (λ x. grows accounts_keeping account_row (λ r. refl) (le
 stored-i : (c : tie.Joined-pi-turn invariant-loop2 decreases-loop2 invariant-loop decreases-loop) → c.if-pi-turn.invoices-1 ≡ stored_invoices (next (step c.before.before.before.before.before.before.before.before.before.before.before.before.before.before.before.before.before.before.before.before)).invoices-1
 stored-i c = ⊎_elim (λ x. grows invoices_keeping invoice_row (λ r. refl) (left-i c.before.before.before.before.before.before.before.before.before.before.before.before.before.before.before.before.before.before.before.before) (wrote-i c.before.before.before.before.before.before.before) x.0.taken (x.3 ∙ (simp x.1.ensures at x.2.ensures) (room invoices_keeping invoice_row (λ r. refl) (left-i c.before.before.before.before.before.before.before.before.before.before.before.before.before.before.before.before.before.before.before.before) (wrote-i c.before.before.before.before.before.before.before) x.0.taken))) (λ x. x.1 ∙ stays invoices_keeping invoice_row (λ r. refl) (left-i c.before.before.before.before.before.before.before.before.before.before.before.before.before.before.before.before.before.before.before.before) (wrote-i c.before.before.before.before.before.before.before) x.0.left) c.if-pi-turn.branch
 
-few-o : (c : tie.Then-po-turn invariant-loop2 decreases-loop2 invariant-loop decreases-loop) → c.before.before.before.before.before.before.before.before.before.if-po-2.offers-1.count < 64
+few-o : (c : tie.Then-po-turn invariant-loop2 decreases-loop2 invariant-loop decreases-loop) → c.if-po-2.offers-1.count < 64
 few-o c = room_count (good deals_keeping deal_row (λ r. refl) (left-o c.before.before.before.before.before.before.before.before.before.before.before.before.before.before.before.before.before.before.before.before.before.before.before) (wrote-o c.before.before.before.before.before.before.before.before.before)) (room deals_keeping deal_row (λ r. refl) (left-o c.before.before.before.before.before.before.before.before.before.before.before.before.before.before.before.before.before.before.before.before.before.before.before) (wrote-o c.before.before.before.before.before.before.before.before.before) c.if-po-turn.true)
 
-slot-o : (c : tie.Then-po-turn invariant-loop2 decreases-loop2 invariant-loop decreases-loop) → find_in (take c.before.before.before.before.before.before.before.before.before.if-po-2.offers-1.count c.before.before.before.before.before.before.before.before.before.if-po-2.offers-1.ids) (id_of c.before.before.before.before.before.before.before.before.before.before.before.before.before.before.before.before.before.before.before.before.before.before.before.before.before.before.before.before.before.before.before.before.before.before.before.before.before.before.before.before.before.before.before.before.before.before.before.before.before.before.before.names-names.result.offer-1) ≡ Absent c.before.before.before.before.before.before.before.before.before.before.before.before.before.before.before.before.before.before.before.before.before.before.before.before.before.before.before.before.before.before.before.before.before.before.before.before.before.before.before.before.before.before.before.before.before.before.before.spot_by-po.result.slot
-slot-o c = ap (λ n. find_in (take n c.before.before.before.before.before.before.before.before.before.if-po-2.offers-1.ids) (id_of c.before.before.before.before.before.before.before.before.before.before.before.before.before.before.before.before.before.before.before.before.before.before.before.before.before.before.before.before.before.before.before.before.before.before.before.before.before.before.before.before.before.before.before.before.before.before.before.before.before.before.before.names-names.result.offer-1)) (count-o c.before.before.before.before.before.before.before.before.before) ∙ ap (λ l. find_in (take c.before.before.before.before.before.before.before.before.before.before.before.before.before.before.before.before.before.before.before.before.before.before.before.before.before.before.before.before.before.before.before.before.before.before.before.before.before.before.before.before.before.before.before.before.before.before.before.before.before.before.before.before.before.before.before.before.loop-c.offers-1.count l) (id_of c.before.before.before.before.before.before.before.before.before.before.before.before.before.before.before.before.before.before.before.before.before.before.before.before.before.before.before.before.before.before.before.before.before.before.before.before.before.before.before.before.before.before.before.before.before.before.before.before.before.before.before.names-names.result.offer-1)) (ids-o c.before.before.before.before.before.before.before.before.before) ∙ spot_slot _ c.before.before.before.before.before.before.before.before.before.before.before.before.before.before.before.before.before.before.before.before.before.before.before.before.before.before.before.before.before.before.before.before.before.before.before.before.before.before.before.before.before.before.before.before.before.before.before.before.before.before.before.names-names.result.offer-1 c.before.before.before.before.before.before.before.before.before.before.before.before.before.before.before.before.before.before.before.before.before.before.before.before.before.before.before.before.before.before.before.before.before.before.before.before.before.before.before.before.before.before.before.before.before.before.before.spot_by-po.ensures (named deals_keeping deal_row (λ r. refl) (left-o c.before.before.before.before.before.before.before.before.before.before.before.before.before.before.before.before.before.before.before.before.before.before.before) (wrote-o c.before.before.before.before.before.before.before.before.before) c.if-po-turn.true) (came_new _ _ c.if-po-turn.true)
+slot-o : (c : tie.Then-po-turn invariant-loop2 decreases-loop2 invariant-loop decreases-loop) → find_in (take c.if-po-2.offers-1.count c.if-po-2.offers-1.ids) (id_of c.names-names.result.offer-1) ≡ Absent c.spot_by-po.result.slot
+slot-o c = ap (λ n. find_in (take n c.if-po-2.offers-1.ids) (id_of c.names-names.result.offer-1)) (count-o c.before.before.before.before.before.before.before.before.before) ∙ ap (λ l. find_in (take c.loop-c.offers-1.count l) (id_of c.names-names.result.offer-1)) (ids-o c.before.before.before.before.before.before.before.before.before) ∙ spot_slot _ c.names-names.result.offer-1 c.spot_by-po.ensures (named deals_keeping deal_row (λ r. refl) (left-o c.before.before.before.before.before.before.before.before.before.before.before.before.before.before.before.before.before.before.before.before.before.before.before) (wrote-o c.before.before.before.before.before.before.before.before.before) c.if-po-turn.true) (came_new _ _ c.if-po-turn.true)
 
 stored-o : (c : tie.Joined-po-turn invariant-loop2 decreases-loop2 invariant-loop decreases-loop) → c.if-po-turn.offers-1 ≡ stored_deals (next (step c.before.before.before.before.before.before.before.before.before.before.before.before.before.before.before.before.before.before.before.before.before.before.before)).offers-1
-stored-o c = ⊎_elim (λ x. grows deals_keeping deal_row (λ r. refl) (left-o c.before.before.before.before.before.before.before.before.before.before.before.before.before.before.before.before.before.before.before.before.before.before.before) (wrote-o c.before.before.before.before.before.before.before.before.before) x.0.taken (x.7 ∙ deal_let_in x.1.inv (good deals_keeping deal_row (λ r. refl) (left-o c.before.before.before.before.before.before.before.before.before.before.before.before.before.before.before.before.before.before.before.before.before.before.before) (wrote-o c.before.before.before.before.before.before.before.before.before)) x.6.result c.before.before.before.before.before.before.before.before.before.before.before.before.before.before.before.before.before.before.before.before.before.before.before.turn-turn.result.near.deal.row (few-o (record { before = c.before; if5 = x.0 })) (rw x.6.ensures (slot-o (record { before = c.before; if5 = x.0 }))) (omega (arith, x.2.left)) ∙ ap (λ z. stored_deals (insert (deals_of c.before.before.before.before.before.before.before.before.before.if-po-2.offers-1) z c.before.before.before.before.before.before.before.before.before.before.before.before.before.before.before.before.before.before.before.before.before.before.before.turn-turn.result.near.deal.row)) x.6.ensures)) (λ x. x.1 ∙ stays deals_keeping deal_row (λ r. refl) (left-o c.before.before.before.before.before.before.before.before.before.before.before.before.before.before.before.before.before.before.before.before.before.before.before) (wrote-o c.before.before.before.before.before.before.before.before.before) x.0.left) c.if-po-turn.branch
+stored-o c = ⊎_elim (λ x. grows deals_keeping deal_row (λ r. refl) (left-o c.before.before.before.before.before.before.before.before.before.before.before.before.before.before.before.before.before.before.before.before.before.before.before) (wrote-o c.before.before.before.before.before.before.before.before.before) x.0.taken (x.7 ∙ deal_let_in x.1.inv (good deals_keeping deal_row (λ r. refl) (left-o c.before.before.before.before.before.before.before.before.before.before.before.before.before.before.before.before.before.before.before.before.before.before.before) (wrote-o c.before.before.before.before.before.before.before.before.before)) x.6.result c.turn-turn.result.near.deal.row (few-o (record { before = c.before; if5 = x.0 })) (rw x.6.ensures (slot-o (record { before = c.before; if5 = x.0 }))) (omega (arith, x.2.left)) ∙ ap (λ z. stored_deals (insert (deals_of c.if-po-2.offers-1) z c.turn-turn.result.near.deal.row)) x.6.ensures)) (λ x. x.1 ∙ stays deals_keeping deal_row (λ r. refl) (left-o c.before.before.before.before.before.before.before.before.before.before.before.before.before.before.before.before.before.before.before.before.before.before.before) (wrote-o c.before.before.before.before.before.before.before.before.before) x.0.left) c.if-po-turn.branch
 
 loop-holds : tie.Need-loop-c-init invariant-loop2 decreases-loop2 invariant-loop decreases-loop
-loop-holds c = going c.before.before.before.before.before.before.before.requires.0 (held c.before.before.before.before.before.before.before.requires.1)
+loop-holds c = going c.requires.0 (held c.requires.1)
 
 read-requires : tie.Need-read-d-requires invariant-loop2 decreases-loop2 invariant-loop decreases-loop
 read-requires c κs = search rules
@@ -214,7 +214,7 @@ turn-requires : tie.Need-turn-turn-requires invariant-loop2 decreases-loop2 inva
 turn-requires c κs = search rules
 
 add-put-answer : tie.Need-overflow_add-k invariant-loop2 decreases-loop2 invariant-loop decreases-loop
-add-put-answer c = more c.before.before.before.before.before.before.before.before.before.before.before.before.before.before.before.before.before.before.before.before.before.before.before.before.before.before.before.before.before
+add-put-answer c = more c.before.before.before.before.before.before.before.before.before.before.before.before.before.before.before.before.before.before.before.before.before.before.before.before.before.before.before
 
 put-answer-requires : tie.Need-put_answer-pen-requires invariant-loop2 decreases-loop2 invariant-loop decreases-loop
 put-answer-requires c κs = search rules
@@ -289,103 +289,103 @@ sub-i : tie.Need-overflow_sub-i invariant-loop2 decreases-loop2 invariant-loop d
 sub-i c = omega (arith, c.loop-j-test.true)
 
 mul-offers : tie.Need-offset_bounds-offers-i invariant-loop2 decreases-loop2 invariant-loop decreases-loop
-mul-offers c = omega (arith, c.loop-j-test.true, c.before.loop-j.invariant.place.within, few-o c.before.before)
+mul-offers c = omega (arith, c.loop-j-test.true, c.loop-j.invariant.place.within, few-o c.before.before)
 
 element-copy-out-offers : tie.Need-bounds-offers-i invariant-loop2 decreases-loop2 invariant-loop decreases-loop
-element-copy-out-offers c = omega (arith, c.loop-j-test.true, c.before.loop-j.invariant.place.within, few-o c.before.before)
+element-copy-out-offers c = omega (arith, c.loop-j-test.true, c.loop-j.invariant.place.within, few-o c.before.before)
 
 mul-offers-2 : tie.Need-offset_bounds-offers-j invariant-loop2 decreases-loop2 invariant-loop decreases-loop
-mul-offers-2 c = omega (arith, c.before.loop-j-test.true, c.before.before.loop-j.invariant.place.within, few-o c.before.before.before)
+mul-offers-2 c = omega (arith, c.loop-j-test.true, c.loop-j.invariant.place.within, few-o c.before.before.before)
 
 element-write-offers : tie.Need-bounds-offers-j invariant-loop2 decreases-loop2 invariant-loop decreases-loop
-element-write-offers c = omega (arith, c.before.loop-j-test.true, c.before.before.loop-j.invariant.place.within, few-o c.before.before.before)
+element-write-offers c = omega (arith, c.loop-j-test.true, c.loop-j.invariant.place.within, few-o c.before.before.before)
 
 mul-offers-3 : tie.Need-offset_bounds-offers-i-in-loop-j invariant-loop2 decreases-loop2 invariant-loop decreases-loop
-mul-offers-3 c = omega (arith, c.before.loop-j-test.true, c.before.before.loop-j.invariant.place.within, few-o c.before.before.before)
+mul-offers-3 c = omega (arith, c.loop-j-test.true, c.loop-j.invariant.place.within, few-o c.before.before.before)
 
 element-copy-out-offers-2 : tie.Need-bounds-offers-i-in-loop-j invariant-loop2 decreases-loop2 invariant-loop decreases-loop
-element-copy-out-offers-2 c = omega (arith, c.before.loop-j-test.true, c.before.before.loop-j.invariant.place.within, few-o c.before.before.before)
+element-copy-out-offers-2 c = omega (arith, c.loop-j-test.true, c.loop-j.invariant.place.within, few-o c.before.before.before)
 
 mul-t130 : tie.Need-offset_bounds-offers-j-in-loop-j invariant-loop2 decreases-loop2 invariant-loop decreases-loop
-mul-t130 c = omega (arith, c.before.before.loop-j-test.true, c.before.before.before.loop-j.invariant.place.within, few-o c.before.before.before.before)
+mul-t130 c = omega (arith, c.loop-j-test.true, c.loop-j.invariant.place.within, few-o c.before.before.before.before)
 
 element-set-from-offers : tie.Need-bounds-offers-j-in-loop-j invariant-loop2 decreases-loop2 invariant-loop decreases-loop
-element-set-from-offers c = omega (arith, c.before.before.loop-j-test.true, c.before.before.before.loop-j.invariant.place.within, few-o c.before.before.before.before)
+element-set-from-offers c = omega (arith, c.loop-j-test.true, c.loop-j.invariant.place.within, few-o c.before.before.before.before)
 
 mul-offers-4 : tie.Need-offset_bounds-offers-i-in-loop-j-2 invariant-loop2 decreases-loop2 invariant-loop decreases-loop
-mul-offers-4 c = omega (arith, c.before.before.loop-j-test.true, c.before.before.before.loop-j.invariant.place.within, few-o c.before.before.before.before)
+mul-offers-4 c = omega (arith, c.loop-j-test.true, c.loop-j.invariant.place.within, few-o c.before.before.before.before)
 
 element-copy-out-offers-3 : tie.Need-bounds-offers-i-in-loop-j-2 invariant-loop2 decreases-loop2 invariant-loop decreases-loop
-element-copy-out-offers-3 c = omega (arith, c.before.before.loop-j-test.true, c.before.before.before.loop-j.invariant.place.within, few-o c.before.before.before.before)
+element-copy-out-offers-3 c = omega (arith, c.loop-j-test.true, c.loop-j.invariant.place.within, few-o c.before.before.before.before)
 
 mul-t130-2 : tie.Need-offset_bounds-offers-j-in-loop-j-2 invariant-loop2 decreases-loop2 invariant-loop decreases-loop
-mul-t130-2 c = omega (arith, c.before.before.before.loop-j-test.true, c.before.before.before.before.loop-j.invariant.place.within, few-o c.before.before.before.before.before)
+mul-t130-2 c = omega (arith, c.loop-j-test.true, c.loop-j.invariant.place.within, few-o c.before.before.before.before.before)
 
 element-set-from-offers-2 : tie.Need-bounds-offers-j-in-loop-j-2 invariant-loop2 decreases-loop2 invariant-loop decreases-loop
-element-set-from-offers-2 c = omega (arith, c.before.before.before.loop-j-test.true, c.before.before.before.before.loop-j.invariant.place.within, few-o c.before.before.before.before.before)
+element-set-from-offers-2 c = omega (arith, c.loop-j-test.true, c.loop-j.invariant.place.within, few-o c.before.before.before.before.before)
 
 mul-offers-5 : tie.Need-offset_bounds-offers-i-in-loop-j-3 invariant-loop2 decreases-loop2 invariant-loop decreases-loop
-mul-offers-5 c = omega (arith, c.before.before.before.loop-j-test.true, c.before.before.before.before.loop-j.invariant.place.within, few-o c.before.before.before.before.before)
+mul-offers-5 c = omega (arith, c.loop-j-test.true, c.loop-j.invariant.place.within, few-o c.before.before.before.before.before)
 
 element-copy-out-offers-4 : tie.Need-bounds-offers-i-in-loop-j-3 invariant-loop2 decreases-loop2 invariant-loop decreases-loop
-element-copy-out-offers-4 c = omega (arith, c.before.before.before.loop-j-test.true, c.before.before.before.before.loop-j.invariant.place.within, few-o c.before.before.before.before.before)
+element-copy-out-offers-4 c = omega (arith, c.loop-j-test.true, c.loop-j.invariant.place.within, few-o c.before.before.before.before.before)
 
 mul-t130-3 : tie.Need-offset_bounds-offers-j-in-loop-j-3 invariant-loop2 decreases-loop2 invariant-loop decreases-loop
-mul-t130-3 c = omega (arith, c.before.before.before.before.loop-j-test.true, c.before.before.before.before.before.loop-j.invariant.place.within, few-o c.before.before.before.before.before.before)
+mul-t130-3 c = omega (arith, c.loop-j-test.true, c.loop-j.invariant.place.within, few-o c.before.before.before.before.before.before)
 
 element-set-from-offers-3 : tie.Need-bounds-offers-j-in-loop-j-3 invariant-loop2 decreases-loop2 invariant-loop decreases-loop
-element-set-from-offers-3 c = omega (arith, c.before.before.before.before.loop-j-test.true, c.before.before.before.before.before.loop-j.invariant.place.within, few-o c.before.before.before.before.before.before)
+element-set-from-offers-3 c = omega (arith, c.loop-j-test.true, c.loop-j.invariant.place.within, few-o c.before.before.before.before.before.before)
 
 loop2-less : tie.Need-loop-j-smaller invariant-loop2 decreases-loop2 invariant-loop decreases-loop
-loop2-less c = omega (arith, c.before.before.before.before.loop-j-test.true)
+loop2-less c = omega (arith, c.loop-j-test.true)
 
 loop2-again : tie.Need-loop-j-preserved invariant-loop2 decreases-loop2 invariant-loop decreases-loop
-loop2-again c = moves_on c.before.before.before.before.before.loop-j.invariant _ _ _ _ (omega (arith, c.before.before.before.before.loop-j-test.true)) c.before.before.before.before.loop-j-test.true
+loop2-again c = moves_on c.loop-j.invariant _ _ _ _ (omega (arith, c.loop-j-test.true)) c.loop-j-test.true
 
 id-requires-3 : tie.Need-id-requires-then-po-turn invariant-loop2 decreases-loop2 invariant-loop decreases-loop
 id-requires-3 c κs = search rules
 
 mul-offers-6 : tie.Need-offset_bounds-offers-j-then-po-turn invariant-loop2 decreases-loop2 invariant-loop decreases-loop
-mul-offers-6 c = omega (arith, c.before.before.before.before.before.loop-j.invariant.place.within, few-o c.before.before.before.before.before.before)
+mul-offers-6 c = omega (arith, c.loop-j.invariant.place.within, few-o c.before.before.before.before.before.before)
 
 element-write-offers-2 : tie.Need-bounds-offers-j-then-po-turn invariant-loop2 decreases-loop2 invariant-loop decreases-loop
-element-write-offers-2 c = omega (arith, c.before.before.before.before.before.loop-j.invariant.place.within, few-o c.before.before.before.before.before.before)
+element-write-offers-2 c = omega (arith, c.loop-j.invariant.place.within, few-o c.before.before.before.before.before.before)
 
 mul-new-offer : tie.Need-offset_bounds-offers-j-then-po-turn-2 invariant-loop2 decreases-loop2 invariant-loop decreases-loop
-mul-new-offer c = omega (arith, c.before.before.before.before.before.loop-j.invariant.place.within, few-o c.before.before.before.before.before.before)
+mul-new-offer c = omega (arith, c.loop-j.invariant.place.within, few-o c.before.before.before.before.before.before)
 
 element-set-from-new-offer : tie.Need-bounds-offers-j-then-po-turn-2 invariant-loop2 decreases-loop2 invariant-loop decreases-loop
-element-set-from-new-offer c = omega (arith, c.before.before.before.before.before.loop-j.invariant.place.within, few-o c.before.before.before.before.before.before)
+element-set-from-new-offer c = omega (arith, c.loop-j.invariant.place.within, few-o c.before.before.before.before.before.before)
 
 mul-new-talk : tie.Need-offset_bounds-offers-j-then-po-turn-3 invariant-loop2 decreases-loop2 invariant-loop decreases-loop
-mul-new-talk c = omega (arith, c.before.before.before.before.before.loop-j.invariant.place.within, few-o c.before.before.before.before.before.before)
+mul-new-talk c = omega (arith, c.loop-j.invariant.place.within, few-o c.before.before.before.before.before.before)
 
 element-set-from-new-talk : tie.Need-bounds-offers-j-then-po-turn-3 invariant-loop2 decreases-loop2 invariant-loop decreases-loop
-element-set-from-new-talk c = omega (arith, c.before.before.before.before.before.loop-j.invariant.place.within, few-o c.before.before.before.before.before.before)
+element-set-from-new-talk c = omega (arith, c.loop-j.invariant.place.within, few-o c.before.before.before.before.before.before)
 
 mul-new-plan : tie.Need-offset_bounds-offers-j-then-po-turn-4 invariant-loop2 decreases-loop2 invariant-loop decreases-loop
-mul-new-plan c = omega (arith, c.before.before.before.before.before.loop-j.invariant.place.within, few-o c.before.before.before.before.before.before)
+mul-new-plan c = omega (arith, c.loop-j.invariant.place.within, few-o c.before.before.before.before.before.before)
 
 element-set-from-new-plan : tie.Need-bounds-offers-j-then-po-turn-4 invariant-loop2 decreases-loop2 invariant-loop decreases-loop
-element-set-from-new-plan c = omega (arith, c.before.before.before.before.before.loop-j.invariant.place.within, few-o c.before.before.before.before.before.before)
+element-set-from-new-plan c = omega (arith, c.loop-j.invariant.place.within, few-o c.before.before.before.before.before.before)
 
 add-offers : tie.Need-overflow_add-offers invariant-loop2 decreases-loop2 invariant-loop decreases-loop
 add-offers c = omega (arith, few-o c.before.before.before.before.before.before)
 
 add-k : tie.Need-overflow_add-k-in-Command invariant-loop2 decreases-loop2 invariant-loop decreases-loop
-add-k c = more c.before.before.before.before.before.before.before.before.before.before.before.before.before.before.before.before.before.before.before.before.before.before.before.before.before.before.before.before.before.before.before.before.before.before.before.before.before.before.before.before.before.before.before.before.before.before.before.before.before.before.before
+add-k c = more c.before.before.before.before.before.before.before.before.before.before.before.before.before.before.before.before.before.before.before.before.before.before.before.before.before.before.before.before.before.before.before.before.before.before.before.before.before.before.before.before.before.before.before.before.before.before.before.before.before
 
 loop-less : tie.Need-loop-c-smaller invariant-loop2 decreases-loop2 invariant-loop decreases-loop
-loop-less c = omega (arith, ahead _ _ _ (record-read c.before.before.before.before.before.before.before.before.before.before.before.before.before.before.before.before.before.before.before.before.before.before.before.before.before.before.before.before.before.before.before.before.before.before.before.before.before.before.before.before.before.before.before.before.before.before.before.before.before.before.before))
+loop-less c = omega (arith, ahead _ _ _ (record-read c.before.before.before.before.before.before.before.before.before.before.before.before.before.before.before.before.before.before.before.before.before.before.before.before.before.before.before.before.before.before.before.before.before.before.before.before.before.before.before.before.before.before.before.before.before.before.before.before.before))
 
 loop-again : tie.Need-loop-c-preserved invariant-loop2 decreases-loop2 invariant-loop decreases-loop
-loop-again c = going_on c.before.before.before.before.before.before.before.before.before.before.before.before.before.before.before.before.before.before.before.before.before.before.before.before.before.before.before.before.before.before.before.before.before.before.before.before.before.before.before.before.before.before.before.before.before.before.before.before.before.before.before.before.before.before.before.before.loop-c.invariant (record-read c.before.before.before.before.before.before.before.before.before.before.before.before.before.before.before.before.before.before.before.before.before.before.before.before.before.before.before.before.before.before.before.before.before.before.before.before.before.before.before.before.before.before.before.before.before.before.before.before.before.before.before) (stepped (shelved c.before.before.before.before.before.before.before.before.before.before.before.before.before.before.before.before.before.before.before.before.before.before.before.before.before.before.before.before.before.before.before.before.before.before.before.before.before.before.before.before.before.before.before.before.before.before.before.before.before.before.before) (steps (step c.before.before.before.before.before.before.before.before.before.before.before.before.before.before.before.before.before.before.before.before.before.before.before) (stored-a c.before.before.before.before.before.before) (stored-i c.before.before.before) (stored-o c))) c.before.before.before.before.before.before.before.before.before.before.before.before.before.before.before.before.before.before.before.before.before.put_answer-pen.ensures
+loop-again c = going_on c.loop-c.invariant (record-read c.before.before.before.before.before.before.before.before.before.before.before.before.before.before.before.before.before.before.before.before.before.before.before.before.before.before.before.before.before.before.before.before.before.before.before.before.before.before.before.before.before.before.before.before.before.before.before.before.before) (stepped (shelved c.before.before.before.before.before.before.before.before.before.before.before.before.before.before.before.before.before.before.before.before.before.before.before.before.before.before.before.before.before.before.before.before.before.before.before.before.before.before.before.before.before.before.before.before.before.before.before.before.before) (steps (step c.before.before.before.before.before.before.before.before.before.before.before.before.before.before.before.before.before.before.before.before.before.before.before) (stored-a c.before.before.before.before.before.before) (stored-i c.before.before.before) (stored-o c))) c.put_answer-pen.ensures
 
 enum-known-d-2 : tie.Need-enum_known-d-in-Malformed-1 invariant-loop2 decreases-loop2 invariant-loop decreases-loop
 enum-known-d-2 c = search rules
 
 add-put-mark : tie.Need-overflow_add-k-in-Malformed invariant-loop2 decreases-loop2 invariant-loop decreases-loop
-add-put-mark c = omega (arith, c.before.before.before.before.before.loop-c.invariant.plays.stand.few, inside _ _ _ (sym c.before.before.before.before.read-d.ensures ∙ ap reading c.before.before.in-Malformed.is))
+add-put-mark c = omega (arith, c.loop-c.invariant.plays.stand.few, inside _ _ _ (sym c.read-d.ensures ∙ ap reading c.in-Malformed.is))
 
 put-mark-requires : tie.Need-put_mark-p-requires invariant-loop2 decreases-loop2 invariant-loop decreases-loop
 put-mark-requires c κs = search rules
@@ -394,10 +394,10 @@ finish-requires : tie.Need-finish-requires invariant-loop2 decreases-loop2 invar
 finish-requires c κs = search rules
 
 same_length : tie.Need-shape_of-out-in-Malformed invariant-loop2 decreases-loop2 invariant-loop decreases-loop
-same_length c = kept (gone_bad c.before.before.before.before.before.before.before.before.before.before.before.before.loop-c.invariant (sym c.before.before.before.before.before.before.before.before.before.before.before.read-d.ensures ∙ ap reading c.before.before.before.before.before.before.before.before.before.in-Malformed.is) refl c.before.before.before.before.before.before.put_mark-p.ensures c.before.before.finish.ensures).wrote
+same_length c = kept (gone_bad c.loop-c.invariant (sym c.read-d.ensures ∙ ap reading c.in-Malformed.is) refl c.put_mark-p.ensures c.finish.ensures).wrote
 
 returns : tie.Need-returns-in-Malformed invariant-loop2 decreases-loop2 invariant-loop decreases-loop
-returns c = let g = gone_bad c.before.before.before.before.before.before.before.before.before.before.before.before.loop-c.invariant (sym c.before.before.before.before.before.before.before.before.before.before.before.read-d.ensures ∙ ap reading c.before.before.before.before.before.before.before.before.before.in-Malformed.is) refl c.before.before.before.before.before.before.put_mark-p.ensures c.before.before.finish.ensures in (g.outcome, g.wrote)
+returns c = let g = gone_bad c.loop-c.invariant (sym c.read-d.ensures ∙ ap reading c.in-Malformed.is) refl c.put_mark-p.ensures c.finish.ensures in (g.outcome, g.wrote)
 
 enum_told : tie.Need-enum_told-1 invariant-loop2 decreases-loop2 invariant-loop decreases-loop
 enum_told c = search rules
@@ -406,110 +406,12 @@ finish-requires-2 : tie.Need-finish-requires-in-End invariant-loop2 decreases-lo
 finish-requires-2 c κs = search rules
 
 same-length-2 : tie.Need-shape_of-out-in-End invariant-loop2 decreases-loop2 invariant-loop decreases-loop
-same-length-2 c = kept (gone c.before.before.before.before.before.before.before.loop-c.invariant (sym c.before.before.before.before.before.before.read-d.ensures ∙ ap reading c.before.before.before.before.in-End.is) refl c.before.before.finish-in-End.ensures).wrote
+same-length-2 c = kept (gone c.loop-c.invariant (sym c.read-d.ensures ∙ ap reading c.in-End.is) refl c.finish-in-End.ensures).wrote
 
 returns-2 : tie.Need-returns-in-End invariant-loop2 decreases-loop2 invariant-loop decreases-loop
-returns-2 c = let g = gone c.before.before.before.before.before.before.before.loop-c.invariant (sym c.before.before.before.before.before.before.read-d.ensures ∙ ap reading c.before.before.before.before.in-End.is) refl c.before.before.finish-in-End.ensures in (g.outcome, g.wrote)
+returns-2 c = let g = gone c.loop-c.invariant (sym c.read-d.ensures ∙ ap reading c.in-End.is) refl c.finish-in-End.ensures in (g.outcome, g.wrote)
 
 pub records_spec : {M : Type 1} → statement M
 records_spec =
     tie.close
-    (tie.spec
-    invariant-loop2
-    decreases-loop2
-    invariant-loop
-    decreases-loop
-    loop-holds
-    read-requires
-    enum-known-d
-    names-requires
-    spot-by-requires
-    none-requires
-    mul-o
-    element-copy-out-o
-    mul-g
-    element-copy-out-g
-    mul-p
-    element-copy-out-p
-    key-requires
-    spot-by-requires-2
-    mul-v
-    element-copy-out-v
-    at-requires
-    key-requires-2
-    spot-by-requires-3
-    mul-va
-    element-copy-out-va
-    at-requires-2
-    spot-by-requires-4
-    mul-vb
-    element-copy-out-vb
-    at-requires-3
-    same-requires
-    turn-requires
-    add-put-answer
-    put-answer-requires
-    over-requires
-    mul-mb
-    element-set-from-mb
-    mul-old
-    element-copy-out-old
-    over-requires-2
-    mul-ma
-    element-set-from-ma
-    over-requires-3
-    mul-mi
-    element-set-from-mi
-    mul-offer
-    element-set-from-offer
-    mul-talk
-    element-set-from-talk
-    mul-plan
-    element-set-from-plan
-    id-requires
-    let-in-requires
-    id-requires-2
-    let-in-requires-2
-    loop2-holds
-    sub-i
-    mul-offers
-    element-copy-out-offers
-    mul-offers-2
-    element-write-offers
-    mul-offers-3
-    element-copy-out-offers-2
-    mul-t130
-    element-set-from-offers
-    mul-offers-4
-    element-copy-out-offers-3
-    mul-t130-2
-    element-set-from-offers-2
-    mul-offers-5
-    element-copy-out-offers-4
-    mul-t130-3
-    element-set-from-offers-3
-    loop2-less
-    loop2-again
-    id-requires-3
-    mul-offers-6
-    element-write-offers-2
-    mul-new-offer
-    element-set-from-new-offer
-    mul-new-talk
-    element-set-from-new-talk
-    mul-new-plan
-    element-set-from-new-plan
-    add-offers
-    add-k
-    loop-less
-    loop-again
-    enum-known-d-2
-    add-put-mark
-    put-mark-requires
-    finish-requires
-    same_length
-    returns
-    enum_told
-    finish-requires-2
-    same-length-2
-    returns-2)
+    (tie.spec invariant-loop2 decreases-loop2 invariant-loop decreases-loop loop-holds read-requires enum-known-d names-requires spot-by-requires none-requires mul-o element-copy-out-o mul-g element-copy-out-g mul-p element-copy-out-p key-requires spot-by-requires-2 mul-v element-copy-out-v at-requires key-requires-2 spot-by-requires-3 mul-va element-copy-out-va at-requires-2 spot-by-requires-4 mul-vb element-copy-out-vb at-requires-3 same-requires turn-requires add-put-answer put-answer-requires over-requires mul-mb element-set-from-mb mul-old element-copy-out-old over-requires-2 mul-ma element-set-from-ma over-requires-3 mul-mi element-set-from-mi mul-offer element-set-from-offer mul-talk element-set-from-talk mul-plan element-set-from-plan id-requires let-in-requires id-requires-2 let-in-requires-2 loop2-holds sub-i mul-offers element-copy-out-offers mul-offers-2 element-write-offers mul-offers-3 element-copy-out-offers-2 mul-t130 element-set-from-offers mul-offers-4 element-copy-out-offers-3 mul-t130-2 element-set-from-offers-2 mul-offers-5 element-copy-out-offers-4 mul-t130-3 element-set-from-offers-3 loop2-less loop2-again id-requires-3 mul-offers-6 element-write-offers-2 mul-new-offer element-set-from-new-offer mul-new-talk element-set-from-new-talk mul-new-plan element-set-from-new-plan add-offers add-k loop-less loop-again enum-known-d-2 add-put-mark put-mark-requires finish-requires same_length returns enum_told finish-requires-2 same-length-2 returns-2)

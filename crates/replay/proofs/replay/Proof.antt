@@ -6,11 +6,11 @@ use Rattle.replay.proofs.replay.Statement.{statement}
 use Rattle.replay.proofs.replay.Tie as tie
 
 walk-requires : tie.Need-walk-w-requires
-walk-requires c κs = (fresh c.before.fresh_for-book.ensures).shelved
+walk-requires c κs = (fresh c.fresh_for-book.ensures).shelved
 
 returns : tie.Need-returns
 unfolding replay_of
-returns c = c.before.before.walk-w.ensures.outcome ∙ ap (λ m. outcome_of 0 (replay_on m c.before.before.before.before.before.before.args.s.now)) (fresh c.before.before.before.before.fresh_for-book.ensures).model
+returns c = c.walk-w.ensures.outcome ∙ ap (λ m. outcome_of 0 (replay_on m c.args.s.now)) (fresh c.fresh_for-book.ensures).model
 
 pub replay_spec : {M : Type 1} → statement M
 replay_spec = tie.close (tie.spec (λ c κs. search rules) (λ c. search rules) walk-requires returns)

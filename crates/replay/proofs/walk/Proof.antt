@@ -14,35 +14,23 @@ use Rattle.replay.proofs.walk.Statement.{statement}
 use Rattle.replay.proofs.walk.Tie as tie
 
 records-requires : tie.Need-records-requires
-records-requires c κs = ((opened _ (sym c.before.before.before.before.before.before.before.before.before.before.header-h.ensures ∙ ap opening c.before.before.before.before.before.before.before.before.in-Records.is)).within, c.before.before.before.before.before.before.before.before.before.before.before.before.before.before.requires)
+records-requires c κs = ((opened _ (sym c.header-h.ensures ∙ ap opening c.in-Records.is)).within, c.requires)
 
 returns : tie.Need-returns-then-edition-settings
 returns c =
-    let o = sym c.before.before.before.before.before.before.before.before.before.before.before.before.before.header-h.ensures ∙ ap opening c.before.before.before.before.before.before.before.before.before.before.before.in-Records.is in
-    let t = c.before.before.before.before.before.before.before.before.if-edition-settings.true in
-    (c.before.before.records.ensures.outcome ∙ sym (ap (outcome_of 0) (replay_headed _ _ o t)), tells_headed c.before.before.before.before.before.before.before.before.before.before.before.before.before.before.before.before.before.args.book _ o t c.before.before.before.before.before.before.put_edition-past.ensures c.before.before.records.ensures.wrote)
+    let o = sym c.header-h.ensures ∙ ap opening c.in-Records.is in
+    let t = c.if-edition-settings.true in
+    (c.records.ensures.outcome ∙ sym (ap (outcome_of 0) (replay_headed _ _ o t)), tells_headed c.args.book _ o t c.put_edition-past.ensures c.records.ensures.wrote)
 
 returns-2 : tie.Need-returns
 returns-2 c =
-    let n = c.before.before.before.before.before.before.before.before.before.before.before.before.before.args.book.settings-1.edition in
-    let s = c.before.before.before.before.before.before.before.before.before.before.before.before.before.args.s.now in
-    let q = c.before.before.before.before.before.before.before.before.before.header-h in
-    let h : headed n s ≡ false = ⊎_elim (λ t. headed_good s n (sym q.ensures ∙ ap opening t.1.given.1) ∙ ne_eqb _ n t.4.left) (λ l. headed_bad s n (sym q.ensures ∙ ap opening l.1.given.1)) c.before.before.before.before.before.before.before.before.in-Records.branch in
-    (c.before.before.finish.ensures.outcome ∙ play_bare _ h c.before.before.before.before.before.before.before.before.before.before.before.before.before.requires, tells_bare c.before.before.before.before.before.before.before.before.before.before.before.before.before.args.book _ h c.before.before.before.before.before.before.put_mark-p.ensures c.before.before.finish.ensures.wrote)
+    let n = c.args.book.settings-1.edition in
+    let s = c.args.s.now in
+    let q = c.header-h in
+    let h : headed n s ≡ false = ⊎_elim (λ t. headed_good s n (sym q.ensures ∙ ap opening t.1.given.1) ∙ ne_eqb _ n t.4.left) (λ l. headed_bad s n (sym q.ensures ∙ ap opening l.1.given.1)) c.in-Records.branch in
+    (c.finish.ensures.outcome ∙ play_bare _ h c.requires, tells_bare c.args.book _ h c.put_mark-p.ensures c.finish.ensures.wrote)
 
 pub walk_spec : {M : Type 1} → statement M
 walk_spec =
     tie.close
-    (tie.spec
-    (λ c κs. search rules)
-    (λ c. search rules)
-    (λ c. search rules)
-    (λ c κs. search rules)
-    records-requires
-    (λ c. search rules)
-    returns
-    (λ c. search rules)
-    (λ c κs. search rules)
-    (λ c κs. search rules)
-    (λ c. search rules)
-    returns-2)
+    (tie.spec (λ c κs. search rules) (λ c. search rules) (λ c. search rules) (λ c κs. search rules) records-requires (λ c. search rules) returns (λ c. search rules) (λ c κs. search rules) (λ c κs. search rules) (λ c. search rules) returns-2)

@@ -29,21 +29,9 @@ returns-2 c =
     let s = start e in
     let z : s.args.at + s.args.size - s.args.at ≡ s.args.size = omega arith in
     a_copy s.args.out-1.now s.args.p (w s) (not-false _ e.if-not-good.false-raw) (omega (arith, long s))
-    (placed_mid s.args.p (w s) s.args.out-1.now c.before.before.copy.new.1.0 (omega (arith, long s, s.requires.1)) (rw (take-length (w s)) at (rw z at c.before.before.copy.ensures.value)))
+    (placed_mid s.args.p (w s) s.args.out-1.now c.copy.new.1.0 (omega (arith, long s, s.requires.1)) (rw (take-length (w s)) at (rw z at c.copy.ensures.value)))
 
 pub keep_spec : {M : Type 1} → statement M
 keep_spec =
     tie.close
-    (tie.spec
-    returns
-    (λ c. search rules)
-    (λ c. search rules)
-    (λ c. search rules)
-    (λ c. search rules)
-    (λ c. search rules)
-    (λ c. search rules)
-    (λ c. search rules)
-    (λ c κs. search rules)
-    (λ c. search rules)
-    (λ c. search rules)
-    returns-2)
+    (tie.spec returns (λ c. search rules) (λ c. search rules) (λ c. search rules) (λ c. search rules) (λ c. search rules) (λ c. search rules) (λ c. search rules) (λ c κs. search rules) (λ c. search rules) (λ c. search rules) returns-2)

@@ -9,13 +9,13 @@ use Rattle.rescue.proofs.note.Statement.{statement}
 use Rattle.rescue.proofs.note.Tie as tie
 
 returns : tie.Need-returns-then-good
-returns c = let a = c.before.args in no_more a.report.now a.k (a.at ∷ []) c.if-good.true
+returns c = let a = c.args in no_more a.report.now a.k (a.at ∷ []) c.if-good.true
 
-room : (c : tie.Else-good) → c.before.args.k < length c.before.args.report.now
-room c = c.before.requires c.if-good.false
+room : (c : tie.Else-good) → c.args.k < length c.args.report.now
+room c = c.requires c.if-good.false
 
 returns-2 : tie.Need-returns
-returns-2 c = let a = c.before.args in one_more a.report.now a.k (a.at ∷ []) c.if-good.false refl (one_set a.report.now a.k a.at (room c))
+returns-2 c = let a = c.args in one_more a.report.now a.k (a.at ∷ []) c.if-good.false refl (one_set a.report.now a.k a.at (room c))
 
 pub note_spec : {M : Type 1} → statement M
 note_spec =

@@ -6,13 +6,13 @@ use Rattle.rescue.proofs.stands.Statement.{statement}
 use Rattle.rescue.proofs.stands.Tie as tie
 
 returns : tie.Need-returns-in-Command
-returns c = stands_is _ _ _ (sym c.before.before.decode-d.ensures ∙ ap reading c.in-Command.is)
+returns c = stands_is _ _ _ (sym c.decode-d.ensures ∙ ap reading c.in-Command.is)
 
 returns-2 : tie.Need-returns-in-Malformed
-returns-2 c = stands_is _ _ _ (sym c.before.before.decode-d.ensures ∙ ap reading c.in-Malformed.is)
+returns-2 c = stands_is _ _ _ (sym c.decode-d.ensures ∙ ap reading c.in-Malformed.is)
 
 returns-3 : tie.Need-returns-in-End
-returns-3 c = stands_is _ _ _ (sym c.before.before.decode-d.ensures ∙ ap reading c.in-End.is)
+returns-3 c = stands_is _ _ _ (sym c.decode-d.ensures ∙ ap reading c.in-End.is)
 
 pub stands_spec : {M : Type 1} → statement M
 stands_spec =

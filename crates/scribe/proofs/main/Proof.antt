@@ -43,7 +43,7 @@ slice-aggregate-show-2 : tie.Need-slice_bounds-show-end-2
 slice-aggregate-show-2 c = search rules
 
 show-requires : tie.Need-show-requires
-show-requires c κs = λ k e. (within _ _ c.before.before.before.to_text-r.ensures e).0
+show-requires c κs = λ k e. (within _ _ c.to_text-r.ensures e).0
 
 returns-2 : tie.Need-returns-then-is_journal
 returns-2 c = search rules
@@ -67,7 +67,7 @@ slice-aggregate-show-4 : tie.Need-slice-aggregate-show-4
 slice-aggregate-show-4 c = search rules
 
 show-requires-2 : tie.Need-show-requires-2
-show-requires-2 c κs = λ k e. (within _ _ c.before.before.before.to_journal-r.ensures e).0
+show-requires-2 c κs = λ k e. (within _ _ c.to_journal-r.ensures e).0
 
 returns-3 : tie.Need-returns
 returns-3 c = search rules
@@ -75,27 +75,4 @@ returns-3 c = search rules
 pub main_spec : {M : Type 1} → statement M
 main_spec =
     tie.close
-    (tie.spec
-    slice-aggregate-read-full
-    read-full-requires
-    too-long-requires
-    returns
-    array-share-prefix-input
-    slice-aggregate-is-journal
-    is-journal-requires
-    array-share-prefix-input-2
-    slice-aggregate-to-text
-    slice-aggregate-to-text-2
-    to-text-requires
-    slice-aggregate-show
-    slice-aggregate-show-2
-    show-requires
-    returns-2
-    array-share-prefix-input-3
-    slice-aggregate-to-journal
-    slice-aggregate-to-journal-2
-    to-journal-requires
-    slice-aggregate-show-3
-    slice-aggregate-show-4
-    show-requires-2
-    returns-3)
+    (tie.spec slice-aggregate-read-full read-full-requires too-long-requires returns array-share-prefix-input slice-aggregate-is-journal is-journal-requires array-share-prefix-input-2 slice-aggregate-to-text slice-aggregate-to-text-2 to-text-requires slice-aggregate-show slice-aggregate-show-2 show-requires returns-2 array-share-prefix-input-3 slice-aggregate-to-journal slice-aggregate-to-journal-2 to-journal-requires slice-aggregate-show-3 slice-aggregate-show-4 show-requires-2 returns-3)

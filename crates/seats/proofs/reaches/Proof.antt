@@ -8,7 +8,7 @@ use Rattle.seats.proofs.reaches.Tie as tie
 
 returns : tie.Need-returns
 unfolding reaches_of
-returns c = ap (λ (n : ℕ). leb c.before.args.threshold n) c.present.ensures
+returns c = ap (λ (n : ℕ). leb c.args.threshold n) c.present.ensures
 
 pub reaches_spec : {M : Type 1} → statement M
 reaches_spec = tie.close (tie.spec (λ c κs. search rules) returns)

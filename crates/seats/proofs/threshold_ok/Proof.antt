@@ -11,7 +11,7 @@ returns c = simp (lt-leb _ _ c.if-next-gt4294967295.true)
 
 returns-2 : tie.Need-returns
 unfolding threshold_ok reaches_of
-returns-2 c = simp (le-leb _ _ c.before.if-next-gt4294967295.false, c.reaches.ensures, all-present)
+returns-2 c = simp (le-leb _ _ c.if-next-gt4294967295.false, c.reaches.ensures, all-present)
 
 pub threshold_ok_spec : {M : Type 1} → statement M
 threshold_ok_spec = tie.close (tie.spec returns (λ c. search rules) (λ c κs. search rules) returns-2)

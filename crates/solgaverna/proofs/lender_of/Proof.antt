@@ -8,11 +8,11 @@ use Rattle.solgaverna.proofs.lender_of.Tie as tie
 
 returns : tie.Need-returns-in-Lender
 unfolding four_says pick
-returns c = sym (ap lender_says c.before.in-Lender.is) ∙ c.before.before.before.get_lender_stats-r.ensures
+returns c = sym (ap lender_says c.in-Lender.is) ∙ c.get_lender_stats-r.ensures
 
 returns-2 : tie.Need-returns-in-Unsound
 unfolding four_says pick
-returns-2 c = ap four_says c.unsound.ensures ∙ sym (ap lender_says c.before.in-Unsound.is) ∙ c.before.before.before.get_lender_stats-r.ensures
+returns-2 c = ap four_says c.unsound.ensures ∙ sym (ap lender_says c.in-Unsound.is) ∙ c.get_lender_stats-r.ensures
 
 pub lender_of_spec : {M : Type 1} → statement M
 lender_of_spec =

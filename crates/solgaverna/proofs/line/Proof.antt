@@ -12,7 +12,7 @@ returns c = sym (ap (λ z. line_of (answered z)) c.in-Done.is)
 
 returns-2 : tie.Need-returns-in-Malformed
 unfolding pick
-returns-2 c = sym (ap (λ z. line_of (answered z)) c.before.in-Malformed.is)
+returns-2 c = sym (ap (λ z. line_of (answered z)) c.in-Malformed.is)
 
 returns-3 : tie.Need-returns-in-Short
 unfolding pick
@@ -21,10 +21,4 @@ returns-3 c = sym (ap (λ z. line_of (answered z)) c.in-Short.is)
 pub line_spec : {M : Type 1} → statement M
 line_spec =
     tie.close
-    (tie.spec
-    (λ c. search rules)
-    (λ c. search rules)
-    (λ c. search rules)
-    returns
-    returns-2
-    returns-3)
+    (tie.spec (λ c. search rules) (λ c. search rules) (λ c. search rules) returns returns-2 returns-3)

@@ -8,25 +8,17 @@ use Rattle.solgaverna.proofs.listed.Tie as tie
 
 returns : tie.Need-returns-in-Done
 unfolding pick
-returns c = sym (ap (λ z. coded (listing_says z).0 (listing_says z).1) c.before.in-Done.is)
+returns c = sym (ap (λ z. coded (listing_says z).0 (listing_says z).1) c.in-Done.is)
 
 returns-2 : tie.Need-returns-in-Short
 unfolding pick
-returns-2 c = c.refused.ensures ∙ sym (ap (λ z. coded (listing_says z).0 (listing_says z).1) c.before.in-Short.is)
+returns-2 c = c.refused.ensures ∙ sym (ap (λ z. coded (listing_says z).0 (listing_says z).1) c.in-Short.is)
 
 returns-3 : tie.Need-returns-in-Unsound
 unfolding pick
-returns-3 c = c.refused-in-Unsound.ensures ∙ sym (ap (λ z. coded (listing_says z).0 (listing_says z).1) c.before.in-Unsound.is)
+returns-3 c = c.refused-in-Unsound.ensures ∙ sym (ap (λ z. coded (listing_says z).0 (listing_says z).1) c.in-Unsound.is)
 
 pub listed_spec : {M : Type 1} → statement M
 listed_spec =
     tie.close
-    (tie.spec
-    (λ c. search rules)
-    (λ c. search rules)
-    (λ c κs. search rules)
-    (λ c. search rules)
-    (λ c κs. search rules)
-    returns
-    returns-2
-    returns-3)
+    (tie.spec (λ c. search rules) (λ c. search rules) (λ c κs. search rules) (λ c. search rules) (λ c κs. search rules) returns returns-2 returns-3)

@@ -8,25 +8,17 @@ use Rattle.solgaverna.proofs.sized.Tie as tie
 
 returns : tie.Need-returns-in-Done
 unfolding pick
-returns c = sym (ap (λ z. coded (answered z).0 (answered z).1) c.before.in-Done.is)
+returns c = sym (ap (λ z. coded (answered z).0 (answered z).1) c.in-Done.is)
 
 returns-2 : tie.Need-returns-in-Malformed
 unfolding pick
-returns-2 c = c.refused.ensures ∙ sym (ap (λ z. coded (answered z).0 (answered z).1) c.before.in-Malformed.is)
+returns-2 c = c.refused.ensures ∙ sym (ap (λ z. coded (answered z).0 (answered z).1) c.in-Malformed.is)
 
 returns-3 : tie.Need-returns-in-Short
 unfolding pick
-returns-3 c = c.refused-in-Short.ensures ∙ sym (ap (λ z. coded (answered z).0 (answered z).1) c.before.in-Short.is)
+returns-3 c = c.refused-in-Short.ensures ∙ sym (ap (λ z. coded (answered z).0 (answered z).1) c.in-Short.is)
 
 pub sized_spec : {M : Type 1} → statement M
 sized_spec =
     tie.close
-    (tie.spec
-    (λ c. search rules)
-    (λ c. search rules)
-    (λ c κs. search rules)
-    (λ c. search rules)
-    (λ c κs. search rules)
-    returns
-    returns-2
-    returns-3)
+    (tie.spec (λ c. search rules) (λ c. search rules) (λ c κs. search rules) (λ c. search rules) (λ c κs. search rules) returns returns-2 returns-3)

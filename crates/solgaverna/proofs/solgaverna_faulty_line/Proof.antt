@@ -6,7 +6,7 @@ use Rattle.solgaverna.proofs.solgaverna_faulty_line.Statement.{statement}
 use Rattle.solgaverna.proofs.solgaverna_faulty_line.Tie as tie
 
 returns : tie.Need-returns
-returns c = c.line.ensures ∙ ap line_of c.before.before.to_journal-r.ensures.0 ∙ fault_line_lem _ _
+returns c = c.line.ensures ∙ ap line_of c.to_journal-r.ensures.0 ∙ fault_line_lem _ _
 
 pub solgaverna_faulty_line_spec : {M : Type 1} → statement M
 solgaverna_faulty_line_spec =

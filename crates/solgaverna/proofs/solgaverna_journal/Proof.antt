@@ -5,7 +5,7 @@ use Rattle.solgaverna.proofs.solgaverna_journal.Statement.{statement}
 use Rattle.solgaverna.proofs.solgaverna_journal.Tie as tie
 
 returns : tie.Need-returns
-returns c = (c.sized.ensures ∙ ap (λ z. coded z.0 z.1) c.before.before.before.to_journal-told.ensures.0, c.before.before.before.to_journal-told.ensures.1)
+returns c = (c.sized.ensures ∙ ap (λ z. coded z.0 z.1) c.to_journal-told.ensures.0, c.to_journal-told.ensures.1)
 
 pub solgaverna_journal_spec : {M : Type 1} → statement M
 solgaverna_journal_spec =

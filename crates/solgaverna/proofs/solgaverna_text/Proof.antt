@@ -5,7 +5,7 @@ use Rattle.solgaverna.proofs.solgaverna_text.Statement.{statement}
 use Rattle.solgaverna.proofs.solgaverna_text.Tie as tie
 
 returns : tie.Need-returns
-returns c = (c.sized.ensures ∙ ap (λ z. coded z.0 z.1) c.before.before.before.to_text-told.ensures.0, c.before.before.before.to_text-told.ensures.1)
+returns c = (c.sized.ensures ∙ ap (λ z. coded z.0 z.1) c.to_text-told.ensures.0, c.to_text-told.ensures.1)
 
 pub solgaverna_text_spec : {M : Type 1} → statement M
 solgaverna_text_spec = tie.close (tie.spec (λ c κs. search rules) (λ c κs. search rules) (λ c. search rules) returns)

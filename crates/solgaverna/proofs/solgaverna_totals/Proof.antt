@@ -7,19 +7,12 @@ use Rattle.solgaverna.proofs.solgaverna_totals.Statement.{statement}
 use Rattle.solgaverna.proofs.solgaverna_totals.Tie as tie
 
 returns : tie.Need-returns-then-not-number
-returns c = malformed c.before.before.before.before.before.args.out-1.now _ c.before.before.replay-replayed.ensures (not-true _ c.before.if-not-number.true-raw) c.refused.ensures
+returns c = malformed c.args.out-1.now _ c.replay-replayed.ensures (not-true _ c.if-not-number.true-raw) c.refused.ensures
 
 returns-2 : tie.Need-returns
-returns-2 c = whole c.before.before.before.before.before.before.before.before.before.before.args.out-1.now _ c.before.before.before.before.before.before.before.replay-replayed.ensures (not-false _ c.before.before.before.before.before.before.if-not-number.false-raw) (c.before.before.put_four.ensures ∙ ap (λ r. four_over r c.before.before.before.before.before.before.before.before.before.before.args.out-1.now) c.before.before.before.totals_of.ensures)
+returns-2 c = whole c.args.out-1.now _ c.replay-replayed.ensures (not-false _ c.if-not-number.false-raw) (c.put_four.ensures ∙ ap (λ r. four_over r c.args.out-1.now) c.totals_of.ensures)
 
 pub solgaverna_totals_spec : {M : Type 1} → statement M
 solgaverna_totals_spec =
     tie.close
-    (tie.spec
-    (λ c κs. search rules)
-    (λ c κs. search rules)
-    returns
-    (λ c κs. search rules)
-    (λ c κs. search rules)
-    (λ c. search rules)
-    returns-2)
+    (tie.spec (λ c κs. search rules) (λ c κs. search rules) returns (λ c κs. search rules) (λ c κs. search rules) (λ c. search rules) returns-2)

@@ -8,11 +8,11 @@ use Rattle.solgaverna.proofs.totals_of.Tie as tie
 
 returns : tie.Need-returns-in-Totals
 unfolding four_says pick
-returns c = sym (ap totals_says c.before.in-Totals.is) ∙ c.before.before.before.get_stats-r.ensures
+returns c = sym (ap totals_says c.in-Totals.is) ∙ c.get_stats-r.ensures
 
 returns-2 : tie.Need-returns-in-Unsound
 unfolding four_says pick
-returns-2 c = ap four_says c.unsound.ensures ∙ sym (ap totals_says c.before.in-Unsound.is) ∙ c.before.before.before.get_stats-r.ensures
+returns-2 c = ap four_says c.unsound.ensures ∙ sym (ap totals_says c.in-Unsound.is) ∙ c.get_stats-r.ensures
 
 pub totals_of_spec : {M : Type 1} → statement M
 totals_of_spec =

@@ -16,21 +16,12 @@ abbrev decreases-loop : tie.decreases-loop-i
 decreases-loop ids len ok₀ prev₀ i₀ ok prev i = 64 - i
 
 loop-again : tie.Need-loop-i-preserved invariant-loop decreases-loop
-loop-again c = (rw add-one, check_turn c.before.before.loop-i.invariant.1 c.before.loop-i-test.true (rw c.before.before.loop-i.invariant.0))
+loop-again c = (rw add-one, check_turn c.loop-i.invariant.1 c.loop-i-test.true (rw c.loop-i.invariant.0))
 
 returns : tie.Need-returns invariant-loop decreases-loop
-returns c = rw (check_done c.before.loop-i.invariant.1 c.loop-i-test.false)
+returns c = rw (check_done c.loop-i.invariant.1 c.loop-i-test.false)
 
 pub ids_sound_spec : {M : Type 1} → statement M
 ids_sound_spec =
     tie.close
-    (tie.spec
-    invariant-loop
-    decreases-loop
-    (λ c. (refl, check_start _ _))
-    (λ c. search rules)
-    (λ c. search rules)
-    (λ c. search rules)
-    (λ c. search rules)
-    loop-again
-    returns)
+    (tie.spec invariant-loop decreases-loop (λ c. (refl, check_start _ _)) (λ c. search rules) (λ c. search rules) (λ c. search rules) (λ c. search rules) loop-again returns)

@@ -6,10 +6,10 @@ use Rattle.table.proofs.spot_by.Statement.{statement}
 use Rattle.table.proofs.spot_by.Tie as tie
 
 returns : tie.Need-returns-in_default
-returns c = sym (ap (spot_by (take c.before.before.before.args.len c.before.before.before.args.ids.now)) c.in_default.is)
+returns c = sym (ap (spot_by (take c.args.len c.args.ids.now)) c.in_default.is)
 
 returns-2 : tie.Need-returns
-returns-2 c = c.spot_of.ensures ∙ ap spot_of c.before.find-f.ensures ∙ sym (ap (spot_by (take c.before.before.before.before.before.before.args.len c.before.before.before.before.before.before.args.ids.now)) c.before.before.before.in-Id.is)
+returns-2 c = c.spot_of.ensures ∙ ap spot_of c.find-f.ensures ∙ sym (ap (spot_by (take c.args.len c.args.ids.now)) c.in-Id.is)
 
 pub spot_by_spec : {M : Type 1} → statement M
 spot_by_spec =

@@ -30,8 +30,8 @@ by-terms : (s : tie.Start) (b : Bool) (l : List ℕ) → s.args.kept ≡ b → l
 unfolding installments_of
 by-terms s b l e h = ap (λ (m : List ℕ). due_as (owed s m)) (h ∙ ap (λ (t : Bool). cond t (kept_installments s.args.s) (even s.args.s.count (magnitude_of s.args.s.installment))) (sym e))
 
-stored : (c : tie.After-magnitude-installment) → c.magnitude-installment.result ≡ magnitude_of c.before.before.args.s.installment
-stored c = simp (back c.before.before.args.s.installment c.before.struct_told-1.given.1.1.0.1) at c.magnitude-installment.ensures
+stored : (c : tie.After-magnitude-installment) → c.magnitude-installment.result ≡ magnitude_of c.args.s.installment
+stored c = simp (back c.args.s.installment c.struct_told-1.given.1.1.0.1) at c.magnitude-installment.ensures
 
 returns : tie.Need-returns-then-not-kept
 returns c =
@@ -39,14 +39,14 @@ returns c =
     c.even_due.ensures
     ∙ ap (λ (x : ℕ). due_if (even_ok s.args.s.count x s.args.elapsed s.args.repaid) (owed s (even s.args.s.count x))) (stored c.before.before)
     ∙ sym (answers (even_ok_lem s.args.s (in_range s) s.args.elapsed s.args.repaid s.requires.elapsed_le_count.0 s.requires.elapsed_le_count.1) refl)
-    ∙ by-terms s _ _ (not-true s.args.kept c.before.if-not-kept.true-raw) refl
+    ∙ by-terms s _ _ (not-true s.args.kept c.if-not-kept.true-raw) refl
 
 -- past the test its terms are kept
-terms-kept : (c : tie.Else-not-kept) → KeptIn c.before.before.before.args.s
-terms-kept c = kept_terms c.before.before.before.args.s c.before.before.before.args.kept (not-false c.before.before.before.args.kept c.if-not-kept.false-raw) c.before.before.before.requires.s_value
+terms-kept : (c : tie.Else-not-kept) → KeptIn c.args.s
+terms-kept c = kept_terms c.args.s c.args.kept (not-false c.args.kept c.if-not-kept.false-raw) c.requires.s_value
 
-amount-is : (c : tie.After-magnitude-amount) → c.magnitude-amount.result ≡ magnitude_of c.before.before.before.before.before.args.s.amount
-amount-is c = simp (back c.before.before.before.before.before.args.s.amount c.before.struct_told-2-1.given.1.1.1.1.0.1) at c.magnitude-amount.ensures
+amount-is : (c : tie.After-magnitude-amount) → c.magnitude-amount.result ≡ magnitude_of c.args.s.amount
+amount-is c = simp (back c.args.s.amount c.struct_told-2-1.given.1.1.1.1.0.1) at c.magnitude-amount.ensures
 
 returns-2 : tie.Need-returns-then-kind-eq-FALLING
 unfolding kept_installments
@@ -55,12 +55,12 @@ returns-2 c =
     c.falling_due.ensures
     ∙ ap (λ (x : ℕ). due_if (falling_ok x s.args.s.rate s.args.s.count s.args.elapsed s.args.repaid) (owed s (falling x s.args.s.rate s.args.s.count))) (amount-is c.before.before)
     ∙ sym (answers (falling_ok_lem s.args.s (in_range s) s.args.elapsed s.args.repaid s.requires.elapsed_le_count.0 s.requires.elapsed_le_count.1 (terms-kept c.before.before.before.before)) refl)
-    ∙ by-terms s _ _ (not-false s.args.kept c.before.before.before.before.if-not-kept.false-raw) (on _ (eq-eqb _ 1 c.before.if-kind-eq-FALLING.true) refl)
+    ∙ by-terms s _ _ (not-false s.args.kept c.if-not-kept.false-raw) (on _ (eq-eqb _ 1 c.if-kind-eq-FALLING.true) refl)
 
-total-is : (c : tie.After-total-total) → c.total-total.result ≡ total_of (magnitude_of c.before.before.before.before.before.before.before.args.s.amount) c.before.before.before.before.before.before.before.args.s.rate
+total-is : (c : tie.After-total-total) → c.total-total.result ≡ total_of (magnitude_of c.args.s.amount) c.args.s.rate
 unfolding total_if
 total-is c =
-    let s = c.before.before.before.before.before.before.before.args.s in
+    let s = c.args.s in
     c.total-total.ensures ∙ ap (λ (m : ℕ). total_if m s.rate) (amount-is c.before.before) ∙ pick_on _ _ (total_ok s (terms-kept c.before.before.before.before))
 
 returns-3 : tie.Need-returns
@@ -68,28 +68,14 @@ unfolding kept_installments
 returns-3 c =
     let s = c.before.before.before.before.before.before.before.before in
     let k = terms-kept c.before.before.before.before.before in
-    let n = ne_eqb _ 1 c.before.before.if-kind-eq-FALLING.false in
+    let n = ne_eqb _ 1 c.if-kind-eq-FALLING.false in
     c.flat_due.ensures
-    ∙ ap (λ (x : ℕ). due_if (flat_ok s.args.s.count x c.before.total-total.result s.args.elapsed s.args.repaid) (owed s (flat s.args.s.count x c.before.total-total.result))) (stored c.before.before.before.before.before.before)
+    ∙ ap (λ (x : ℕ). due_if (flat_ok s.args.s.count x c.total-total.result s.args.elapsed s.args.repaid) (owed s (flat s.args.s.count x c.total-total.result))) (stored c.before.before.before.before.before.before)
     ∙ ap (λ (x : ℕ). due_if (flat_ok s.args.s.count (magnitude_of s.args.s.installment) x s.args.elapsed s.args.repaid) (owed s (flat s.args.s.count (magnitude_of s.args.s.installment) x))) (total-is c.before)
     ∙ sym (answers (flat_ok_lem s.args.s (in_range s) s.args.elapsed s.args.repaid s.requires.elapsed_le_count.0 s.requires.elapsed_le_count.1 k n) refl)
-    ∙ by-terms s _ _ (not-false s.args.kept c.before.before.before.before.before.if-not-kept.false-raw) (off _ n refl)
+    ∙ by-terms s _ _ (not-false s.args.kept c.if-not-kept.false-raw) (off _ n refl)
 
 pub due_of_spec : {M : Type 1} → statement M
 due_of_spec =
     tie.close
-    (tie.spec
-    (λ c κs. search rules)
-    (λ c. search rules)
-    (λ c κs. search rules)
-    returns
-    (λ c κs. search rules)
-    (λ c. search rules)
-    (λ c. search rules)
-    (λ c κs. search rules)
-    returns-2
-    (λ c. search rules)
-    (λ c κs. search rules)
-    (λ c. search rules)
-    (λ c κs. search rules)
-    returns-3)
+    (tie.spec (λ c κs. search rules) (λ c. search rules) (λ c κs. search rules) returns (λ c κs. search rules) (λ c. search rules) (λ c. search rules) (λ c κs. search rules) returns-2 (λ c. search rules) (λ c κs. search rules) (λ c. search rules) (λ c κs. search rules) returns-3)

@@ -23,8 +23,8 @@ start c = c.before.before.before
 abbrev ok : tie.Start → Bool
 ok s = (terms_ok s.args.t && count_ok s.args.count) && kind_listed true s.args.kind
 
-ok-is : (c : tie.After-kind_listed) → (c.before.before.terms_valid.result && c.before.count_valid.result) && c.kind_listed.result ≡ ok (start c)
-ok-is c = and_is (and_is c.before.before.terms_valid.ensures c.before.count_valid.ensures) c.kind_listed.ensures
+ok-is : (c : tie.After-kind_listed) → (c.terms_valid.result && c.count_valid.result) && c.kind_listed.result ≡ ok (start c)
+ok-is c = and_is (and_is c.terms_valid.ensures c.count_valid.ensures) c.kind_listed.ensures
 
 returns : tie.Need-returns-then-not-terms_valid-count_valid
 unfolding installment_of
@@ -41,7 +41,7 @@ count-ok : (c : tie.Else-not-terms_valid-count_valid) → count_ok (start c.befo
 count-ok c = (both (terms_ok (start c.before).args.t) _ (both _ _ (passed c)).0).1
 
 amount-is : (c : tie.After-magnitude) → c.magnitude.result ≡ magnitude_of (start c.before.before.before).args.t.amount
-amount-is c = simp (back (start c.before.before.before).args.t.amount c.before.struct_told-1.given.0.1) at c.magnitude.ensures
+amount-is c = simp (back (start c.before.before.before).args.t.amount c.struct_told-1.given.0.1) at c.magnitude.ensures
 
 first-of-requires : tie.Need-first_of-first-requires
 first-of-requires c κs =
@@ -63,12 +63,4 @@ returns-2 c = on _ (passed c.before.before.before) (ap (λ (z : ℤ). (0, z)) (t
 pub installment_spec : {M : Type 1} → statement M
 installment_spec =
     tie.close
-    (tie.spec
-    (λ c κs. search rules)
-    (λ c κs. search rules)
-    (λ c κs. search rules)
-    returns
-    (λ c κs. search rules)
-    first-of-requires
-    (λ c. record { sfits = omega (arith, small c) })
-    returns-2)
+    (tie.spec (λ c κs. search rules) (λ c κs. search rules) (λ c κs. search rules) returns (λ c κs. search rules) first-of-requires (λ c. record { sfits = omega (arith, small c) }) returns-2)

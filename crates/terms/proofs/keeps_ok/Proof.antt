@@ -27,8 +27,8 @@ priced c t = (t && leb 1 (start c).args.s.rate) && leb (start c).args.s.rate 100
 abbrev ranged : tie.After-kind_listed → Bool
 ranged c = priced c (in_amount (start c).args.s.amount) && kind_listed true (start c).args.s.kind
 
-ranged-is : (c : tie.After-kind_listed) → priced c c.before.in_amount_range-amount.result && c.kind_listed.result ≡ ranged c
-ranged-is c = and_is (ap (priced c) (simp (back (start c).args.s.amount c.before.before.struct_told-1.given.1.1.1.1.0.1) at c.before.in_amount_range-amount.ensures)) c.kind_listed.ensures
+ranged-is : (c : tie.After-kind_listed) → priced c c.in_amount_range-amount.result && c.kind_listed.result ≡ ranged c
+ranged-is c = and_is (ap (priced c) (simp (back (start c).args.s.amount c.struct_told-1.given.1.1.1.1.0.1) at c.in_amount_range-amount.ensures)) c.kind_listed.ensures
 
 abbrev same : tie.Start → Bool
 same s = same_amount s.args.s.installment (pos (first_of s.args.s.kind (magnitude_of s.args.s.amount) s.args.s.rate s.args.s.count))
@@ -49,7 +49,7 @@ price c =
     price_in s.amount s.rate s.count r.0 (leb-true _ _ r.1) (leb-true _ _ a.1) (start c.before).requires
 
 amount-is : (c : tie.After-magnitude) → c.magnitude.result ≡ magnitude_of (start c.before.before.before).args.s.amount
-amount-is c = simp (back (start c.before.before.before).args.s.amount c.before.struct_told-2-1.given.1.1.1.1.0.1) at c.magnitude.ensures
+amount-is c = simp (back (start c.before.before.before).args.s.amount c.struct_told-2-1.given.1.1.1.1.0.1) at c.magnitude.ensures
 
 first-of-requires : tie.Need-first_of-first-requires
 first-of-requires c κs = rw (amount-is c) (price c.before.before)
@@ -67,20 +67,11 @@ returns-2 : tie.Need-returns
 unfolding keeps_ok
 returns-2 c =
     let s = start c.before.before.before.before.before.before in
-    simp (back s.args.s.installment c.before.struct_told-3-1.given.1.1.0.1) at c.same_amount.ensures
+    simp (back s.args.s.installment c.struct_told-3-1.given.1.1.0.1) at c.same_amount.ensures
     ∙ ap (λ z. same_amount s.args.s.installment z) (to_z_pos w64 (omega (arith, small c.before.before)) ∙ ap pos (first-is c.before.before))
     ∙ sym (ap (λ (t : Bool). t && same s) (passed c.before.before.before.before.before))
 
 pub keeps_ok_spec : {M : Type 1} → statement M
 keeps_ok_spec =
     tie.close
-    (tie.spec
-    (λ c κs. search rules)
-    (λ c. search rules)
-    (λ c κs. search rules)
-    returns
-    (λ c κs. search rules)
-    first-of-requires
-    cast-same-amount
-    (λ c κs. search rules)
-    returns-2)
+    (tie.spec (λ c κs. search rules) (λ c. search rules) (λ c κs. search rules) returns (λ c κs. search rules) first-of-requires cast-same-amount (λ c κs. search rules) returns-2)

@@ -20,8 +20,4 @@ returns c = refl
 pub part_of_spec : {M : Type 1} → statement M
 part_of_spec =
     tie.close
-    (tie.spec
-    (λ c. search rules)
-    mul-result
-    add-result
-    returns)
+    (tie.spec (λ c. search rules) mul-result add-result returns)

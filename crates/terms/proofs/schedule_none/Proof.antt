@@ -6,11 +6,9 @@ use Rattle.terms.proofs.schedule_none.Tie as tie
 
 returns : tie.Need-returns
 unfolding schedule_none
-returns c = simp (simp (back c.before.before.args.s.installment c.before.struct_told-1.given.1.1.0.1) at c.is_zero-installment.ensures)
+returns c = simp (simp (back c.args.s.installment c.struct_told-1.given.1.1.0.1) at c.is_zero-installment.ensures)
 
 pub schedule_none_spec : {M : Type 1} → statement M
 schedule_none_spec =
     tie.close
-    (tie.spec
-    (λ c κs. search rules)
-    returns)
+    (tie.spec (λ c κs. search rules) returns)

@@ -16,32 +16,22 @@ abbrev zeros : List ℕ
 zeros = replicate 102 0
 
 abbrev whole : tie.After-encode_parts-e → List ℕ
-whole c = record_of c.before.before.before.args.edition c.before.before.before.args.tag c.before.before.before.args.numbers
+whole c = record_of c.args.edition c.args.tag c.args.numbers
 
 room : (c : tie.After-encode_parts-e) → length (whole c) ≤ length zeros
-room c = record_room c.before.before.before.args.edition c.before.before.before.args.tag c.before.before.before.args.numbers
+room c = record_room c.args.edition c.args.tag c.args.numbers
 
 put : (c : tie.After-encode_parts-e) {n : ℕ} → c.encode_parts-e.result ≡ Bytes n
     → (n ≤ length c.encode_parts-e.new.1.1.1.0) × (take n c.encode_parts-e.new.1.1.1.0 ≡ whole c)
 put c e = taken (whole c) zeros (room c) c.encode_parts-e.ensures.1 (count-is (whole c) zeros (room c) c.encode_parts-e.ensures.0 e)
 
 returns : tie.Need-returns-in_default
-returns c = let d = c.before.before.before in absurd (not_short (whole d) zeros (room d) d.encode_parts-e.ensures.0 c.in_default.is)
+returns c = let d = c.before.before in absurd (not_short (whole d) zeros (room d) d.encode_parts-e.ensures.0 c.in_default.is)
 
 returns-2 : tie.Need-returns
-returns-2 c = retext c.before.before.put.ensures (put c.before.before.before.before.before.before.before.before.before c.before.before.before.before.before.before.in-Bytes.is).1
+returns-2 c = retext c.put.ensures (put c.before.before.before.before.before.before.before c.in-Bytes.is).1
 
 pub put_record_spec : {M : Type 1} → statement M
 put_record_spec =
     tie.close
-    (tie.spec
-    (λ c. search rules)
-    (λ c κs. search rules)
-    (λ c. search rules)
-    (λ c. search rules)
-    returns
-    (λ c. (put c.before.before.before.before.before c.before.before.in-Bytes.is).0)
-    (λ c. sym (length-take-le _ _ (put c.before.before.before.before.before.before c.before.before.before.in-Bytes.is).0))
-    (λ c κs. search rules)
-    (λ c. search rules)
-    returns-2)
+    (tie.spec (λ c. search rules) (λ c κs. search rules) (λ c. search rules) (λ c. search rules) returns (λ c. (put c.before.before.before c.in-Bytes.is).0) (λ c. sym (length-take-le _ _ (put c.before.before.before.before c.in-Bytes.is).0)) (λ c κs. search rules) (λ c. search rules) returns-2)

@@ -24,77 +24,57 @@ decreases-loop s out₀ ink edition first pen₀ at₀ out pen at = length s - a
 
 -- the journal, its edition and its first record
 abbrev journal-of : tie.At-loop-c invariant-loop decreases-loop → List ℕ
-journal-of c = c.before.before.before.before.before.before.before.before.before.before.before.args.s.now
+journal-of c = c.args.s.now
 
 abbrev edition : tie.At-loop-c invariant-loop decreases-loop → ℕ
-edition c = c.before.before.before.before.before.before.in-Records.edition
+edition c = c.in-Records.edition
 
-opens : (c : tie.At-loop-c invariant-loop decreases-loop) → opening_of (journal-of c) ≡ good_header (edition c) c.before.before.before.before.before.before.in-Records.first
-opens c = sym c.before.before.before.before.before.before.before.before.header-h.ensures ∙ ap opening c.before.before.before.before.before.before.in-Records.is
+opens : (c : tie.At-loop-c invariant-loop decreases-loop) → opening_of (journal-of c) ≡ good_header (edition c) c.in-Records.first
+opens c = sym c.header-h.ensures ∙ ap opening c.in-Records.is
 
 -- what a call of `decode` gave
 stands : (c : tie.After-decode-d invariant-loop decreases-loop) {r : Reading} → reading c.decode-d.result ≡ r
-    → item_of (edition c.before) (read_at (edition c.before) (journal-of c.before) c.before.loop-c.at) ≡ item_of (edition c.before) r
+    → item_of (edition c.before) (read_at (edition c.before) (journal-of c.before) c.loop-c.at) ≡ item_of (edition c.before) r
 stands c e = ap (item_of (edition c.before)) (sym c.decode-d.ensures ∙ e)
 
 returns : tie.Need-returns-in_default invariant-loop decreases-loop
-returns c = bare _ _ _ (sym c.before.before.header-h.ensures ∙ ap opening c.in_default.is)
+returns c = bare _ _ _ (sym c.header-h.ensures ∙ ap opening c.in_default.is)
 
 loop-holds : tie.Need-loop-c-init invariant-loop decreases-loop
 unfolding records_from
-loop-holds c = (0, begins _ (records_headed _ (sym c.before.before.before.before.before.before.before.header-h.ensures ∙ ap opening c.before.before.before.before.before.in-Records.is)))
+loop-holds c = (0, begins _ (records_headed _ (sym c.header-h.ensures ∙ ap opening c.in-Records.is)))
 
 loop-less : tie.Need-loop-c-smaller invariant-loop decreases-loop
 loop-less c =
-    let d = c.before.before.before.before.before.before.before.before.before in
-    omega (arith, leads _ _ (onward (edition d.before) (journal-of d.before)) (stands d (ap reading c.before.before.before.before.before.before.before.in-Command.is)))
+    let d = c.before.before.before.before.before.before.before in
+    omega (arith, leads _ _ (onward (edition d.before) (journal-of d.before)) (stands d (ap reading c.in-Command.is)))
 
 loop-again : tie.Need-loop-c-preserved invariant-loop decreases-loop
 loop-again c =
-    let d = c.before.before.before.before.before.before.before.before.before in
-    let i = d.before.loop-c.invariant in (
+    let d = c.before.before.before.before.before.before.before in
+    let i = d.loop-c.invariant in (
       _,
-      goes_on (onward (edition d.before) (journal-of d.before)) i.1 (stands d (ap reading c.before.before.before.before.before.before.before.in-Command.is))
-          (retext c.before.before.put_line-pen.ensures (line_sent (edition d.before) _ c.before.before.before.before.before.split-parts.ensures)),
+      goes_on (onward (edition d.before) (journal-of d.before)) i.1 (stands d (ap reading c.in-Command.is))
+          (retext c.put_line-pen.ensures (line_sent (edition d.before) _ c.split-parts.ensures)),
     )
 
 -- the buffer keeps its length
-long : (c : tie.At-loop-c invariant-loop decreases-loop) → length c.loop-c.out-1 ≡ length c.before.before.before.before.before.before.before.before.before.before.before.args.out-1.now
-long c = c.loop-c.invariant.1.long ∙ kept c.before.before.before.put_title-pen.ensures
+long : (c : tie.At-loop-c invariant-loop decreases-loop) → length c.loop-c.out-1 ≡ length c.args.out-1.now
+long c = c.loop-c.invariant.1.long ∙ kept c.put_title-pen.ensures
 
 returns-2 : tie.Need-returns-in-Malformed invariant-loop decreases-loop
 returns-2 c =
-    let d = c.before.before in
+    let d = c.before in
     let l = d.before in
-    told (journal-of l) (opens l) l.before.before.before.put_title-pen.ensures (stops (onward (edition l) (journal-of l)) l.loop-c.invariant.1 (stands d (ap reading c.in-Malformed.is)))
+    told (journal-of l) (opens l) l.put_title-pen.ensures (stops (onward (edition l) (journal-of l)) l.loop-c.invariant.1 (stands d (ap reading c.in-Malformed.is)))
 
 returns-3 : tie.Need-returns-in-End invariant-loop decreases-loop
 returns-3 c =
-    let d = c.before.before in
+    let d = c.before in
     let l = d.before in
-    told (journal-of l) (opens l) l.before.before.before.put_title-pen.ensures (ends (onward (edition l) (journal-of l)) l.loop-c.invariant.1 (stands d (ap reading c.in-End.is)))
+    told (journal-of l) (opens l) l.put_title-pen.ensures (ends (onward (edition l) (journal-of l)) l.loop-c.invariant.1 (stands d (ap reading c.in-End.is)))
 
 pub tell_spec : {M : Type 1} → statement M
 tell_spec =
     tie.close
-    (tie.spec
-    invariant-loop
-    decreases-loop
-    (λ c κs. search rules)
-    (λ c. search rules)
-    (λ c. search rules)
-    returns
-    (λ c κs. search rules)
-    loop-holds
-    (λ c κs. search rules)
-    (λ c. search rules)
-    (λ c κs. search rules)
-    (λ c κs. search rules)
-    loop-less
-    loop-again
-    (λ c. search rules)
-    (λ c. long c.before.before.before)
-    returns-2
-    (λ c. search rules)
-    (λ c. long c.before.before.before)
-    returns-3)
+    (tie.spec invariant-loop decreases-loop (λ c κs. search rules) (λ c. search rules) (λ c. search rules) returns (λ c κs. search rules) loop-holds (λ c κs. search rules) (λ c. search rules) (λ c κs. search rules) (λ c κs. search rules) loop-less loop-again (λ c. search rules) (λ c. long c.before.before) returns-2 (λ c. search rules) (λ c. long c.before.before) returns-3)

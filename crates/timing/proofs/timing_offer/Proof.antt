@@ -42,16 +42,4 @@ returns c = search rules
 pub timing_offer_spec : {M : Type 1} → statement M
 timing_offer_spec =
     tie.close
-    (tie.spec
-    invariant-loop
-    decreases-loop
-    replay-requires
-    loop-holds
-    get-offer-requires
-    enum-known-r
-    enum_told
-    enum-told-2
-    add-i
-    loop-less
-    loop-again
-    returns)
+    (tie.spec invariant-loop decreases-loop replay-requires loop-holds get-offer-requires enum-known-r enum_told enum-told-2 add-i loop-less loop-again returns)

@@ -9,15 +9,15 @@ use borrow.Author.Rules.{rules}
 use Rattle.account.proofs.Account.credit.Statement.{statement}
 use Rattle.account.proofs.Account.credit.Tie as tie
 
-moved : (c : tie.After-shift-moved) → c.shift-moved.result ≡ moved_of c.before.before.before.before.args.self.purse-1.balance c.before.before.before.before.args.t.amount
-moved c = simp (back c.before.before.before.before.args.self.purse-1.balance (search rules), back c.before.before.before.before.args.t.amount (search rules)) at c.shift-moved.ensures
+moved : (c : tie.After-shift-moved) → c.shift-moved.result ≡ moved_of c.args.self.purse-1.balance c.args.t.amount
+moved c = simp (back c.args.self.purse-1.balance (search rules), back c.args.t.amount (search rules)) at c.shift-moved.ensures
 
 returns : tie.Need-returns
 returns c =
-    let a = c.before.before.before.before.before.before.args in
+    let a = c.args in
     let m = moved c.before.before in
     c.repursed.ensures
-    ∙ moves_purse a.self out_of_range (gains a.t.amount) (move_tells _ _ m) (λ h. rw (back c.before.before.shift-moved.result.total (search rules), move_makes _ _ m h))
+    ∙ moves_purse a.self out_of_range (gains a.t.amount) (move_tells _ _ m) (λ h. rw (back c.shift-moved.result.total (search rules), move_makes _ _ m h))
 
 pub credit_spec : {M : Type 1} → statement M
 credit_spec = tie.close (tie.spec (λ c κs. search rules) (λ c κs. search rules) returns)

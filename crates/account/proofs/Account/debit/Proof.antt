@@ -14,26 +14,26 @@ use borrow.Author.Rules.{rules}
 use Rattle.account.proofs.Account.debit.Statement.{statement}
 use Rattle.account.proofs.Account.debit.Tie as tie
 
-allowed : (c : tie.After-lower-allowed) → c.lower-allowed.result ≡ moved_of c.before.before.before.before.args.self.purse-1.allowance (neg_ℤ c.before.before.before.before.args.t.amount)
-allowed c = simp (back c.before.before.before.before.args.self.purse-1.allowance (search rules), back c.before.before.before.before.args.t.amount (search rules)) at c.lower-allowed.ensures
+allowed : (c : tie.After-lower-allowed) → c.lower-allowed.result ≡ moved_of c.args.self.purse-1.allowance (neg_ℤ c.args.t.amount)
+allowed c = simp (back c.args.self.purse-1.allowance (search rules), back c.args.t.amount (search rules)) at c.lower-allowed.ensures
 
-moved : (c : tie.After-lower-moved) → c.lower-moved.result ≡ moved_of c.before.before.before.before.before.before.before.before.before.args.self.purse-1.balance (neg_ℤ c.before.before.before.before.before.before.before.before.before.args.t.amount)
-moved c = simp (back c.before.before.before.before.before.before.before.before.before.args.self.purse-1.balance (search rules), back c.before.before.before.before.before.before.before.before.before.args.t.amount (search rules)) at c.lower-moved.ensures
+moved : (c : tie.After-lower-moved) → c.lower-moved.result ≡ moved_of c.args.self.purse-1.balance (neg_ℤ c.args.t.amount)
+moved c = simp (back c.args.self.purse-1.balance (search rules), back c.args.t.amount (search rules)) at c.lower-moved.ensures
 
 returns : tie.Need-returns-then-not-allowed
 returns c =
     c.refused.ensures
-    ∙ refuses posted allowance_short _ _ _ (ap not (sym (move_tells _ _ (allowed c.before.before.before))) ∙ c.before.if-not-allowed.true)
+    ∙ refuses posted allowance_short _ _ _ (ap not (sym (move_tells _ _ (allowed c.before.before.before))) ∙ c.if-not-allowed.true)
 
 returns-2 : tie.Need-returns
 returns-2 c =
-    let a = c.before.before.before.before.before.before.before.before.before.before.before.before.args in
+    let a = c.args in
     let l = allowed c.before.before.before.before.before.before.before.before in
     let m = moved c.before.before.before in
     c.repursed.ensures ∙ (
-    goes_on posted allowance_short _ _ _ (ap not (sym (move_tells _ _ l)) ∙ c.before.before.before.before.before.before.if-not-allowed.false)
+    goes_on posted allowance_short _ _ _ (ap not (sym (move_tells _ _ l)) ∙ c.if-not-allowed.false)
     (moves_purse a.self balance_short (pays (neg_ℤ a.t.amount)) (move_tells _ _ m)
-    (λ h. rw (back c.before.before.before.before.before.before.before.before.lower-allowed.result.total (search rules), back c.before.before.before.lower-moved.result.total (search rules), move_makes _ _ l (not-false _ c.before.before.before.before.before.before.if-not-allowed.false), move_makes _ _ m h))))
+    (λ h. rw (back c.lower-allowed.result.total (search rules), back c.lower-moved.result.total (search rules), move_makes _ _ l (not-false _ c.if-not-allowed.false), move_makes _ _ m h))))
 
 pub debit_spec : {M : Type 1} → statement M
 debit_spec =

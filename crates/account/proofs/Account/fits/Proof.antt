@@ -3,10 +3,10 @@ use Rattle.account.proofs.Account.fits.Statement.{statement}
 use Rattle.account.proofs.Account.fits.Tie as tie
 
 returns : tie.Need-returns-then-used
-returns c = rw c.before.if-used.true c.sound.ensures
+returns c = rw c.if-used.true c.sound.ensures
 
 returns-2 : tie.Need-returns
-returns-2 c = rw c.before.if-used.false c.zero.ensures
+returns-2 c = rw c.if-used.false c.zero.ensures
 
 pub fits_spec : {M : Type 1} → statement M
 fits_spec = tie.close (tie.spec (λ c κs. search rules) returns (λ c κs. search rules) returns-2)

@@ -11,26 +11,26 @@ use borrow.Author.Rules.{rules}
 use Rattle.account.proofs.Account.offer.Statement.{statement}
 use Rattle.account.proofs.Account.offer.Tie as tie
 
-moved : (c : tie.After-shift-moved) → c.shift-moved.result ≡ moved_of c.before.before.before.before.args.self.purse-1.offered c.before.before.before.before.args.t.amount
-moved c = simp (back c.before.before.before.before.args.self.purse-1.offered (search rules), back c.before.before.before.before.args.t.amount (search rules)) at c.shift-moved.ensures
+moved : (c : tie.After-shift-moved) → c.shift-moved.result ≡ moved_of c.args.self.purse-1.offered c.args.t.amount
+moved c = simp (back c.args.self.purse-1.offered (search rules), back c.args.t.amount (search rules)) at c.shift-moved.ensures
 
 returns : tie.Need-returns-then-not-moved
 returns c =
     c.refused.ensures
-    ∙ refuses posted out_of_range _ _ _ (ap not (sym (move_tells _ _ (moved c.before.before.before))) ∙ c.before.if-not-moved.true)
+    ∙ refuses posted out_of_range _ _ _ (ap not (sym (move_tells _ _ (moved c.before.before.before))) ∙ c.if-not-moved.true)
 
 returns-2 : tie.Need-returns-then-count-ge-COUNT_LIMIT
 returns-2 c =
     c.refused-then-count-ge-COUNT_LIMIT.ensures ∙ (
-    goes_on posted out_of_range _ _ _ (ap not (sym (move_tells _ _ (moved c.before.before.before.before))) ∙ c.before.before.if-not-moved.false)
-    (refuses posted out_of_range _ _ _ (le-leb _ _ c.before.if-count-ge-COUNT_LIMIT.true)))
+    goes_on posted out_of_range _ _ _ (ap not (sym (move_tells _ _ (moved c.before.before.before.before))) ∙ c.if-not-moved.false)
+    (refuses posted out_of_range _ _ _ (le-leb _ _ c.if-count-ge-COUNT_LIMIT.true)))
 
 returns-3 : tie.Need-returns
 returns-3 c =
     let m = moved c.before.before.before.before in
-    goes_on posted out_of_range _ _ _ (ap not (sym (move_tells _ _ m)) ∙ c.before.before.if-not-moved.false)
-    (goes_on posted out_of_range _ _ _ (lt-leb _ _ c.before.if-count-ge-COUNT_LIMIT.false)
-    (does posted _ _ (rw (back c.before.before.before.before.shift-moved.result.total (search rules), move_makes _ _ m (not-false _ c.before.before.if-not-moved.false)))))
+    goes_on posted out_of_range _ _ _ (ap not (sym (move_tells _ _ m)) ∙ c.if-not-moved.false)
+    (goes_on posted out_of_range _ _ _ (lt-leb _ _ c.if-count-ge-COUNT_LIMIT.false)
+    (does posted _ _ (rw (back c.shift-moved.result.total (search rules), move_makes _ _ m (not-false _ c.if-not-moved.false)))))
 
 pub offer_spec : {M : Type 1} → statement M
 offer_spec =

@@ -4,10 +4,10 @@ use Rattle.account.proofs.Account.over.Statement.{statement}
 use Rattle.account.proofs.Account.over.Tie as tie
 
 returns : tie.Need-returns-then-not-here
-returns c = written_old c.before.args.here c.before.args.self c.before.args.old (not-true _ c.if-not-here.true-raw)
+returns c = written_old c.args.here c.args.self c.args.old (not-true _ c.if-not-here.true-raw)
 
 returns-2 : tie.Need-returns
-returns-2 c = written_new c.before.args.here c.before.args.self c.before.args.old (not-false _ c.if-not-here.false-raw)
+returns-2 c = written_new c.args.here c.args.self c.args.old (not-false _ c.if-not-here.false-raw)
 
 pub over_spec : {M : Type 1} → statement M
 over_spec = tie.close (tie.spec returns returns-2)

@@ -14,22 +14,22 @@ use borrow.Author.Rules.{rules}
 use Rattle.account.proofs.Account.payout.Statement.{statement}
 use Rattle.account.proofs.Account.payout.Tie as tie
 
-amount_in : (c : tie.After-in_amount_range) → c.in_amount_range.result ≡ in_amount c.before.args.amount
-amount_in c = simp (to_z-of_z c.before.ranges.amount) at c.in_amount_range.ensures
+amount_in : (c : tie.After-in_amount_range) → c.in_amount_range.result ≡ in_amount c.args.amount
+amount_in c = simp (to_z-of_z c.ranges.amount) at c.in_amount_range.ensures
 
-moved : (c : tie.After-lower-moved) → c.lower-moved.result ≡ moved_of c.before.before.before.before.before.args.self.purse-1.balance (neg_ℤ c.before.before.before.before.before.args.amount)
-moved c = simp (back c.before.before.before.before.before.args.self.purse-1.balance (search rules), to_z-of_z c.before.before.before.before.before.ranges.amount) at c.lower-moved.ensures
+moved : (c : tie.After-lower-moved) → c.lower-moved.result ≡ moved_of c.args.self.purse-1.balance (neg_ℤ c.args.amount)
+moved c = simp (back c.args.self.purse-1.balance (search rules), to_z-of_z c.ranges.amount) at c.lower-moved.ensures
 
 returns : tie.Need-returns-then-not-in_amount_range
-returns c = c.refused.ensures ∙ refuses posted invalid_input _ _ _ (ap not (sym (amount_in c.before.before)) ∙ c.before.if-not-in_amount_range.true-raw)
+returns c = c.refused.ensures ∙ refuses posted invalid_input _ _ _ (ap not (sym (amount_in c.before.before)) ∙ c.if-not-in_amount_range.true-raw)
 
 returns-2 : tie.Need-returns
 returns-2 c =
-    let a = c.before.before.before.before.before.before.before.args in
+    let a = c.args in
     let m = moved c.before.before in
     c.repursed.ensures ∙ (
-    goes_on posted invalid_input _ _ _ (ap not (sym (amount_in c.before.before.before.before.before.before)) ∙ c.before.before.before.before.before.if-not-in_amount_range.false-raw)
-    (moves_purse a.self balance_short (gains (neg_ℤ a.amount)) (move_tells _ _ m) (λ h. rw (back c.before.before.lower-moved.result.total (search rules), move_makes _ _ m h))))
+    goes_on posted invalid_input _ _ _ (ap not (sym (amount_in c.before.before.before.before.before.before)) ∙ c.if-not-in_amount_range.false-raw)
+    (moves_purse a.self balance_short (gains (neg_ℤ a.amount)) (move_tells _ _ m) (λ h. rw (back c.lower-moved.result.total (search rules), move_makes _ _ m h))))
 
 pub payout_spec : {M : Type 1} → statement M
 payout_spec =

@@ -12,12 +12,12 @@ use Rattle.account.proofs.Account.reoffer.Statement.{statement}
 use Rattle.account.proofs.Account.reoffer.Tie as tie
 
 -- what the posting comes to
-moved : (c : tie.After-posted_to-moved) → c.posted_to-moved.result ≡ posted_to c.before.before.before.before.args.self.purse-1 (c.before.before.before.before.args.new.amount -ℤ c.before.before.before.before.args.old.amount)
-moved c = simp (back c.before.before.before.before.args.old.amount (search rules), back c.before.before.before.before.args.new.amount (search rules)) at c.posted_to-moved.ensures
+moved : (c : tie.After-posted_to-moved) → c.posted_to-moved.result ≡ posted_to c.args.self.purse-1 (c.args.new.amount -ℤ c.args.old.amount)
+moved c = simp (back c.args.old.amount (search rules), back c.args.new.amount (search rules)) at c.posted_to-moved.ensures
 
 returns : tie.Need-returns
 returns c =
-    let a = c.before.before.before.before.before.args in
+    let a = c.args in
     let m = moved c.before in
     let ok = ap (λ (z : MovedPurse). z.ok) m in
     c.repursed.ensures

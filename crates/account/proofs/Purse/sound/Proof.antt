@@ -6,10 +6,10 @@ use Rattle.account.proofs.Purse.sound.Tie as tie
 
 returns : tie.Need-returns
 unfolding purse_sound
-returns c = let p = c.before.before.before.before.before.before.before.before.args.self in rw (
-  simp (back p.balance (search rules)) at c.before.before.before.before.before.before.in_total_range-balance.ensures,
-  simp (back p.allowance (search rules)) at c.before.before.before.before.in_total_range-allowance.ensures,
-  simp (back p.offered (search rules)) at c.before.before.in_total_range-offered.ensures,
+returns c = let p = c.args.self in rw (
+  simp (back p.balance (search rules)) at c.in_total_range-balance.ensures,
+  simp (back p.allowance (search rules)) at c.in_total_range-allowance.ensures,
+  simp (back p.offered (search rules)) at c.in_total_range-offered.ensures,
   simp (back p.accepted (search rules)) at c.in_total_range-accepted.ensures,
 )
 

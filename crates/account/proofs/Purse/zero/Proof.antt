@@ -6,10 +6,10 @@ use Rattle.account.proofs.Purse.zero.Tie as tie
 
 returns : tie.Need-returns
 unfolding purse_zero
-returns c = let p = c.before.before.before.before.before.before.before.before.args.self in rw (
-  simp (back p.balance (search rules)) at c.before.before.before.before.before.before.is_zero-balance.ensures,
-  simp (back p.allowance (search rules)) at c.before.before.before.before.is_zero-allowance.ensures,
-  simp (back p.offered (search rules)) at c.before.before.is_zero-offered.ensures,
+returns c = let p = c.args.self in rw (
+  simp (back p.balance (search rules)) at c.is_zero-balance.ensures,
+  simp (back p.allowance (search rules)) at c.is_zero-allowance.ensures,
+  simp (back p.offered (search rules)) at c.is_zero-offered.ensures,
   simp (back p.accepted (search rules)) at c.is_zero-accepted.ensures,
 )
 

@@ -29,39 +29,23 @@ loop-holds c = none _ _ _
 
 loop-again : tie.Need-loop-i-preserved invariant-loop decreases-loop
 loop-again c =
-    let u = c.before.before.before.before.before.in_use-used.ensures in
-    let l = c.before.before.before.before.loop-i in
-    let h = c.before.before.before.loop-i-test.true in
-    let a = c.before.before.before.before.before.before.before.args in
+    let u = c.in_use-used.ensures in
+    let l = c.loop-i in
+    let h = c.loop-i-test.true in
+    let a = c.args in
     let e = asked u l.i h a.w in
     ⊎_elim
     (λ x. rw (x.7, x.8) (retext (next l.invariant x.4.ensures)
     (ap (λ (z : List ℕ). spread offer_line (pick_from (taking a.w) 0 (take l.i (offers_of a.t4))) ++ z) (ap (λ (o : OfferNumbers). row_of (in_order o)) x.2.ensures ∙ ap offer_line (sym (entry u l.i h)))
-    ∙ sym (taken offer_line (taking a.w) _ l.i rows.none (inside u l.i h) (e _ _ c.before.takes.ensures x.0.taken)))))
-    (λ x. rw (x.1, x.2) (retext l.invariant (sym (left_out offer_line (taking a.w) _ l.i rows.none (inside u l.i h) (e _ _ c.before.takes.ensures x.0.left)))))
+    ∙ sym (taken offer_line (taking a.w) _ l.i rows.none (inside u l.i h) (e _ _ c.takes.ensures x.0.taken)))))
+    (λ x. rw (x.1, x.2) (retext l.invariant (sym (left_out offer_line (taking a.w) _ l.i rows.none (inside u l.i h) (e _ _ c.takes.ensures x.0.left)))))
     c.if-takes.branch
 
 returns : tie.Need-returns invariant-loop decreases-loop
 unfolding offer_lines
-returns c = retext c.before.loop-i.invariant (ap (λ t. spread offer_line (pick_from (taking c.before.before.before.before.args.w) 0 t)) (take_all _ _ (past c.before.before.in_use-used.ensures _ c.loop-i-test.false)))
+returns c = retext c.loop-i.invariant (ap (λ t. spread offer_line (pick_from (taking c.args.w) 0 t)) (take_all _ _ (past c.in_use-used.ensures _ c.loop-i-test.false)))
 
 pub put_offers_spec : {M : Type 1} → statement M
 put_offers_spec =
     tie.close
-    (tie.spec
-    invariant-loop
-    decreases-loop
-    (λ c κs. search rules)
-    loop-holds
-    (λ c. search rules)
-    (λ c. search rules)
-    (λ c κs. search rules)
-    (λ c. search rules)
-    (λ c. search rules)
-    (λ c κs. search rules)
-    (λ c κs. search rules)
-    (λ c. search rules)
-    (λ c. search rules)
-    loop-again
-    (λ c. kept c.before.loop-i.invariant)
-    returns)
+    (tie.spec invariant-loop decreases-loop (λ c κs. search rules) loop-holds (λ c. search rules) (λ c. search rules) (λ c κs. search rules) (λ c. search rules) (λ c. search rules) (λ c κs. search rules) (λ c κs. search rules) (λ c. search rules) (λ c. search rules) loop-again (λ c. kept c.loop-i.invariant) returns)

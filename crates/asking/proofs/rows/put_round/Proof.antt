@@ -8,17 +8,10 @@ use Rattle.asking.proofs.rows.put_round.Tie as tie
 
 returns : tie.Need-returns
 returns c =
-    let amount = c.before.before.before.before.before.before.before.bits-amount.ensures ∙ ap bits_of (back c.before.before.before.before.before.before.before.before.before.before.args.r.amount (search rules)) in
-    retext c.before.before.put_row.ensures (cc)
+    let amount = c.bits-amount.ensures ∙ ap bits_of (back c.args.r.amount (search rules)) in
+    retext c.put_row.ensures (cc)
 
 pub put_round_spec : {M : Type 1} → statement M
 put_round_spec =
     tie.close
-    (tie.spec
-    (λ c κs. search rules)
-    (λ c. search rules)
-    (λ c. search rules)
-    (λ c. search rules)
-    (λ c κs. search rules)
-    (λ c. search rules)
-    returns)
+    (tie.spec (λ c κs. search rules) (λ c. search rules) (λ c. search rules) (λ c. search rules) (λ c κs. search rules) (λ c. search rules) returns)

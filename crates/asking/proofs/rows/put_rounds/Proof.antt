@@ -29,35 +29,21 @@ loop-holds c = (search rules, search rules, none _ _ _)
 returns : tie.Need-returns-then-len-i invariant-loop decreases-loop
 unfolding round_lines
 returns c =
-    let e : c.before.before.loop-i.i ≡ c.before.before.before.before.args.g.len = omega arith in
-    rw e at c.before.before.loop-i.invariant.2
+    let e : c.loop-i.i ≡ c.args.g.len = omega arith in
+    rw e at c.loop-i.invariant.2
 
 loop-again : tie.Need-loop-i-preserved invariant-loop decreases-loop
 loop-again c =
-    let l = c.before.before.before.before.before.before.before.loop-i in
-    (search rules, search rules, retext (next l.invariant.2 c.before.before.put_round-p.ensures) (sym (spread_turn round_line _ l.i no_round (omega (arith, long c.before.before.before.before.before.before.before.before.before)))))
+    let l = c.loop-i in
+    (search rules, search rules, retext (next l.invariant.2 c.put_round-p.ensures) (sym (spread_turn round_line _ l.i no_round (omega (arith, long c.before.before.before.before.before.before.before.before.before)))))
 
 returns-2 : tie.Need-returns invariant-loop decreases-loop
 unfolding round_lines
 returns-2 c =
-    let l = c.before.loop-i in
-    retext l.invariant.2 (ap (spread round_line) (take_most _ l.i c.before.before.before.args.g.len (omega (arith, long c.before.before.before)) (omega (arith, long c.before.before.before))))
+    let l = c.loop-i in
+    retext l.invariant.2 (ap (spread round_line) (take_most _ l.i c.args.g.len (omega (arith, long c.before.before.before)) (omega (arith, long c.before.before.before))))
 
 pub put_rounds_spec : {M : Type 1} → statement M
 put_rounds_spec =
     tie.close
-    (tie.spec
-    invariant-loop
-    decreases-loop
-    loop-holds
-    (λ c. kept c.before.before.loop-i.invariant.2)
-    returns
-    (λ c. search rules)
-    (λ c. search rules)
-    (λ c. search rules)
-    (λ c κs. search rules)
-    (λ c. search rules)
-    (λ c. search rules)
-    loop-again
-    (λ c. kept c.before.loop-i.invariant.2)
-    returns-2)
+    (tie.spec invariant-loop decreases-loop loop-holds (λ c. kept c.loop-i.invariant.2) returns (λ c. search rules) (λ c. search rules) (λ c. search rules) (λ c κs. search rules) (λ c. search rules) (λ c. search rules) loop-again (λ c. kept c.loop-i.invariant.2) returns-2)

@@ -11,11 +11,11 @@ use Rattle.book.proofs.Book.fresh.Tie as tie
 
 returns : tie.Need-returns-then-not-is_listed
 unfolding fresh_book
-returns c = off _ (sym c.before.before.is_listed.ensures ∙ not-true _ c.before.if-not-is_listed.true-raw) (ap (λ (b : Book). record { answer = number journal_malformed; book = b }) c.of_edition-book.ensures)
+returns c = off _ (sym c.is_listed.ensures ∙ not-true _ c.if-not-is_listed.true-raw) (ap (λ (b : Book). record { answer = number journal_malformed; book = b }) c.of_edition-book.ensures)
 
 returns-2 : tie.Need-returns
 unfolding fresh_book
-returns-2 c = on _ (sym c.before.before.is_listed.ensures ∙ not-false _ c.before.if-not-is_listed.false-raw) (ap (λ (b : Book). record { answer = 0; book = b }) c.of_edition-book-2.ensures)
+returns-2 c = on _ (sym c.is_listed.ensures ∙ not-false _ c.if-not-is_listed.false-raw) (ap (λ (b : Book). record { answer = 0; book = b }) c.of_edition-book-2.ensures)
 
 pub fresh_spec : {M : Type 1} → statement M
 fresh_spec =

@@ -5,8 +5,8 @@ use Rattle.book.specs.Turning.{Turned, turned, fetched, counts_by_lem, accounts_
 use Rattle.book.proofs.Book.obey.Statement.{statement}
 use Rattle.book.proofs.Book.obey.Tie as tie
 
-step : (c : tie.After-turn-turn) → Turned c.before.before.before.before.before.before.before.before.before.before.before.before.before.before.before.before.before.args.self c.before.before.before.before.before.before.before.before.before.before.before.before.before.before.before.before.before.args.c (keys_by c.before.before.before.before.before.before.before.before.before.before.before.before.before.before.before.before.names-names.result.first-1 c.before.before.before.before.before.before.before.key-other.result c.before.before.before.before.before.before.before.before.before.before.before.key-key.result c.before.before.before.before.before.before.before.before.before.before.before.before.before.before.before.before.names-names.result.offer-1) c.turn-turn.result
-step c = turned c.before.before.before.before.before.before.before.before.before.before.before.before.before.before.before.before.before.requires (fetched c.before.before.before.before.before.before.before.before.before.before.before.before.before.before.before.before.names-names.ensures c.before.before.before.before.before.before.before.before.before.before.before.before.before.before.see-deal.ensures c.before.before.before.before.before.before.before.before.before.before.before.key-key.ensures c.before.before.before.before.before.before.before.before.before.see-paper.ensures c.before.before.before.before.before.before.before.key-other.ensures c.before.before.before.before.before.see-seen.ensures c.before.before.before.before.see-b.ensures c.before.before.before.same-one.ensures) (counts_by_lem c.before.before.before.before.before.before.before.before.before.before.before.before.before.before.before.before.before.requires) c.turn-turn.ensures
+step : (c : tie.After-turn-turn) → Turned c.args.self c.args.c (keys_by c.names-names.result.first-1 c.key-other.result c.key-key.result c.names-names.result.offer-1) c.turn-turn.result
+step c = turned c.requires (fetched c.names-names.ensures c.see-deal.ensures c.key-key.ensures c.see-paper.ensures c.key-other.ensures c.see-seen.ensures c.see-b.ensures c.same-one.ensures) (counts_by_lem c.requires) c.turn-turn.ensures
 
 names-requires : tie.Need-names-names-requires
 names-requires c κs = search rules
@@ -36,31 +36,18 @@ turn-requires : tie.Need-turn-turn-requires
 turn-requires c κs = search rules
 
 store-requires : tie.Need-store-more-requires
-store-requires c κs = c.before.before.before.before.before.before.before.before.before.before.before.before.before.before.before.before.before.before.before.before.before.before.requires.accounts-1
+store-requires c κs = c.requires.accounts-1
 
 store-requires-2 : tie.Need-store-papers-requires
-store-requires-2 c κs = c.before.before.before.before.before.before.before.before.before.before.before.before.before.before.before.before.before.before.before.before.before.before.before.requires.invoices-1
+store-requires-2 c κs = c.requires.invoices-1
 
 store-requires-3 : tie.Need-store-deals-requires
-store-requires-3 c κs = c.before.before.before.before.before.before.before.before.before.before.before.before.before.before.before.before.before.before.before.before.before.before.before.before.requires.offers-1
+store-requires-3 c κs = c.requires.offers-1
 
 returns : tie.Need-returns
-returns c = steps (step c.before.before.before.before.before.before.before.before.before.before) (c.before.before.before.before.store-more.ensures _ (accounts_left (step c.before.before.before.before.before.before.before.before.before.before) refl)) (c.before.before.before.store-papers.ensures _ (invoices_left (step c.before.before.before.before.before.before.before.before.before.before) refl)) (c.before.before.store-deals.ensures _ (offers_left (step c.before.before.before.before.before.before.before.before.before.before) refl))
+returns c = steps (step c.before.before.before.before.before.before.before.before.before.before) (c.store-more.ensures _ (accounts_left (step c.before.before.before.before.before.before.before.before.before.before) refl)) (c.store-papers.ensures _ (invoices_left (step c.before.before.before.before.before.before.before.before.before.before) refl)) (c.store-deals.ensures _ (offers_left (step c.before.before.before.before.before.before.before.before.before.before) refl))
 
 pub obey_spec : {M : Type 1} → statement M
 obey_spec =
     tie.close
-    (tie.spec
-    names-requires
-    see-requires
-    key-requires
-    see-requires-2
-    key-requires-2
-    see-requires-3
-    see-requires-4
-    same-requires
-    turn-requires
-    store-requires
-    store-requires-2
-    store-requires-3
-    returns)
+    (tie.spec names-requires see-requires key-requires see-requires-2 key-requires-2 see-requires-3 see-requires-4 same-requires turn-requires store-requires store-requires-2 store-requires-3 returns)

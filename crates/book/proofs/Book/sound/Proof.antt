@@ -9,16 +9,10 @@ use Rattle.book.proofs.Book.sound.Tie as tie
 returns : tie.Need-returns
 unfolding book_test
 returns c =
-    let t = both_same (both_same (both_same (both_same c.before.before.before.before.before.before.before.before.sound-accounts_sound.ensures.tested c.before.before.before.before.before.before.sound-invoices_sound.ensures.tested) c.before.before.before.sound-offers_sound.ensures.tested) c.before.sound-totals_sound.ensures) c.sound-settings_sound.ensures in
-    (t, λ h. shelved_of c.before.before.before.before.before.before.before.before.before.before.args.self c.before.before.before.before.before.before.before.before.sound-accounts_sound.ensures.sized c.before.before.before.before.before.before.sound-invoices_sound.ensures.sized c.before.before.before.sound-offers_sound.ensures.whole (sym t ∙ h))
+    let t = both_same (both_same (both_same (both_same c.sound-accounts_sound.ensures.tested c.sound-invoices_sound.ensures.tested) c.sound-offers_sound.ensures.tested) c.sound-totals_sound.ensures) c.sound-settings_sound.ensures in
+    (t, λ h. shelved_of c.args.self c.sound-accounts_sound.ensures.sized c.sound-invoices_sound.ensures.sized c.sound-offers_sound.ensures.whole (sym t ∙ h))
 
 pub sound_spec : {M : Type 1} → statement M
 sound_spec =
     tie.close
-    (tie.spec
-    (λ c κs. search rules)
-    (λ c κs. search rules)
-    (λ c κs. search rules)
-    (λ c κs. search rules)
-    (λ c κs. search rules)
-    returns)
+    (tie.spec (λ c κs. search rules) (λ c κs. search rules) (λ c κs. search rules) (λ c κs. search rules) (λ c κs. search rules) returns)

@@ -4,7 +4,7 @@ use Rattle.book.proofs.Book.update_offer_amount_repaid.Statement.{statement}
 use Rattle.book.proofs.Book.update_offer_amount_repaid.Tie as tie
 
 returns : tie.Need-returns
-returns c = simp (to_z-of_z c.before.ranges.amount) at c.apply.ensures
+returns c = simp (to_z-of_z c.ranges.amount) at c.apply.ensures
 
 pub update_offer_amount_repaid_spec : {M : Type 1} → statement M
 update_offer_amount_repaid_spec = tie.close (tie.spec (λ c κs. search rules) returns)

@@ -6,7 +6,7 @@ use Rattle.invoice.proofs.Invoice.sound.Tie as tie
 
 returns : tie.Need-returns
 unfolding invoice_sound
-returns c = rw (simp (back c.before.before.args.self.amount (search rules)) at c.in_amount_range-a.ensures)
+returns c = rw (simp (back c.args.self.amount (search rules)) at c.in_amount_range-a.ensures)
 
 pub sound_spec : {M : Type 1} → statement M
 sound_spec = tie.close (tie.spec (λ c κs. search rules) returns)

@@ -6,7 +6,7 @@ use Rattle.invoice.proofs.Invoice.zero.Tie as tie
 
 returns : tie.Need-returns
 unfolding invoice_zero
-returns c = rw (simp (back c.before.before.args.self.amount (search rules)) at c.is_zero-zero.ensures)
+returns c = rw (simp (back c.args.self.amount (search rules)) at c.is_zero-zero.ensures)
 
 pub zero_spec : {M : Type 1} → statement M
 zero_spec = tie.close (tie.spec (λ c κs. search rules) returns)

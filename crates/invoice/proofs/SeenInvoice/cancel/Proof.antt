@@ -12,19 +12,19 @@ returns c = refuses posted not_found _ _ _ c.if-not-self.true
 
 returns-2 : tie.Need-returns-then-originator-caller
 returns-2 c =
-    goes_on posted not_found _ _ _ c.before.if-not-self.false
+    goes_on posted not_found _ _ _ c.if-not-self.false
     (refuses posted unauthorized _ _ _ (not_on (ne_eqb _ _ c.if-originator-caller.true)))
 
 returns-3 : tie.Need-returns-then-status-ne-PENDING
 returns-3 c =
-    goes_on posted not_found _ _ _ c.before.before.if-not-self.false
-    (goes_on posted unauthorized _ _ _ (not_off (eq-eqb _ _ c.before.if-originator-caller.false))
+    goes_on posted not_found _ _ _ c.if-not-self.false
+    (goes_on posted unauthorized _ _ _ (not_off (eq-eqb _ _ c.if-originator-caller.false))
     (refuses posted invalid_transition _ _ _ (not_on (ne_eqb _ _ c.if-status-ne-PENDING.true))))
 
 returns-4 : tie.Need-returns
 returns-4 c =
-    goes_on posted not_found _ _ _ c.before.before.if-not-self.false
-    (goes_on posted unauthorized _ _ _ (not_off (eq-eqb _ _ c.before.if-originator-caller.false))
+    goes_on posted not_found _ _ _ c.if-not-self.false
+    (goes_on posted unauthorized _ _ _ (not_off (eq-eqb _ _ c.if-originator-caller.false))
     (goes_on posted invalid_transition _ _ _ (not_off (eq-eqb _ _ c.if-status-ne-PENDING.false))
     (does posted _ _ refl)))
 

@@ -17,10 +17,10 @@ unfolding put_invoice pick
 made s x e = rw e
 
 returns : tie.Need-returns-then-not-self
-returns c = kept c.before.before.args.self c.before.before.args.row (not-true _ c.if-not-self.true)
+returns c = kept c.args.self c.args.row (not-true _ c.if-not-self.true)
 
 returns-2 : tie.Need-returns
-returns-2 c = made c.before.before.args.self c.before.before.args.row (not-false _ c.if-not-self.false)
+returns-2 c = made c.args.self c.args.row (not-false _ c.if-not-self.false)
 
 pub put_spec : {M : Type 1} → statement M
 put_spec = tie.close (tie.spec returns returns-2)

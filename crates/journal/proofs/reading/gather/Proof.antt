@@ -24,78 +24,60 @@ all : (s : tie.Start invariant-loop decreases-loop) → length (take s.args.n s.
 all s = length-take-le s.args.n s.args.tags (omega (arith, s.requires.0, s.well-formed.1.1.1.0.1))
 
 -- the tag at hand, in a turn of the loop
-here : (c : tie.In-loop-i invariant-loop decreases-loop) → c.before.loop-i.i < length (take c.before.before.before.args.n c.before.before.before.args.tags)
+here : (c : tie.In-loop-i invariant-loop decreases-loop) → c.loop-i.i < length (take c.args.n c.args.tags)
 here c = omega (arith, all c.before.before.before, c.loop-i-test.true)
 
-tag_is : (c : tie.In-loop-i invariant-loop decreases-loop) → get_or (take c.before.before.before.args.n c.before.before.before.args.tags) c.before.loop-i.i 0 ≡ get_or c.before.before.before.args.tags c.before.loop-i.i 0
-tag_is c = get_or-take c.before.before.before.args.n c.before.before.before.args.tags c.before.loop-i.i 0 c.loop-i-test.true
+tag_is : (c : tie.In-loop-i invariant-loop decreases-loop) → get_or (take c.args.n c.args.tags) c.loop-i.i 0 ≡ get_or c.args.tags c.loop-i.i 0
+tag_is c = get_or-take c.args.n c.args.tags c.loop-i.i 0 c.loop-i-test.true
 
 -- a field that does not stand there
-stop : (c : tie.In-loop-i invariant-loop decreases-loop) → field_in (get_or c.before.before.before.args.tags c.before.loop-i.i 0) (drop c.before.loop-i.q c.before.before.before.args.s.now) ≡ false
-    → (false, zeros) ≡ gathered_in (take c.before.before.before.args.n c.before.before.before.args.tags) (drop c.before.before.before.args.p c.before.before.before.args.s.now)
-stop c e = going_out _ _ _ c.before.loop-i.i c.before.loop-i.q _ (here c) (tag_is c) e c.before.loop-i.invariant.1.1
+stop : (c : tie.In-loop-i invariant-loop decreases-loop) → field_in (get_or c.args.tags c.loop-i.i 0) (drop c.loop-i.q c.args.s.now) ≡ false
+    → (false, zeros) ≡ gathered_in (take c.args.n c.args.tags) (drop c.args.p c.args.s.now)
+stop c e = going_out _ _ _ c.loop-i.i c.loop-i.q _ (here c) (tag_is c) e c.loop-i.invariant.1.1
 
-in_reach : (c : tie.In-loop-i invariant-loop decreases-loop) → c.before.loop-i.q + 11 ≤ length c.before.before.before.args.s.now
-in_reach c = omega (arith, c.before.before.before.requires.0, c.before.loop-i.invariant)
+in_reach : (c : tie.In-loop-i invariant-loop decreases-loop) → c.loop-i.q + 11 ≤ length c.args.s.now
+in_reach c = omega (arith, c.requires.0, c.loop-i.invariant)
 
 returns : tie.Need-returns-then-not-begins invariant-loop decreases-loop
 returns c =
     let d = c.before.before in
-    let l = d.before.loop-i in
-    let a = d.before.before.before.args in
-    stop d (field_other (get_or a.t4 l.i 0) l.q a.s.now (sym c.before.begins.ensures ∙ not-true _ c.if-not-begins.true-raw))
+    let l = d.loop-i in
+    let a = d.args in
+    stop d (field_other (get_or a.t4 l.i 0) l.q a.s.now (sym c.begins.ensures ∙ not-true _ c.if-not-begins.true-raw))
 
 returns-2 : tie.Need-returns-then-top-x invariant-loop decreases-loop
 returns-2 c =
     let d = c.before.before.before.before.before in
-    let l = d.before.loop-i in
-    let a = d.before.before.before.args in
-    stop d (field_high (get_or a.t4 l.i 0) l.q a.s.now (rw (← c.before.top.ensures, ← c.before.before.number-x.ensures) c.if-top-x.true))
+    let l = d.loop-i in
+    let a = d.args in
+    stop d (field_high (get_or a.t4 l.i 0) l.q a.s.now (rw (← c.top.ensures, ← c.number-x.ensures) c.if-top-x.true))
 
 -- the place of the number is one of the array
 low : (c : tie.After-place invariant-loop decreases-loop) → c.place.result < 32
-low c = omega (arith, c.place.ensures, c.before.before.before.before.before.before.before.before.before.requires.1 c.before.before.before.before.before.before.before.loop-i.i)
+low c = omega (arith, c.place.ensures, c.requires.1 c.loop-i.i)
 
 loop-again : tie.Need-loop-i-preserved invariant-loop decreases-loop
 loop-again c =
     let d = c.before.before.before.before.before.before in
-    let l = d.before.loop-i in
-    let a = d.before.before.before.args in
+    let l = d.loop-i in
+    let a = d.args in
     let f = get_or a.t4 l.i 0 in
-    let h : number_at 8 (drop (l.q + 3) a.s.now) ≤ top_of f = rw (← c.before.before.top.ensures, ← c.before.before.before.number-x.ensures) c.before.if-top-x.false in
-    let e : field_in f (drop l.q a.s.now) ≡ true = field_in_lem f l.q a.s.now (sym c.before.before.before.before.before.begins.ensures ∙ not-false _ c.before.before.before.before.if-not-begins.false-raw) h in (
+    let h : number_at 8 (drop (l.q + 3) a.s.now) ≤ top_of f = rw (← c.top.ensures, ← c.number-x.ensures) c.if-top-x.false in
+    let e : field_in f (drop l.q a.s.now) ≡ true = field_in_lem f l.q a.s.now (sym c.begins.ensures ∙ not-false _ c.if-not-begins.false-raw) h in (
       omega arith,
       (
         omega (arith, l.invariant),
-        rw (c.place.ensures, c.before.before.before.number-x.ensures) (going_on (take a.n a.t4) a.s.now a.p l.i l.q f (here d) (tag_is d) e l.invariant.1.1),
+        rw (c.place.ensures, c.number-x.ensures) (going_on (take a.n a.t4) a.s.now a.p l.i l.q f (here d) (tag_is d) e l.invariant.1.1),
       ),
     )
 
 returns-3 : tie.Need-returns invariant-loop decreases-loop
 returns-3 c =
-    let l = c.before.loop-i in
+    let l = c.loop-i in
     let s = c.before.before.before in
     going_done _ _ _ l.i l.q (omega (arith, all s)) l.invariant.1.1
 
 pub gather_spec : {M : Type 1} → statement M
 gather_spec =
     tie.close
-    (tie.spec
-    invariant-loop
-    decreases-loop
-    (λ c. (search rules, (search rules, record { well = refl; same = refl })))
-    (λ c. omega (arith, c.before.before.before.requires.0))
-    (λ c κs. search rules)
-    returns
-    (λ c. omega (arith, in_reach c.before.before))
-    (λ c κs. search rules)
-    (λ c κs. search rules)
-    returns-2
-    (λ c κs. search rules)
-    (λ c. omega (arith, low c))
-    low
-    (λ c. omega (arith, in_reach c.before.before.before.before.before.before))
-    (λ c. omega (arith, c.before.before.before.before.before.before.before.before.before.requires.0))
-    (λ c. omega (arith, c.before.before.before.before.before.before.loop-i-test.true))
-    loop-again
-    returns-3)
+    (tie.spec invariant-loop decreases-loop (λ c. (search rules, (search rules, record { well = refl; same = refl }))) (λ c. omega (arith, c.requires.0)) (λ c κs. search rules) returns (λ c. omega (arith, in_reach c.before.before)) (λ c κs. search rules) (λ c κs. search rules) returns-2 (λ c κs. search rules) (λ c. omega (arith, low c)) low (λ c. omega (arith, in_reach c.before.before.before.before.before.before)) (λ c. omega (arith, c.requires.0)) (λ c. omega (arith, c.loop-i-test.true)) loop-again returns-3)

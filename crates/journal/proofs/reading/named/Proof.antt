@@ -22,37 +22,11 @@ returns c =
     let v = s.args.v in
     let a : get_or v 0x05 0 < 2 ^ 64 = omega (arith, s.requires 0x05) in
     let b : get_or v 0x0F 0 < 2 ^ 64 = omega (arith, s.requires 0x0F) in
-    ap (λ (x : ℤ). from_numbers x (of_bits (bits_of c.of_bits-2.result)) v) (through c.before.of_bits.ensures a)
+    ap (λ (x : ℤ). from_numbers x (of_bits (bits_of c.of_bits-2.result)) v) (through c.of_bits.ensures a)
     ∙ ap (λ (x : ℤ). from_numbers (of_bits (get_or v 0x05 0)) x v) (through c.of_bits-2.ensures b)
 
 pub named_spec : {M : Type 1} → statement M
 unfolding top_of pick
 named_spec =
     tie.close
-    (tie.spec
-    (λ c. search rules)
-    (λ c. search rules)
-    (λ c. search rules)
-    (λ c. search rules)
-    (λ c. search rules)
-    (λ c κs. search rules)
-    (λ c. search rules)
-    (λ c. omega (arith, c.before.requires 0x06))
-    (λ c. search rules)
-    (λ c. search rules)
-    (λ c. search rules)
-    (λ c. omega (arith, c.before.requires 0x09))
-    (λ c. search rules)
-    (λ c. omega (arith, c.before.requires 0x0A))
-    (λ c. search rules)
-    (λ c. omega (arith, c.before.requires 0x0B))
-    (λ c. search rules)
-    (λ c. search rules)
-    (λ c. search rules)
-    (λ c. omega (arith, c.before.requires 0x0E))
-    (λ c. search rules)
-    (λ c κs. search rules)
-    (λ c. search rules)
-    (λ c. search rules)
-    (λ c. search rules)
-    returns)
+    (tie.spec (λ c. search rules) (λ c. search rules) (λ c. search rules) (λ c. search rules) (λ c. search rules) (λ c κs. search rules) (λ c. search rules) (λ c. omega (arith, c.requires 0x06)) (λ c. search rules) (λ c. search rules) (λ c. search rules) (λ c. omega (arith, c.requires 0x09)) (λ c. search rules) (λ c. omega (arith, c.requires 0x0A)) (λ c. search rules) (λ c. omega (arith, c.requires 0x0B)) (λ c. search rules) (λ c. search rules) (λ c. search rules) (λ c. omega (arith, c.requires 0x0E)) (λ c. search rules) (λ c κs. search rules) (λ c. search rules) (λ c. search rules) (λ c. search rules) returns)

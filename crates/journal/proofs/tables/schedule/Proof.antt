@@ -15,11 +15,11 @@ at e q = ap (λ (b : Bool). row_fields (fields_in (rows_in b) 0x38)) (sym q)
 
 returns : tie.Need-returns-then-keeps_terms
 unfolding fields_in padded pick
-returns c = at c.before.before.args.edition (sym c.before.keeps_terms.ensures ∙ c.if-keeps_terms.true)
+returns c = at c.args.edition (sym c.keeps_terms.ensures ∙ c.if-keeps_terms.true)
 
 returns-2 : tie.Need-returns
 unfolding fields_in padded pick
-returns-2 c = at c.before.before.args.edition (sym c.before.keeps_terms.ensures ∙ c.if-keeps_terms.false)
+returns-2 c = at c.args.edition (sym c.keeps_terms.ensures ∙ c.if-keeps_terms.false)
 
 pub schedule_spec : {M : Type 1} → statement M
 schedule_spec = tie.close (tie.spec (λ c κs. search rules) returns returns-2)

@@ -23,7 +23,7 @@ decreases-loop out₀ p n tags values i₀ q₀ out i q = n - i
 has : (s : tie.Start invariant-loop decreases-loop) → s.args.n ≤ length s.args.tags
 has s = omega (arith, s.requires, s.well-formed.1.1.1.0.1.0)
 
-kept : (c : tie.At-loop-i invariant-loop decreases-loop) → length c.loop-i.out-1 ≡ length c.before.before.args.out-1.now
+kept : (c : tie.At-loop-i invariant-loop decreases-loop) → length c.loop-i.out-1 ≡ length c.args.out-1.now
 kept c =
     let s = c.before.before in
     let a = s.args in
@@ -33,7 +33,7 @@ kept c =
 
 loop-holds : tie.Need-loop-i-init invariant-loop decreases-loop
 unfolding fields_out
-loop-holds c = (search rules, (search rules, placed_none c.before.args.p c.before.args.out-1.now))
+loop-holds c = (search rules, (search rules, placed_none c.args.p c.args.out-1.now))
 
 loop-again : tie.Need-loop-i-preserved invariant-loop decreases-loop
 loop-again c =
@@ -42,35 +42,22 @@ loop-again c =
     let s = d.before.before in
     let a = s.args in
     let w = field_of (get_or a.t4 l.i 0) (bytes_of 8 (get_or a.t5 l.i 0)) in
-    let t : l.i < a.n = c.before.before.before.before.loop-i-test.true in
+    let t : l.i < a.n = c.loop-i-test.true in
     let room : l.q + length w ≤ length l.out-1 = omega (arith, length_field (get_or a.t4 l.i 0) (get_or a.t5 l.i 0), kept d, s.requires, l.invariant) in (
       omega arith,
       (
         omega (arith, l.invariant),
-        c.before.before.put_field.ensures ∙ laid_in l.q w l.out-1 room ∙ rw (l.invariant.1.0, l.invariant.1.1) (fields_turn a.t4 a.t5 a.out-1.now a.p l.i (omega (arith, has s)) (omega (arith, s.requires))),
+        c.put_field.ensures ∙ laid_in l.q w l.out-1 room ∙ rw (l.invariant.1.0, l.invariant.1.1) (fields_turn a.t4 a.t5 a.out-1.now a.p l.i (omega (arith, has s)) (omega (arith, s.requires))),
       ),
     )
 
 returns : tie.Need-returns invariant-loop decreases-loop
 returns c =
-    let l = c.before.loop-i in
-    let e : l.i ≡ c.before.before.before.args.n = omega arith in
+    let l = c.loop-i in
+    let e : l.i ≡ c.args.n = omega arith in
     rw e at l.invariant.1.1
 
 pub put_fields_spec : {M : Type 1} → statement M
 put_fields_spec =
     tie.close
-    (tie.spec
-    invariant-loop
-    decreases-loop
-    loop-holds
-    (λ c. omega (arith, c.before.before.before.before.requires, c.before.before.loop-i.invariant))
-    (λ c. omega (arith, c.before.before.before.before.requires, c.before.before.loop-i.invariant))
-    (λ c. omega (arith, c.before.before.before.before.requires, c.before.before.loop-i.invariant))
-    (λ c κs. search rules)
-    (λ c. omega (arith, c.before.before.before.before.before.before.before.requires, c.before.before.before.before.before.loop-i.invariant))
-    (λ c. omega (arith, c.before.before.before.before.before.before.before.requires, c.before.before.before.before.before.loop-i.invariant))
-    (λ c. omega (arith, c.before.before.before.before.loop-i-test.true))
-    loop-again
-    (λ c. kept c.before)
-    returns)
+    (tie.spec invariant-loop decreases-loop loop-holds (λ c. omega (arith, c.requires, c.loop-i.invariant)) (λ c. omega (arith, c.requires, c.loop-i.invariant)) (λ c. omega (arith, c.requires, c.loop-i.invariant)) (λ c κs. search rules) (λ c. omega (arith, c.requires, c.loop-i.invariant)) (λ c. omega (arith, c.requires, c.loop-i.invariant)) (λ c. omega (arith, c.loop-i-test.true)) loop-again (λ c. kept c.before) returns)

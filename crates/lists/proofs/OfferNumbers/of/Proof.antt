@@ -7,8 +7,8 @@ returns : tie.Need-returns
 returns c =
     let s = c.before.before.before.before.before.before.before in
     rw (
-      simp (back s.args.o.terms-1.amount c.before.before.before.before.before.struct_told-1.given.0.1) at c.before.before.before.before.bits-amount.ensures,
-      simp (back s.args.o.repaid c.before.before.before.struct_told-2-1.given.1.1.1.1.1.0.1) at c.before.before.bits-repaid.ensures,
+      simp (back s.args.o.terms-1.amount c.struct_told-1.given.0.1) at c.bits-amount.ensures,
+      simp (back s.args.o.repaid c.struct_told-2-1.given.1.1.1.1.1.0.1) at c.bits-repaid.ensures,
     )
 
 pub of_spec : {M : Type 1} → statement M

@@ -19,34 +19,22 @@ small : (c : tie.After-active-sum invariant-loop decreases-loop) → c.active-su
 small c =
     let s = c.before.before.before.before.before in
     omega
-    (arith, c.active-sum.ensures, small_amount c.before.before.before.before.in_use-used.ensures c.before.before.before.loop-i.i c.before.before.loop-i-test.true s.requires s.args.lender)
+    (arith, c.active-sum.ensures, small_amount c.in_use-used.ensures c.loop-i.i c.loop-i-test.true s.requires s.args.lender)
 
 add-sum : tie.Need-overflow_add-sum invariant-loop decreases-loop
-add-sum c = omega (arith, small c, c.before.before.before.loop-i.invariant.small, c.before.before.loop-i-test.true, c.before.before.before.before.in_use-used.ensures.few)
+add-sum c = omega (arith, small c, c.loop-i.invariant.small, c.loop-i-test.true, c.in_use-used.ensures.few)
 
 loop-again : tie.Need-loop-i-preserved invariant-loop decreases-loop
 loop-again c =
-    let u = c.before.before.before.before.in_use-used.ensures in
-    let l = c.before.before.before.loop-i in
-    let h = c.before.before.loop-i-test.true in
-    sum_turn l.invariant none _ (inside u l.i h) (c.active-sum.ensures ∙ active_at u l.i h c.before.before.before.before.before.args.lender) (small c)
+    let u = c.in_use-used.ensures in
+    let l = c.loop-i in
+    let h = c.loop-i-test.true in
+    sum_turn l.invariant none _ (inside u l.i h) (c.active-sum.ensures ∙ active_at u l.i h c.args.lender) (small c)
 
 returns : tie.Need-returns invariant-loop decreases-loop
-returns c = sum_done c.before.loop-i.invariant (past c.before.before.in_use-used.ensures _ c.loop-i-test.false)
+returns c = sum_done c.loop-i.invariant (past c.in_use-used.ensures _ c.loop-i-test.false)
 
 pub active_total_spec : {M : Type 1} → statement M
 active_total_spec =
     tie.close
-    (tie.spec
-    invariant-loop
-    decreases-loop
-    (λ c κs. search rules)
-    (λ c. sum_start _ _ _)
-    (λ c. search rules)
-    (λ c. search rules)
-    (λ c κs. search rules)
-    add-sum
-    (λ c. search rules)
-    (λ c. search rules)
-    loop-again
-    returns)
+    (tie.spec invariant-loop decreases-loop (λ c κs. search rules) (λ c. sum_start _ _ _) (λ c. search rules) (λ c. search rules) (λ c κs. search rules) add-sum (λ c. search rules) (λ c. search rules) loop-again returns)

@@ -16,34 +16,22 @@ decreases-loop w self m n₀ i₀ n i = m - i
 
 loop-again : tie.Need-loop-i-preserved invariant-loop decreases-loop
 loop-again c =
-    let u = c.before.before.before.before.before.in_use-used.ensures in
-    let l = c.before.before.before.before.loop-i in
-    let h = c.before.before.before.loop-i-test.true in
-    let w = c.before.before.before.before.before.before.args.w in
+    let u = c.in_use-used.ensures in
+    let l = c.loop-i in
+    let h = c.loop-i-test.true in
+    let w = c.args.w in
     ⊎_elim
-    (λ x. rw x.1 (walk_on l.invariant none (inside u l.i h) (asked u l.i h w _ _ c.before.takes.ensures x.0.taken)))
-    (λ x. rw x.1 (walk_off l.invariant none (inside u l.i h) (asked u l.i h w _ _ c.before.takes.ensures x.0.left)))
+    (λ x. rw x.1 (walk_on l.invariant none (inside u l.i h) (asked u l.i h w _ _ c.takes.ensures x.0.taken)))
+    (λ x. rw x.1 (walk_off l.invariant none (inside u l.i h) (asked u l.i h w _ _ c.takes.ensures x.0.left)))
     c.if-takes.branch
 
 returns : tie.Need-returns invariant-loop decreases-loop
 returns c =
-    let u = c.before.before.in_use-used.ensures in
-    let n = walk_done c.before.loop-i.invariant (past u _ c.loop-i-test.false) in
-    (n, omega (arith, few_listed u c.before.before.before.args.w))
+    let u = c.in_use-used.ensures in
+    let n = walk_done c.loop-i.invariant (past u _ c.loop-i-test.false) in
+    (n, omega (arith, few_listed u c.args.w))
 
 pub count_of_spec : {M : Type 1} → statement M
 count_of_spec =
     tie.close
-    (tie.spec
-    invariant-loop
-    decreases-loop
-    (λ c κs. search rules)
-    (λ c. walk_start _ _)
-    (λ c. search rules)
-    (λ c. search rules)
-    (λ c κs. search rules)
-    (λ c. omega (arith, walk_few c.before.before.before.before.loop-i.invariant))
-    (λ c. search rules)
-    (λ c. search rules)
-    loop-again
-    returns)
+    (tie.spec invariant-loop decreases-loop (λ c κs. search rules) (λ c. walk_start _ _) (λ c. search rules) (λ c. search rules) (λ c κs. search rules) (λ c. omega (arith, walk_few c.loop-i.invariant)) (λ c. search rules) (λ c. search rules) loop-again returns)

@@ -13,13 +13,13 @@ use Rattle.lists.proofs.OfferRows.list.Statement.{statement}
 use Rattle.lists.proofs.OfferRows.list.Tie as tie
 
 returns : tie.Need-returns-then-not-is_known
-returns c = refuses told invalid_input _ _ _ (ap not (sym c.before.is_known.ensures) ∙ c.if-not-is_known.true-raw)
+returns c = refuses told invalid_input _ _ _ (ap not (sym c.is_known.ensures) ∙ c.if-not-is_known.true-raw)
 
 returns-2 : tie.Need-returns-then-out-n
 returns-2 c =
-    let a = c.before.before.before.before.before.args in
-    goes_on told invalid_input _ _ _ (ap not (sym c.before.before.before.is_known.ensures) ∙ c.before.before.if-not-is_known.false-raw)
-    (refuses told buffer_short _ _ _ (lt-ltb (length a.out-1.now) (10 * length (listing a.w (offers_of a.self))) (omega (arith, c.before.count_of-n.ensures.counted, c.if-out-n.true))))
+    let a = c.args in
+    goes_on told invalid_input _ _ _ (ap not (sym c.is_known.ensures) ∙ c.if-not-is_known.false-raw)
+    (refuses told buffer_short _ _ _ (lt-ltb (length a.out-1.now) (10 * length (listing a.w (offers_of a.self))) (omega (arith, c.count_of-n.ensures.counted, c.if-out-n.true))))
 
 write-requires : tie.Need-write-requires
 write-requires c κs = search rules
@@ -30,21 +30,13 @@ both {n} {n'} {l} {l'} p q = cc
 
 returns-3 : tie.Need-returns
 returns-3 c =
-    let a = c.before.before.before.before.before.before.before.before.before.args in
-    let n = c.before.before.before.before.before.count_of-n.ensures.counted in
-    goes_on told invalid_input _ _ _ (ap not (sym c.before.before.before.before.before.before.before.is_known.ensures) ∙ c.before.before.before.before.before.before.if-not-is_known.false-raw)
-    (goes_on told buffer_short _ _ _ (le-ltb (length a.out-1.now) (10 * length (listing a.w (offers_of a.self))) (omega (arith, n, c.before.before.before.before.if-out-n.false)))
-    (does told _ _ (both n c.before.before.write.ensures)))
+    let a = c.args in
+    let n = c.count_of-n.ensures.counted in
+    goes_on told invalid_input _ _ _ (ap not (sym c.is_known.ensures) ∙ c.if-not-is_known.false-raw)
+    (goes_on told buffer_short _ _ _ (le-ltb (length a.out-1.now) (10 * length (listing a.w (offers_of a.self))) (omega (arith, n, c.if-out-n.false)))
+    (does told _ _ (both n c.write.ensures)))
 
 pub list_spec : {M : Type 1} → statement M
 list_spec =
     tie.close
-    (tie.spec
-    (λ c κs. search rules)
-    returns
-    (λ c κs. search rules)
-    (λ c. search rules)
-    returns-2
-    write-requires
-    (λ c. search rules)
-    returns-3)
+    (tie.spec (λ c κs. search rules) returns (λ c κs. search rules) (λ c. search rules) returns-2 write-requires (λ c. search rules) returns-3)

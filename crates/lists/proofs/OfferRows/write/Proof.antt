@@ -20,65 +20,45 @@ abbrev decreases-loop : tie.decreases-loop-i
 decreases-loop w out₀ self m n₀ i₀ out n i = m - i
 
 mul-put : tie.Need-overflow_mul-n invariant-loop decreases-loop
-mul-put c = omega (arith, walk_few c.before.before.before.before.before.before.before.before.loop-i.invariant.walked)
+mul-put c = omega (arith, walk_few c.loop-i.invariant.walked)
 
 put-requires : tie.Need-put-requires invariant-loop decreases-loop
 put-requires c κs =
-    let u = c.before.before.before.before.before.before.before.before.before.before.in_use-used.ensures in
-    let l = c.before.before.before.before.before.before.before.before.before.loop-i in
-    let h = c.before.before.before.before.before.before.before.before.loop-i-test.true in
+    let u = c.in_use-used.ensures in
+    let l = c.loop-i in
+    let h = c.loop-i-test.true in
     let s = c.before.before.before.before.before.before.before.before.before.before.before.before in
     omega (
       arith,
-      write_room l.invariant 10 (λ a. refl) s.requires none (inside u l.i h) (asked u l.i h s.args.w _ _ c.before.before.before.before.before.before.takes.ensures c.before.before.before.before.before.if-takes.true),
-      ap length c.before.before.in_order-numbers.ensures,
+      write_room l.invariant 10 (λ a. refl) s.requires none (inside u l.i h) (asked u l.i h s.args.w _ _ c.takes.ensures c.if-takes.true),
+      ap length c.in_order-numbers.ensures,
     )
 
 add-n : tie.Need-overflow_add-n invariant-loop decreases-loop
-add-n c = omega (arith, walk_few c.before.before.before.before.before.before.before.before.before.before.before.before.loop-i.invariant.walked)
+add-n c = omega (arith, walk_few c.loop-i.invariant.walked)
 
 loop-again : tie.Need-loop-i-preserved invariant-loop decreases-loop
 loop-again c =
-    let u = c.before.before.before.before.before.in_use-used.ensures in
-    let l = c.before.before.before.before.loop-i in
-    let h = c.before.before.before.loop-i-test.true in
+    let u = c.in_use-used.ensures in
+    let l = c.loop-i in
+    let h = c.loop-i-test.true in
     let s = c.before.before.before.before.before.before.before in
     let e = asked u l.i h s.args.w in
     ⊎_elim
     (λ x. rw (x.9, x.10)
-    (write_on l.invariant 10 (λ a. refl) s.requires none (inside u l.i h) (e _ _ c.before.takes.ensures x.0.taken) _
+    (write_on l.invariant 10 (λ a. refl) s.requires none (inside u l.i h) (e _ _ c.takes.ensures x.0.taken) _
     (x.6.ensures ∙ ap (λ (z : List ℕ). placed (10 * l.n) z l.out-1) (x.3.ensures ∙ ap in_order x.2.ensures ∙ ap ten_of (sym (entry u l.i h))))))
-    (λ x. rw (x.1, x.2) (write_off l.invariant 10 (λ a. refl) s.requires none (inside u l.i h) (e _ _ c.before.takes.ensures x.0.left)))
+    (λ x. rw (x.1, x.2) (write_off l.invariant 10 (λ a. refl) s.requires none (inside u l.i h) (e _ _ c.takes.ensures x.0.left)))
     c.if-takes.branch
 
 same_length : tie.Need-shape_of-out invariant-loop decreases-loop
-same_length c = write_length c.before.loop-i.invariant 10 (λ a. refl) c.before.before.before.before.requires
+same_length c = write_length c.loop-i.invariant 10 (λ a. refl) c.requires
 
 returns : tie.Need-returns invariant-loop decreases-loop
 unfolding filled
-returns c = write_done c.before.loop-i.invariant 10 (λ a. refl) c.before.before.before.before.requires (past c.before.before.in_use-used.ensures _ c.loop-i-test.false)
+returns c = write_done c.loop-i.invariant 10 (λ a. refl) c.requires (past c.in_use-used.ensures _ c.loop-i-test.false)
 
 pub write_spec : {M : Type 1} → statement M
 write_spec =
     tie.close
-    (tie.spec
-    invariant-loop
-    decreases-loop
-    (λ c κs. search rules)
-    (λ c. write-start _ _ _ _)
-    (λ c. search rules)
-    (λ c. search rules)
-    (λ c κs. search rules)
-    (λ c. search rules)
-    (λ c. search rules)
-    (λ c κs. search rules)
-    (λ c κs. search rules)
-    mul-put
-    (λ c. search rules)
-    put-requires
-    add-n
-    (λ c. search rules)
-    (λ c. search rules)
-    loop-again
-    same_length
-    returns)
+    (tie.spec invariant-loop decreases-loop (λ c κs. search rules) (λ c. write-start _ _ _ _) (λ c. search rules) (λ c. search rules) (λ c κs. search rules) (λ c. search rules) (λ c. search rules) (λ c κs. search rules) (λ c κs. search rules) mul-put (λ c. search rules) put-requires add-n (λ c. search rules) (λ c. search rules) loop-again same_length returns)

@@ -5,7 +5,7 @@ use Rattle.near.proofs.Near.closed.Statement.{statement}
 use Rattle.near.proofs.Near.closed.Tie as tie
 
 returns : tie.Need-returns
-returns c = λ o a b m e. c.deal_posted.ensures _ o a b (Id (offer_in m o).row.offer.invoice) m (simp e at c.before.close-posted.ensures) e
+returns c = λ o a b m e. c.deal_posted.ensures _ o a b (Id (offer_in m o).row.offer.invoice) m (simp e at c.close-posted.ensures) e
 
 pub closed_spec : {M : Type 1} → statement M
 closed_spec = tie.close (tie.spec (λ c κs. search rules) (λ c κs. search rules) returns)

@@ -4,7 +4,7 @@ use Rattle.near.proofs.Near.paid_out.Statement.{statement}
 use Rattle.near.proofs.Near.paid_out.Tie as tie
 
 returns : tie.Need-returns
-returns c = λ a b i o m e. c.first_posted.ensures _ a b i o m (simp (to_z-of_z c.before.before.before.before.before.ranges.amount, e) at c.before.payout-posted.ensures) e
+returns c = λ a b i o m e. c.first_posted.ensures _ a b i o m (simp (to_z-of_z c.ranges.amount, e) at c.payout-posted.ensures) e
 
 pub paid_out_spec : {M : Type 1} → statement M
 paid_out_spec = tie.close (tie.spec (λ c κs. search rules) (λ c κs. search rules) returns)

@@ -5,7 +5,7 @@ use Rattle.near.proofs.Near.scheduled.Statement.{statement}
 use Rattle.near.proofs.Near.scheduled.Tie as tie
 
 returns : tie.Need-returns
-returns c = λ o a b m e. c.deal_posted.ensures _ o a b (Id (offer_in m o).row.offer.invoice) m (simp e at c.before.schedule-posted.ensures) e
+returns c = λ o a b m e. c.deal_posted.ensures _ o a b (Id (offer_in m o).row.offer.invoice) m (simp e at c.schedule-posted.ensures) e
 
 pub scheduled_spec : {M : Type 1} → statement M
 scheduled_spec = tie.close (tie.spec (λ c κs. search rules) (λ c κs. search rules) returns)

@@ -5,7 +5,7 @@ use Rattle.near.proofs.Near.status_updated.Statement.{statement}
 use Rattle.near.proofs.Near.status_updated.Tie as tie
 
 returns : tie.Need-returns
-returns c = λ o a b m e. c.deal_posted.ensures _ o a b (Id (offer_in m o).row.offer.invoice) m (simp (c.before.before.is_repayer-allowed.ensures, e) at c.before.update_status-posted.ensures) e
+returns c = λ o a b m e. c.deal_posted.ensures _ o a b (Id (offer_in m o).row.offer.invoice) m (simp (c.is_repayer-allowed.ensures, e) at c.update_status-posted.ensures) e
 
 pub status_updated_spec : {M : Type 1} → statement M
 status_updated_spec =

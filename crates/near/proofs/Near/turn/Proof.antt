@@ -21,11 +21,11 @@ use Rattle.near.specs.Steps.{same}
 use Rattle.near.proofs.Near.turn.Statement.{statement}
 use Rattle.near.proofs.Near.turn.Tie as tie
 
-stands : (c : tie.After-gate-n) (m : Model) → c.before.args.self ≡ view_of (keys_of m c.before.args.c-1) m → c.gate-n.result ≡ first (gate_checks m (shape_of c.before.args.c-1))
-stands c m = λ e. c.gate-n.ensures ∙ ap (λ z. first (gate_by z.settings.paused z.parties.first.here (names_of c.before.args.c-1))) e
+stands : (c : tie.After-gate-n) (m : Model) → c.args.self ≡ view_of (keys_of m c.args.c-1) m → c.gate-n.result ≡ first (gate_checks m (shape_of c.args.c-1))
+stands c m = λ e. c.gate-n.ensures ∙ ap (λ z. first (gate_by z.settings.paused z.parties.first.here (names_of c.args.c-1))) e
 
-passes : (c : tie.Else-not-n) (r : Turn) → TurnsBy c.before.before.args.self r c.before.before.args.c-1 c.before.before.args.rows (λ m. ruled m (shape_of c.before.before.args.c-1)) → TurnsBy c.before.before.args.self r c.before.before.args.c-1 c.before.before.args.rows (λ m. commanded m c.before.before.args.c-1)
-passes c r = λ h m f e. h m f e ∙ then_answers (turn_of (keys_of m c.before.before.args.c-1)) _ _ (λ n. ruled n (shape_of c.before.before.args.c-1)) _ refl (sym (stands (c.before) m e) ∙ eqb-true _ _ (not-false _ c.if-not-n.false-raw))
+passes : (c : tie.Else-not-n) (r : Turn) → TurnsBy c.args.self r c.args.c-1 c.args.rows (λ m. ruled m (shape_of c.args.c-1)) → TurnsBy c.args.self r c.args.c-1 c.args.rows (λ m. commanded m c.args.c-1)
+passes c r = λ h m f e. h m f e ∙ then_answers (turn_of (keys_of m c.args.c-1)) _ _ (λ n. ruled n (shape_of c.args.c-1)) _ refl (sym (stands (c.before) m e) ∙ eqb-true _ _ (not-false _ c.if-not-n.false-raw))
 
 -- the command is known to be k
 on-it : {n : Near} {r : Turn} {c : Command} (k : Command) {f : Counts} → c ≡ k → TurnsBy n r k f (λ m. ruled m (shape_of k)) → TurnsBy n r c f (λ m. ruled m (shape_of c))
@@ -35,7 +35,7 @@ gate-requires : tie.Need-gate-n-requires
 gate-requires c κs = search rules
 
 returns : tie.Need-returns-then-not-n
-returns c = λ m f e. same (keys_of m c.before.before.args.c-1) m e _ ∙ refused (turn_of (keys_of m c.before.before.args.c-1)) _ _ (next_stops _ (λ n. ruled n (shape_of c.before.before.args.c-1)) (stands (c.before) m e) (eqb-false _ _ (not-true _ c.if-not-n.true-raw))) (eqb-false _ _ (not-true _ c.if-not-n.true-raw))
+returns c = λ m f e. same (keys_of m c.args.c-1) m e _ ∙ refused (turn_of (keys_of m c.args.c-1)) _ _ (next_stops _ (λ n. ruled n (shape_of c.args.c-1)) (stands (c.before) m e) (eqb-false _ _ (not-true _ c.if-not-n.true-raw))) (eqb-false _ _ (not-true _ c.if-not-n.true-raw))
 
 enum_told : tie.Need-enum_told-1
 enum_told c = search rules
@@ -183,175 +183,101 @@ seats-set-requires c κs = search rules
 
 returns-2 : tie.Need-returns-in-OpenAccount
 unfolding shape_of account_names offer_names settings_names names_for account_rule offer_rule settings_rule ruled
-returns-2 c = passes (c.before.before.before.before) _ (on-it _ c.before.before.in-OpenAccount.is (λ m f. c.opened.ensures c.before.before.in-OpenAccount.caller Nothing Nothing Nothing m (ap (λ z. leb 64 z.accounts) f)))
+returns-2 c = passes (c.before.before.before) _ (on-it _ c.in-OpenAccount.is (λ m f. c.opened.ensures c.in-OpenAccount.caller Nothing Nothing Nothing m (ap (λ z. leb 64 z.accounts) f)))
 
 returns-3 : tie.Need-returns-in-Deposit
 unfolding shape_of account_names offer_names settings_names names_for account_rule offer_rule settings_rule ruled
-returns-3 c = passes (c.before.before.before.before) _ (on-it _ c.before.before.in-Deposit.is (λ m f. simp (back c.before.before.in-Deposit.amount (search rules)) at (c.deposited.ensures c.before.before.in-Deposit.caller Nothing Nothing Nothing m)))
+returns-3 c = passes (c.before.before) _ (on-it _ c.in-Deposit.is (λ m f. simp (back c.in-Deposit.amount (search rules)) at (c.deposited.ensures c.in-Deposit.caller Nothing Nothing Nothing m)))
 
 returns-4 : tie.Need-returns-in-Payout
 unfolding shape_of account_names offer_names settings_names names_for account_rule offer_rule settings_rule ruled
-returns-4 c = passes (c.before.before.before.before) _ (on-it _ c.before.before.in-Payout.is (λ m f. simp (back c.before.before.in-Payout.amount (search rules)) at (c.paid_out.ensures c.before.before.in-Payout.caller Nothing Nothing Nothing m)))
+returns-4 c = passes (c.before.before) _ (on-it _ c.in-Payout.is (λ m f. simp (back c.in-Payout.amount (search rules)) at (c.paid_out.ensures c.in-Payout.caller Nothing Nothing Nothing m)))
 
 returns-5 : tie.Need-returns-in-Approve
 unfolding shape_of account_names offer_names settings_names names_for account_rule offer_rule settings_rule ruled
-returns-5 c = passes (c.before.before.before.before) _ (on-it _ c.before.before.in-Approve.is (λ m f. simp (back c.before.before.in-Approve.amount (search rules)) at (c.approved.ensures c.before.before.in-Approve.caller Nothing Nothing Nothing m)))
+returns-5 c = passes (c.before.before) _ (on-it _ c.in-Approve.is (λ m f. simp (back c.in-Approve.amount (search rules)) at (c.approved.ensures c.in-Approve.caller Nothing Nothing Nothing m)))
 
 returns-6 : tie.Need-returns-in-RegisterInvoice
 unfolding shape_of account_names offer_names settings_names names_for account_rule offer_rule settings_rule ruled
-returns-6 c = passes (c.before.before.before.before.before) _ (on-it _ c.before.before.before.in-RegisterInvoice.is (λ m f. simp (back c.before.before.before.in-RegisterInvoice.amount (search rules)) at (c.registered.ensures c.before.before.before.in-RegisterInvoice.id (Id c.before.before.before.in-RegisterInvoice.caller) Nothing Nothing m (ap (λ z. leb 64 z.invoices) f))))
+returns-6 c = passes (c.before.before.before) _ (on-it _ c.in-RegisterInvoice.is (λ m f. simp (back c.in-RegisterInvoice.amount (search rules)) at (c.registered.ensures c.in-RegisterInvoice.id (Id c.in-RegisterInvoice.caller) Nothing Nothing m (ap (λ z. leb 64 z.invoices) f))))
 
 returns-7 : tie.Need-returns-in-CancelInvoice
 unfolding shape_of account_names offer_names settings_names names_for account_rule offer_rule settings_rule ruled
-returns-7 c = passes (c.before.before.before.before) _ (on-it _ c.before.before.in-CancelInvoice.is (λ m f. c.cancelled.ensures c.before.before.in-CancelInvoice.id (Id c.before.before.in-CancelInvoice.caller) Nothing Nothing m))
+returns-7 c = passes (c.before.before) _ (on-it _ c.in-CancelInvoice.is (λ m f. c.cancelled.ensures c.in-CancelInvoice.id (Id c.in-CancelInvoice.caller) Nothing Nothing m))
 
 returns-8 : tie.Need-returns-in-CreateOffer
 unfolding shape_of account_names offer_names settings_names names_for account_rule offer_rule settings_rule ruled
-returns-8 c = passes (c.before.before.before.before.before) _ (on-it _ c.before.before.before.in-CreateOffer.is (λ m f. c.created.ensures c.before.before.before.in-CreateOffer.id Nothing m (ap (λ z. leb 64 z.offers) f)))
+returns-8 c = passes (c.before.before.before) _ (on-it _ c.in-CreateOffer.is (λ m f. c.created.ensures c.in-CreateOffer.id Nothing m (ap (λ z. leb 64 z.offers) f)))
 
 returns-9 : tie.Need-returns-in-WithdrawOffer
 unfolding shape_of account_names offer_names settings_names names_for account_rule offer_rule settings_rule ruled
-returns-9 c = passes (c.before.before.before.before) _ (on-it _ c.before.before.in-WithdrawOffer.is (λ m f. c.withdrawn.ensures c.before.before.in-WithdrawOffer.id (Id c.before.before.in-WithdrawOffer.caller) Nothing m))
+returns-9 c = passes (c.before.before) _ (on-it _ c.in-WithdrawOffer.is (λ m f. c.withdrawn.ensures c.in-WithdrawOffer.id (Id c.in-WithdrawOffer.caller) Nothing m))
 
 returns-10 : tie.Need-returns-in-AcceptOffer
 unfolding shape_of account_names offer_names settings_names names_for account_rule offer_rule settings_rule ruled
-returns-10 c = passes (c.before.before.before.before) _ (on-it _ c.before.before.in-AcceptOffer.is (λ m f. c.accepted.ensures c.before.before.in-AcceptOffer.id m))
+returns-10 c = passes (c.before.before) _ (on-it _ c.in-AcceptOffer.is (λ m f. c.accepted.ensures c.in-AcceptOffer.id m))
 
 returns-11 : tie.Need-returns-in-RejectOffer
 unfolding shape_of account_names offer_names settings_names names_for account_rule offer_rule settings_rule ruled
-returns-11 c = passes (c.before.before.before.before) _ (on-it _ c.before.before.in-RejectOffer.is (λ m f. c.rejected.ensures c.before.before.in-RejectOffer.id (Id c.before.before.in-RejectOffer.caller) Nothing m))
+returns-11 c = passes (c.before.before) _ (on-it _ c.in-RejectOffer.is (λ m f. c.rejected.ensures c.in-RejectOffer.id (Id c.in-RejectOffer.caller) Nothing m))
 
 returns-12 : tie.Need-returns-in-AmendOffer
 unfolding shape_of account_names offer_names settings_names names_for account_rule offer_rule settings_rule ruled
-returns-12 c = passes (c.before.before.before.before) _ (on-it _ c.before.before.in-AmendOffer.is (λ m f. c.amended.ensures c.before.before.in-AmendOffer.id m))
+returns-12 c = passes (c.before.before) _ (on-it _ c.in-AmendOffer.is (λ m f. c.amended.ensures c.in-AmendOffer.id m))
 
 returns-13 : tie.Need-returns-in-CounterOffer
 unfolding shape_of account_names offer_names settings_names names_for account_rule offer_rule settings_rule ruled
-returns-13 c = passes (c.before.before.before.before) _ (on-it _ c.before.before.in-CounterOffer.is (λ m f. c.countered.ensures c.before.before.in-CounterOffer.id m))
+returns-13 c = passes (c.before.before) _ (on-it _ c.in-CounterOffer.is (λ m f. c.countered.ensures c.in-CounterOffer.id m))
 
 returns-14 : tie.Need-returns-in-CloseNegotiation
 unfolding shape_of account_names offer_names settings_names names_for account_rule offer_rule settings_rule ruled
-returns-14 c = passes (c.before.before.before.before) _ (on-it _ c.before.before.in-CloseNegotiation.is (λ m f. c.closed.ensures c.before.before.in-CloseNegotiation.id (Id c.before.before.in-CloseNegotiation.caller) Nothing m))
+returns-14 c = passes (c.before.before) _ (on-it _ c.in-CloseNegotiation.is (λ m f. c.closed.ensures c.in-CloseNegotiation.id (Id c.in-CloseNegotiation.caller) Nothing m))
 
 returns-15 : tie.Need-returns-in-ScheduleRepayment
 unfolding shape_of account_names offer_names settings_names names_for account_rule offer_rule settings_rule ruled
-returns-15 c = passes (c.before.before.before.before) _ (on-it _ c.before.before.in-ScheduleRepayment.is (λ m f. c.scheduled.ensures c.before.before.in-ScheduleRepayment.id (Id c.before.before.in-ScheduleRepayment.caller) Nothing m))
+returns-15 c = passes (c.before.before) _ (on-it _ c.in-ScheduleRepayment.is (λ m f. c.scheduled.ensures c.in-ScheduleRepayment.id (Id c.in-ScheduleRepayment.caller) Nothing m))
 
 returns-16 : tie.Need-returns-in-UpdateStatus
 unfolding shape_of account_names offer_names settings_names names_for account_rule offer_rule settings_rule ruled
-returns-16 c = passes (c.before.before.before.before) _ (on-it _ c.before.before.in-UpdateStatus.is (λ m f. c.status_updated.ensures c.before.before.in-UpdateStatus.id (Id c.before.before.in-UpdateStatus.caller) Nothing m))
+returns-16 c = passes (c.before.before) _ (on-it _ c.in-UpdateStatus.is (λ m f. c.status_updated.ensures c.in-UpdateStatus.id (Id c.in-UpdateStatus.caller) Nothing m))
 
 returns-17 : tie.Need-returns-in-UpdateRepaid
 unfolding shape_of account_names offer_names settings_names names_for account_rule offer_rule settings_rule ruled
-returns-17 c = passes (c.before.before.before.before) _ (on-it _ c.before.before.in-UpdateRepaid.is (λ m f. simp (back c.before.before.in-UpdateRepaid.amount (search rules)) at (c.repaid_updated.ensures c.before.before.in-UpdateRepaid.id (Id c.before.before.in-UpdateRepaid.caller) Nothing m)))
+returns-17 c = passes (c.before.before) _ (on-it _ c.in-UpdateRepaid.is (λ m f. simp (back c.in-UpdateRepaid.amount (search rules)) at (c.repaid_updated.ensures c.in-UpdateRepaid.id (Id c.in-UpdateRepaid.caller) Nothing m)))
 
 returns-18 : tie.Need-returns-in-UpdateLenderRepaid
 unfolding shape_of account_names offer_names settings_names names_for account_rule offer_rule settings_rule ruled
-returns-18 c = passes (c.before.before.before.before) _ (on-it _ c.before.before.in-UpdateLenderRepaid.is (λ m f. c.lender_repaid.ensures c.before.before.in-UpdateLenderRepaid.id (Id c.before.before.in-UpdateLenderRepaid.caller) Nothing Nothing m))
+returns-18 c = passes (c.before.before) _ (on-it _ c.in-UpdateLenderRepaid.is (λ m f. c.lender_repaid.ensures c.in-UpdateLenderRepaid.id (Id c.in-UpdateLenderRepaid.caller) Nothing Nothing m))
 
 returns-19 : tie.Need-returns-in-UpdateTotalsRepaid
 unfolding shape_of account_names offer_names settings_names names_for account_rule offer_rule settings_rule ruled
-returns-19 c = passes (c.before.before.before.before) _ (on-it _ c.before.before.in-UpdateTotalsRepaid.is (λ m f. simp (back c.before.before.in-UpdateTotalsRepaid.amount (search rules), back c.before.before.in-UpdateTotalsRepaid.fee (search rules)) at (c.totals_repaid.ensures (keys_by (Id c.before.before.in-UpdateTotalsRepaid.caller) Nothing Nothing Nothing) m)))
+returns-19 c = passes (c.before.before) _ (on-it _ c.in-UpdateTotalsRepaid.is (λ m f. simp (back c.in-UpdateTotalsRepaid.amount (search rules), back c.in-UpdateTotalsRepaid.fee (search rules)) at (c.totals_repaid.ensures (keys_by (Id c.in-UpdateTotalsRepaid.caller) Nothing Nothing Nothing) m)))
 
 returns-20 : tie.Need-returns-in-Pause
 unfolding shape_of account_names offer_names settings_names names_for account_rule offer_rule settings_rule ruled
-returns-20 c = passes (c.before.before.before.before) _ (on-it _ c.before.before.in-Pause.is (λ m f. c.pause_set.ensures (keys_by Nothing Nothing Nothing Nothing) m))
+returns-20 c = passes (c.before.before) _ (on-it _ c.in-Pause.is (λ m f. c.pause_set.ensures (keys_by Nothing Nothing Nothing Nothing) m))
 
 returns-21 : tie.Need-returns-in-Unpause
 unfolding shape_of account_names offer_names settings_names names_for account_rule offer_rule settings_rule ruled
-returns-21 c = passes (c.before.before.before.before) _ (on-it _ c.before.before.in-Unpause.is (λ m f. c.pause_set-in-Unpause.ensures (keys_by Nothing Nothing Nothing Nothing) m))
+returns-21 c = passes (c.before.before) _ (on-it _ c.in-Unpause.is (λ m f. c.pause_set-in-Unpause.ensures (keys_by Nothing Nothing Nothing Nothing) m))
 
 returns-22 : tie.Need-returns-in-SetWindow
 unfolding shape_of account_names offer_names settings_names names_for account_rule offer_rule settings_rule ruled
-returns-22 c = passes (c.before.before.before.before) _ (on-it _ c.before.before.in-SetWindow.is (λ m f. c.window_set.ensures (keys_by Nothing Nothing Nothing Nothing) m))
+returns-22 c = passes (c.before.before) _ (on-it _ c.in-SetWindow.is (λ m f. c.window_set.ensures (keys_by Nothing Nothing Nothing Nothing) m))
 
 returns-23 : tie.Need-returns-in-SetRepaymentAccount
 unfolding shape_of account_names offer_names settings_names names_for account_rule offer_rule settings_rule ruled
-returns-23 c = passes (c.before.before.before.before) _ (on-it _ c.before.before.in-SetRepaymentAccount.is (λ m f. c.repayer_set.ensures Nothing Nothing Nothing m))
+returns-23 c = passes (c.before.before) _ (on-it _ c.in-SetRepaymentAccount.is (λ m f. c.repayer_set.ensures Nothing Nothing Nothing m))
 
 returns-24 : tie.Need-returns-in-SetBlacklisted
 unfolding shape_of account_names offer_names settings_names names_for account_rule offer_rule settings_rule ruled
-returns-24 c = passes (c.before.before.before.before) _ (on-it _ c.before.before.in-SetBlacklisted.is (λ m f. c.blacklisted.ensures c.before.before.in-SetBlacklisted.id Nothing Nothing Nothing m))
+returns-24 c = passes (c.before.before) _ (on-it _ c.in-SetBlacklisted.is (λ m f. c.blacklisted.ensures c.in-SetBlacklisted.id Nothing Nothing Nothing m))
 
 returns-25 : tie.Need-returns-in-SetSeats
 unfolding shape_of account_names offer_names settings_names names_for account_rule offer_rule settings_rule ruled
-returns-25 c = passes (c.before.before.before.before) _ (on-it _ c.before.before.in-SetSeats.is (λ m f. c.seats_set.ensures (keys_by Nothing Nothing Nothing Nothing) m))
+returns-25 c = passes (c.before.before) _ (on-it _ c.in-SetSeats.is (λ m f. c.seats_set.ensures (keys_by Nothing Nothing Nothing Nothing) m))
 
 pub turn_spec : {M : Type 1} → statement M
 turn_spec =
     tie.close
-    (tie.spec
-    gate-requires
-    returns
-    enum_told
-    opened-requires
-    enum-known-c
-    deposited-requires
-    enum-known-c-2
-    paid-out-requires
-    enum-known-c-3
-    approved-requires
-    enum-known-c-4
-    registered-requires
-    enum-known-c-5
-    cancelled-requires
-    enum-known-c-6
-    created-requires
-    enum-known-c-7
-    withdrawn-requires
-    enum-known-c-8
-    accepted-requires
-    enum-known-c-9
-    rejected-requires
-    enum-known-c-10
-    amended-requires
-    enum-known-c-11
-    countered-requires
-    enum-known-c-12
-    closed-requires
-    enum-known-c-13
-    scheduled-requires
-    enum-known-c-14
-    status-updated-requires
-    enum-known-c-15
-    repaid-updated-requires
-    enum-known-c-16
-    lender-repaid-requires
-    enum-known-c-17
-    totals-repaid-requires
-    enum-known-c-18
-    pause-set-requires
-    enum-known-c-19
-    pause-set-requires-2
-    enum-known-c-20
-    window-set-requires
-    enum-known-c-21
-    repayer-set-requires
-    enum-known-c-22
-    blacklisted-requires
-    enum-known-c-23
-    seats-set-requires
-    returns-2
-    returns-3
-    returns-4
-    returns-5
-    returns-6
-    returns-7
-    returns-8
-    returns-9
-    returns-10
-    returns-11
-    returns-12
-    returns-13
-    returns-14
-    returns-15
-    returns-16
-    returns-17
-    returns-18
-    returns-19
-    returns-20
-    returns-21
-    returns-22
-    returns-23
-    returns-24
-    returns-25)
+    (tie.spec gate-requires returns enum_told opened-requires enum-known-c deposited-requires enum-known-c-2 paid-out-requires enum-known-c-3 approved-requires enum-known-c-4 registered-requires enum-known-c-5 cancelled-requires enum-known-c-6 created-requires enum-known-c-7 withdrawn-requires enum-known-c-8 accepted-requires enum-known-c-9 rejected-requires enum-known-c-10 amended-requires enum-known-c-11 countered-requires enum-known-c-12 closed-requires enum-known-c-13 scheduled-requires enum-known-c-14 status-updated-requires enum-known-c-15 repaid-updated-requires enum-known-c-16 lender-repaid-requires enum-known-c-17 totals-repaid-requires enum-known-c-18 pause-set-requires enum-known-c-19 pause-set-requires-2 enum-known-c-20 window-set-requires enum-known-c-21 repayer-set-requires enum-known-c-22 blacklisted-requires enum-known-c-23 seats-set-requires returns-2 returns-3 returns-4 returns-5 returns-6 returns-7 returns-8 returns-9 returns-10 returns-11 returns-12 returns-13 returns-14 returns-15 returns-16 returns-17 returns-18 returns-19 returns-20 returns-21 returns-22 returns-23 returns-24 returns-25)

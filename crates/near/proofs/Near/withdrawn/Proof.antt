@@ -5,7 +5,7 @@ use Rattle.near.proofs.Near.withdrawn.Statement.{statement}
 use Rattle.near.proofs.Near.withdrawn.Tie as tie
 
 returns : tie.Need-returns
-returns c = λ o a b m e. c.deal_posted.ensures _ o a b (Id (offer_in m o).row.offer.invoice) m (simp e at c.before.withdraw-posted.ensures) e
+returns c = λ o a b m e. c.deal_posted.ensures _ o a b (Id (offer_in m o).row.offer.invoice) m (simp e at c.withdraw-posted.ensures) e
 
 pub withdrawn_spec : {M : Type 1} → statement M
 withdrawn_spec = tie.close (tie.spec (λ c κs. search rules) (λ c κs. search rules) returns)

@@ -11,11 +11,11 @@ returns c = on _ (eq-eqb _ _ c.if-count-eq0.true) (refl)
 
 returns-2 : tie.Need-returns-then-outcome-ne0
 unfolding accepted_of
-returns-2 c = off _ (ne_eqb _ _ c.before.if-count-eq0.false) (on _ (not_on (ne_eqb _ _ c.if-outcome-ne0.true)) (refl))
+returns-2 c = off _ (ne_eqb _ _ c.if-count-eq0.false) (on _ (not_on (ne_eqb _ _ c.if-outcome-ne0.true)) (refl))
 
 returns-3 : tie.Need-returns
 unfolding accepted_of
-returns-3 c = off _ (ne_eqb _ _ c.before.if-count-eq0.false) (off _ (not_off (eq-eqb _ _ c.if-outcome-ne0.false)) (refl))
+returns-3 c = off _ (ne_eqb _ _ c.if-count-eq0.false) (off _ (not_off (eq-eqb _ _ c.if-outcome-ne0.false)) (refl))
 
 pub accepted_spec : {M : Type 1} → statement M
 accepted_spec = tie.close (tie.spec returns returns-2 returns-3)

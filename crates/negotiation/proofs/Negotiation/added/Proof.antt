@@ -12,7 +12,7 @@ returns c = on _ (le-leb _ _ c.if-count-ge-ROUND_SLOTS.true) (refl)
 
 returns-2 : tie.Need-returns
 unfolding added_of
-returns-2 c = off _ (lt-leb _ _ c.before.if-count-ge-ROUND_SLOTS.false) (rw (← c.deadline_after-d.ensures))
+returns-2 c = off _ (lt-leb _ _ c.if-count-ge-ROUND_SLOTS.false) (rw (← c.deadline_after-d.ensures))
 
 pub added_spec : {M : Type 1} → statement M
 added_spec =

@@ -27,36 +27,22 @@ loop-holds c = (search rules, refl)
 returns-2 : tie.Need-returns-then-party-eq-ORIGINATOR invariant-loop decreases-loop
 unfolding agrees_of matches
 returns-2 c =
-    c.same_terms.ensures ∙ ap (λ u. same_terms u c.before.before.before.before.before.before.before.args.t) c.before.terms-u.ensures
-    ∙ sym (ap (matches _) (pick_off _ _ (le-ltb _ _ c.before.before.before.before.before.before.if-count-gt-ROUND_SLOTS.false)
-    ∙ c.before.before.before.before.before.loop-i.invariant.1
-    ∙ latest_step _ _ c.before.before.before.before.loop-i-test.true
-    ∙ pick_on _ _ (eq-eqb _ _ c.before.before.if-party-eq-ORIGINATOR.true)))
+    c.same_terms.ensures ∙ ap (λ u. same_terms u c.args.t) c.terms-u.ensures
+    ∙ sym (ap (matches _) (pick_off _ _ (le-ltb _ _ c.if-count-gt-ROUND_SLOTS.false)
+    ∙ c.loop-i.invariant.1
+    ∙ latest_step _ _ c.loop-i-test.true
+    ∙ pick_on _ _ (eq-eqb _ _ c.if-party-eq-ORIGINATOR.true)))
 
 loop-again : tie.Need-loop-i-preserved invariant-loop decreases-loop
-loop-again c = (search rules, c.before.before.before.loop-i.invariant.1 ∙ latest_step _ _ c.before.before.loop-i-test.true ∙ pick_off _ _ (ne_eqb _ _ c.if-party-eq-ORIGINATOR.false))
+loop-again c = (search rules, c.loop-i.invariant.1 ∙ latest_step _ _ c.loop-i-test.true ∙ pick_off _ _ (ne_eqb _ _ c.if-party-eq-ORIGINATOR.false))
 
 returns-3 : tie.Need-returns invariant-loop decreases-loop
 unfolding agrees_of matches latest_below
 returns-3 c =
-    let e : c.before.loop-i.i ≡ 0 = omega arith in
-    sym (ap (matches _) (pick_off _ _ (le-ltb _ _ c.before.before.if-count-gt-ROUND_SLOTS.false) ∙ c.before.loop-i.invariant.1 ∙ ap (latest_below _) e))
+    let e : c.loop-i.i ≡ 0 = omega arith in
+    sym (ap (matches _) (pick_off _ _ (le-ltb _ _ c.if-count-gt-ROUND_SLOTS.false) ∙ c.loop-i.invariant.1 ∙ ap (latest_below _) e))
 
 pub agrees_spec : {M : Type 1} → statement M
 agrees_spec =
     tie.close
-    (tie.spec
-    invariant-loop
-    decreases-loop
-    returns
-    (λ c. search rules)
-    loop-holds
-    (λ c. search rules)
-    (λ c. search rules)
-    (λ c. search rules)
-    (λ c κs. search rules)
-    (λ c κs. search rules)
-    returns-2
-    (λ c. search rules)
-    loop-again
-    returns-3)
+    (tie.spec invariant-loop decreases-loop returns (λ c. search rules) loop-holds (λ c. search rules) (λ c. search rules) (λ c. search rules) (λ c κs. search rules) (λ c κs. search rules) returns-2 (λ c. search rules) loop-again returns-3)

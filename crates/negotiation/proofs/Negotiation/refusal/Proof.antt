@@ -10,16 +10,16 @@ returns : tie.Need-returns-then-not-pending
 returns c = fails invalid_transition _ c.if-not-pending.true-raw
 
 returns-2 : tie.Need-returns-then-status-gt-OPEN
-returns-2 c = passes _ _ c.before.before.if-not-pending.false-raw (rw (← c.before.status-status.ensures) (fails invalid_transition _ (lt-ltb _ _ c.if-status-gt-OPEN.true)))
+returns-2 c = passes _ _ c.if-not-pending.false-raw (rw (← c.status-status.ensures) (fails invalid_transition _ (lt-ltb _ _ c.if-status-gt-OPEN.true)))
 
 returns-3 : tie.Need-returns-then-count-round
-returns-3 c = passes _ _ c.before.before.before.if-not-pending.false-raw (rw (← c.before.before.status-status.ensures) (passes _ _ (le-ltb _ _ c.before.if-status-gt-OPEN.false) (fails invalid_input _ (not_on (ne_eqb _ _ c.if-count-round.true)))))
+returns-3 c = passes _ _ c.if-not-pending.false-raw (rw (← c.status-status.ensures) (passes _ _ (le-ltb _ _ c.if-status-gt-OPEN.false) (fails invalid_input _ (not_on (ne_eqb _ _ c.if-count-round.true)))))
 
 returns-4 : tie.Need-returns-then-limit-count
-returns-4 c = passes _ _ c.before.before.before.before.if-not-pending.false-raw (rw (← c.before.before.before.status-status.ensures) (passes _ _ (le-ltb _ _ c.before.before.if-status-gt-OPEN.false) (passes _ _ (not_off (eq-eqb _ _ c.before.if-count-round.false)) (fails invalid_transition _ (le-leb _ _ c.if-limit-count.true)))))
+returns-4 c = passes _ _ c.if-not-pending.false-raw (rw (← c.status-status.ensures) (passes _ _ (le-ltb _ _ c.if-status-gt-OPEN.false) (passes _ _ (not_off (eq-eqb _ _ c.if-count-round.false)) (fails invalid_transition _ (le-leb _ _ c.if-limit-count.true)))))
 
 returns-5 : tie.Need-returns
-returns-5 c = passes _ _ c.before.before.before.before.if-not-pending.false-raw (rw (← c.before.before.before.status-status.ensures) (passes _ _ (le-ltb _ _ c.before.before.if-status-gt-OPEN.false) (passes _ _ (not_off (eq-eqb _ _ c.before.if-count-round.false)) (passes _ _ (lt-leb _ _ c.if-limit-count.false) none_left))))
+returns-5 c = passes _ _ c.if-not-pending.false-raw (rw (← c.status-status.ensures) (passes _ _ (le-ltb _ _ c.if-status-gt-OPEN.false) (passes _ _ (not_off (eq-eqb _ _ c.if-count-round.false)) (passes _ _ (lt-leb _ _ c.if-limit-count.false) none_left))))
 
 pub refusal_spec : {M : Type 1} → statement M
 refusal_spec = tie.close (tie.spec returns (λ c κs. search rules) returns-2 returns-3 returns-4 returns-5)

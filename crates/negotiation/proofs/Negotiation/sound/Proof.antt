@@ -17,26 +17,15 @@ decreases-loop limit self n ok₀ i₀ ok i = 16 - i
 
 loop-again : tie.Need-loop-i-preserved invariant-loop decreases-loop
 loop-again c =
-    let i = c.before.before.before.loop-i.i in
-    let count = c.before.before.before.before.args.self.len in
-    check_turn c.before.before.before.loop-i.invariant c.before.before.loop-i-test.true (c.fits2.ensures ∙ sym (by_use_lem count i _ _))
+    let i = c.loop-i.i in
+    let count = c.args.self.len in
+    check_turn c.loop-i.invariant c.loop-i-test.true (c.fits2.ensures ∙ sym (by_use_lem count i _ _))
 
 returns : tie.Need-returns invariant-loop decreases-loop
 unfolding negotiation_sound
-returns c = (rw (check_done c.before.loop-i.invariant c.loop-i-test.false), record { long = simp length-map at c.before.before.well-formed.0.1.1.0.1.0.1 })
+returns c = (rw (check_done c.loop-i.invariant c.loop-i-test.false), record { long = simp length-map at c.well-formed.0.1.1.0.1.0.1 })
 
 pub sound_spec : {M : Type 1} → statement M
 sound_spec =
     tie.close
-    (tie.spec
-    invariant-loop
-    decreases-loop
-    (λ c. search rules)
-    (λ c. check_start _ _)
-    (λ c. search rules)
-    (λ c. search rules)
-    (λ c κs. search rules)
-    (λ c. search rules)
-    (λ c. search rules)
-    loop-again
-    returns)
+    (tie.spec invariant-loop decreases-loop (λ c. search rules) (λ c. check_start _ _) (λ c. search rules) (λ c. search rules) (λ c κs. search rules) (λ c. search rules) (λ c. search rules) loop-again returns)

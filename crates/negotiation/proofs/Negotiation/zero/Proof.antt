@@ -16,23 +16,13 @@ abbrev decreases-loop : tie.decreases-loop-i
 decreases-loop self ok₀ i₀ ok i = 16 - i
 
 loop-again : tie.Need-loop-i-preserved invariant-loop decreases-loop
-loop-again c = check_turn c.before.before.before.loop-i.invariant c.before.before.loop-i-test.true c.zero-zero.ensures
+loop-again c = check_turn c.loop-i.invariant c.loop-i-test.true c.zero-zero.ensures
 
 returns : tie.Need-returns invariant-loop decreases-loop
 unfolding negotiation_zero
-returns c = (ap (λ (b : Bool). ((b && eqb c.before.before.args.self.deadline 0) && eqb c.before.before.args.self.len 0) && eqb c.before.before.args.self.outcome 0) (check_done c.before.loop-i.invariant c.loop-i-test.false), record { long = simp length-map at c.before.before.well-formed.0.1.1.0.1.0.1 })
+returns c = (ap (λ (b : Bool). ((b && eqb c.args.self.deadline 0) && eqb c.args.self.len 0) && eqb c.args.self.outcome 0) (check_done c.loop-i.invariant c.loop-i-test.false), record { long = simp length-map at c.well-formed.0.1.1.0.1.0.1 })
 
 pub zero_spec : {M : Type 1} → statement M
 zero_spec =
     tie.close
-    (tie.spec
-    invariant-loop
-    decreases-loop
-    (λ c. check_start _ _)
-    (λ c. search rules)
-    (λ c. search rules)
-    (λ c κs. search rules)
-    (λ c. search rules)
-    (λ c. search rules)
-    loop-again
-    returns)
+    (tie.spec invariant-loop decreases-loop (λ c. check_start _ _) (λ c. search rules) (λ c. search rules) (λ c κs. search rules) (λ c. search rules) (λ c. search rules) loop-again returns)

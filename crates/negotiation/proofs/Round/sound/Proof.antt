@@ -9,7 +9,7 @@ use Rattle.negotiation.proofs.Round.sound.Tie as tie
 
 returns : tie.Need-returns
 unfolding round_sound
-returns c = ap (λ (b : Bool). b && leb c.before.before.args.self.party 1) (c.terms_valid.ensures ∙ ap terms_ok c.before.terms-t.ensures)
+returns c = ap (λ (b : Bool). b && leb c.args.self.party 1) (c.terms_valid.ensures ∙ ap terms_ok c.terms-t.ensures)
 
 pub sound_spec : {M : Type 1} → statement M
 sound_spec = tie.close (tie.spec (λ c κs. search rules) (λ c κs. search rules) returns)

@@ -7,19 +7,11 @@ use Rattle.offer.proofs.Deal.sound.Tie as tie
 returns : tie.Need-returns
 unfolding deal_sound
 returns c = (
-  rw (c.before.before.before.before.before.before.before.terms_valid-a.ensures, simp (back c.before.before.before.before.before.before.before.before.before.before.before.before.args.self.offer-1.repaid (search rules)) at c.before.before.before.before.before.in_total_range-b.ensures, rw c.before.before.before.before.before.before.before.before.before.before.before.round_limit-limit.ensures at c.before.before.before.sound-sound.ensures.tested, c.before.schedule_zero-d.ensures, rw c.before.before.before.before.before.before.before.before.before.before.keeps_terms-kept.ensures at c.schedule_ok-e.ensures),
-  c.before.before.before.sound-sound.ensures.whole,
+  rw (c.terms_valid-a.ensures, simp (back c.args.self.offer-1.repaid (search rules)) at c.in_total_range-b.ensures, rw c.round_limit-limit.ensures at c.sound-sound.ensures.tested, c.schedule_zero-d.ensures, rw c.keeps_terms-kept.ensures at c.schedule_ok-e.ensures),
+  c.sound-sound.ensures.whole,
 )
 
 pub sound_spec : {M : Type 1} → statement M
 sound_spec =
     tie.close
-    (tie.spec
-    (λ c κs. search rules)
-    (λ c κs. search rules)
-    (λ c κs. search rules)
-    (λ c κs. search rules)
-    (λ c κs. search rules)
-    (λ c κs. search rules)
-    (λ c κs. search rules)
-    returns)
+    (tie.spec (λ c κs. search rules) (λ c κs. search rules) (λ c κs. search rules) (λ c κs. search rules) (λ c κs. search rules) (λ c κs. search rules) (λ c κs. search rules) returns)

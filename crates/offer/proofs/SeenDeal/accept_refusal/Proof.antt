@@ -10,46 +10,46 @@ returns c = fails not_found _ c.if-not-self.true
 
 returns-2 : tie.Need-returns-then-not-status
 returns-2 c =
-    passes not_found _ c.before.before.before.if-not-self.false
+    passes not_found _ c.if-not-self.false
     (fails invalid_transition _ c.if-not-status.true-raw)
 
 returns-3 : tie.Need-returns-then-expired
 returns-3 c =
-    passes not_found _ c.before.before.before.before.before.if-not-self.false
-    (passes invalid_transition _ c.before.before.if-not-status.false-raw
-    (fails offer_expired _ (sym c.before.expired.ensures ∙ c.if-expired.true)))
+    passes not_found _ c.if-not-self.false
+    (passes invalid_transition _ c.if-not-status.false-raw
+    (fails offer_expired _ (sym c.expired.ensures ∙ c.if-expired.true)))
 
 returns-4 : tie.Need-returns-then-not-paper
 returns-4 c =
-    passes not_found _ c.before.before.before.before.before.before.before.if-not-self.false
-    (passes invalid_transition _ c.before.before.before.before.if-not-status.false-raw
-    (passes offer_expired _ (sym c.before.before.before.expired.ensures ∙ c.before.before.if-expired.false)
+    passes not_found _ c.if-not-self.false
+    (passes invalid_transition _ c.if-not-status.false-raw
+    (passes offer_expired _ (sym c.expired.ensures ∙ c.if-expired.false)
     (fails not_found _ c.if-not-paper.true)))
 
 returns-5 : tie.Need-returns-then-not-originator-caller
 returns-5 c =
-    passes not_found _ c.before.before.before.before.before.before.before.before.before.if-not-self.false
-    (passes invalid_transition _ c.before.before.before.before.before.before.if-not-status.false-raw
-    (passes offer_expired _ (sym c.before.before.before.before.before.expired.ensures ∙ c.before.before.before.before.if-expired.false)
-    (passes not_found _ c.before.before.if-not-paper.false
+    passes not_found _ c.if-not-self.false
+    (passes invalid_transition _ c.if-not-status.false-raw
+    (passes offer_expired _ (sym c.expired.ensures ∙ c.if-expired.false)
+    (passes not_found _ c.if-not-paper.false
     (fails unauthorized _ c.if-not-originator-caller.true-raw))))
 
 returns-6 : tie.Need-returns-then-not-p
 returns-6 c =
-    passes not_found _ c.before.before.before.before.before.before.before.before.before.before.if-not-self.false
-    (passes invalid_transition _ c.before.before.before.before.before.before.before.if-not-status.false-raw
-    (passes offer_expired _ (sym c.before.before.before.before.before.before.expired.ensures ∙ c.before.before.before.before.before.if-expired.false)
-    (passes not_found _ c.before.before.before.if-not-paper.false
-    (passes unauthorized _ c.before.if-not-originator-caller.false-raw
+    passes not_found _ c.if-not-self.false
+    (passes invalid_transition _ c.if-not-status.false-raw
+    (passes offer_expired _ (sym c.expired.ensures ∙ c.if-expired.false)
+    (passes not_found _ c.if-not-paper.false
+    (passes unauthorized _ c.if-not-originator-caller.false-raw
     (fails invalid_transition _ c.if-not-p.true-raw)))))
 
 returns-7 : tie.Need-returns
 returns-7 c =
-    passes not_found _ c.before.before.before.before.before.before.before.before.before.before.if-not-self.false
-    (passes invalid_transition _ c.before.before.before.before.before.before.before.if-not-status.false-raw
-    (passes offer_expired _ (sym c.before.before.before.before.before.before.expired.ensures ∙ c.before.before.before.before.before.if-expired.false)
-    (passes not_found _ c.before.before.before.if-not-paper.false
-    (passes unauthorized _ c.before.if-not-originator-caller.false-raw
+    passes not_found _ c.if-not-self.false
+    (passes invalid_transition _ c.if-not-status.false-raw
+    (passes offer_expired _ (sym c.expired.ensures ∙ c.if-expired.false)
+    (passes not_found _ c.if-not-paper.false
+    (passes unauthorized _ c.if-not-originator-caller.false-raw
     (passes invalid_transition _ c.if-not-p.false-raw
     none_left)))))
 

@@ -22,42 +22,42 @@ module _ (a b : ℕ) (u : Table Account) where
   second-of : {p : Parties} → p ≡ parties_of a b u → p.second-1 ≡ seen_in u b
   second-of e = ap (λ (z : Parties). z.second-1) e
 
-module _ (c : tie.After-debit-p) (a b : ℕ) (u : Table Account) (e : c.before.before.before.before.before.args.self ≡ parties_of a b u) where
-  number1 : c.debit-p.result.answer ≡ first (step1 a b u c.before.before.before.before.before.args.t).checks
-  number1 = row_answer u a (debit c.before.before.before.before.before.args.t) (first-of a b u e) c.debit-p.ensures c.before.before.if-not-first.false
+module _ (c : tie.After-debit-p) (a b : ℕ) (u : Table Account) (e : c.args.self ≡ parties_of a b u) where
+  number1 : c.debit-p.result.answer ≡ first (step1 a b u c.args.t).checks
+  number1 = row_answer u a (debit c.args.t) (first-of a b u e) c.debit-p.ensures c.if-not-first.false
 
-module _ (c : tie.After-put_first-one) (a b : ℕ) (u : Table Account) (e : c.before.before.before.before.before.before.before.before.args.self ≡ parties_of a b u) where
-  passed1 : first (step1 a b u c.before.before.before.before.before.before.before.before.args.t).checks ≡ 0
-  passed1 = sym (number1 c.before.before.before a b u e) ∙ zero_of c.before.before.if-not-answer.false-raw
+module _ (c : tie.After-put_first-one) (a b : ℕ) (u : Table Account) (e : c.args.self ≡ parties_of a b u) where
+  passed1 : first (step1 a b u c.args.t).checks ≡ 0
+  passed1 = sym (number1 c.before.before.before a b u e) ∙ zero_of c.if-not-answer.false-raw
 
-  seen1 : c.put_first-one.result ≡ parties_of a b (step1 a b u c.before.before.before.before.before.before.before.before.args.t).done
-  seen1 = first_step a b u c.before.before.before.debit-p.result e (debit c.before.before.before.before.before.before.before.before.args.t) c.put_first-one.ensures (row_done u a (debit c.before.before.before.before.before.before.before.before.args.t) (first-of a b u e) c.before.before.before.debit-p.ensures c.before.before.before.before.before.if-not-first.false (zero_of c.before.before.if-not-answer.false-raw))
+  seen1 : c.put_first-one.result ≡ parties_of a b (step1 a b u c.args.t).done
+  seen1 = first_step a b u c.debit-p.result e (debit c.args.t) c.put_first-one.ensures (row_done u a (debit c.args.t) (first-of a b u e) c.debit-p.ensures c.if-not-first.false (zero_of c.if-not-answer.false-raw))
 
-module _ (c : tie.After-credit-q) (a b : ℕ) (u : Table Account) (e : c.before.before.before.before.before.before.before.before.before.before.before.before.before.args.self ≡ parties_of a b u) where
-  number2 : c.credit-q.result.answer ≡ first (step2 a b u c.before.before.before.before.before.before.before.before.before.before.before.before.before.args.t).checks
-  number2 = row_answer (step1 a b u c.before.before.before.before.before.before.before.before.before.before.before.before.before.args.t).done b (credit c.before.before.before.before.before.before.before.before.before.before.before.before.before.args.t) (second-of a b _ (seen1 c.before.before.before.before.before a b u e)) c.credit-q.ensures c.before.before.if-not-second.false
+module _ (c : tie.After-credit-q) (a b : ℕ) (u : Table Account) (e : c.args.self ≡ parties_of a b u) where
+  number2 : c.credit-q.result.answer ≡ first (step2 a b u c.args.t).checks
+  number2 = row_answer (step1 a b u c.args.t).done b (credit c.args.t) (second-of a b _ (seen1 c.before.before.before.before.before a b u e)) c.credit-q.ensures c.if-not-second.false
 
-module _ (c : tie.After-put_second-two) (a b : ℕ) (u : Table Account) (e : c.before.before.before.before.before.before.before.before.before.before.before.before.before.before.before.before.args.self ≡ parties_of a b u) where
-  passed2 : first (step2 a b u c.before.before.before.before.before.before.before.before.before.before.before.before.before.before.before.before.args.t).checks ≡ 0
-  passed2 = sym (number2 c.before.before.before a b u e) ∙ zero_of c.before.before.if-not-b.false-raw
+module _ (c : tie.After-put_second-two) (a b : ℕ) (u : Table Account) (e : c.args.self ≡ parties_of a b u) where
+  passed2 : first (step2 a b u c.args.t).checks ≡ 0
+  passed2 = sym (number2 c.before.before.before a b u e) ∙ zero_of c.if-not-b.false-raw
 
-  seen2 : c.put_second-two.result ≡ parties_of a b (step2 a b u c.before.before.before.before.before.before.before.before.before.before.before.before.before.before.before.before.args.t).done
-  seen2 = second_step a b _ c.before.before.before.credit-q.result (seen1 c.before.before.before.before.before.before.before.before a b u e) (credit c.before.before.before.before.before.before.before.before.before.before.before.before.before.before.before.before.args.t) c.put_second-two.ensures (row_done (step1 a b u c.before.before.before.before.before.before.before.before.before.before.before.before.before.before.before.before.args.t).done b (credit c.before.before.before.before.before.before.before.before.before.before.before.before.before.before.before.before.args.t) (second-of a b _ (seen1 c.before.before.before.before.before.before.before.before a b u e)) c.before.before.before.credit-q.ensures c.before.before.before.before.before.if-not-second.false (zero_of c.before.before.if-not-b.false-raw))
+  seen2 : c.put_second-two.result ≡ parties_of a b (step2 a b u c.args.t).done
+  seen2 = second_step a b _ c.credit-q.result (seen1 c.before.before.before.before.before.before.before.before a b u e) (credit c.args.t) c.put_second-two.ensures (row_done (step1 a b u c.args.t).done b (credit c.args.t) (second-of a b _ (seen1 c.before.before.before.before.before.before.before.before a b u e)) c.credit-q.ensures c.if-not-second.false (zero_of c.if-not-b.false-raw))
 
   lender-here : not c.put_second-two.result.first-1.here ≡ false
   lender-here =
       ap (λ z. not z.here) (first-of a b _ seen2)
-      ∙ still_here _ a b _ (still_here _ a a _ (ap (λ z. not z.here) (sym (first-of a b u e)) ∙ c.before.before.before.before.before.before.before.before.before.before.before.before.before.if-not-first.false))
+      ∙ still_here _ a b _ (still_here _ a a _ (ap (λ z. not z.here) (sym (first-of a b u e)) ∙ c.if-not-first.false))
 
-module _ (c : tie.After-accept-accepted) (a b : ℕ) (u : Table Account) (e : c.before.before.before.before.before.before.before.before.before.before.before.before.before.before.before.before.before.before.before.args.self ≡ parties_of a b u) where
-  number3 : c.accept-accepted.result.answer ≡ first (step3 a b u c.before.before.before.before.before.before.before.before.before.before.before.before.before.before.before.before.before.before.before.args.t).checks
-  number3 = row_answer (step2 a b u c.before.before.before.before.before.before.before.before.before.before.before.before.before.before.before.before.before.before.before.args.t).done a (accept c.before.before.before.before.before.before.before.before.before.before.before.before.before.before.before.before.before.before.before.args.t) (first-of a b _ (seen2 c.before.before.before a b u e)) c.accept-accepted.ensures (lender-here c.before.before.before a b u e)
+module _ (c : tie.After-accept-accepted) (a b : ℕ) (u : Table Account) (e : c.args.self ≡ parties_of a b u) where
+  number3 : c.accept-accepted.result.answer ≡ first (step3 a b u c.args.t).checks
+  number3 = row_answer (step2 a b u c.args.t).done a (accept c.args.t) (first-of a b _ (seen2 c.before.before.before a b u e)) c.accept-accepted.ensures (lender-here c.before.before.before a b u e)
 
 kept-requires : tie.Need-kept-requires
 kept-requires c κs = search rules
 
 returns : tie.Need-returns-then-not-first
-returns c = λ a b u e. c.kept.ensures ∙ debit_refuses a b u c.before.before.before.before.args.t e (row_missing u a (debit c.before.before.before.before.args.t) (first-of a b u e) c.before.if-not-first.true) refl
+returns c = λ a b u e. c.kept.ensures ∙ debit_refuses a b u c.args.t e (row_missing u a (debit c.args.t) (first-of a b u e) c.if-not-first.true) refl
 
 debit-requires : tie.Need-debit-p-requires
 debit-requires c κs = search rules
@@ -66,7 +66,7 @@ kept-requires-2 : tie.Need-kept-requires-then-not-answer
 kept-requires-2 c κs = search rules
 
 returns-2 : tie.Need-returns-then-not-answer
-returns-2 c = λ a b u e. c.kept-then-not-answer.ensures ∙ debit_refuses a b u c.before.before.before.before.before.before.before.args.t e (number1 c.before.before a b u e) c.before.if-not-answer.true-raw
+returns-2 c = λ a b u e. c.kept-then-not-answer.ensures ∙ debit_refuses a b u c.args.t e (number1 c.before.before a b u e) c.if-not-answer.true-raw
 
 put-first-requires : tie.Need-put_first-one-requires
 put-first-requires c κs = search rules
@@ -75,7 +75,7 @@ kept-requires-3 : tie.Need-kept-requires-then-not-second
 kept-requires-3 c κs = search rules
 
 returns-3 : tie.Need-returns-then-not-second
-returns-3 c = λ a b u e. c.kept-then-not-second.ensures ∙ credit_refuses a b u c.before.before.before.before.before.before.before.before.before.before.before.before.args.t e (passed1 c.before.before.before.before a b u e) (row_missing (step1 a b u c.before.before.before.before.before.before.before.before.before.before.before.before.args.t).done b (credit c.before.before.before.before.before.before.before.before.before.before.before.before.args.t) (second-of a b _ (seen1 c.before.before.before.before a b u e)) c.before.if-not-second.true) refl
+returns-3 c = λ a b u e. c.kept-then-not-second.ensures ∙ credit_refuses a b u c.args.t e (passed1 c.before.before.before.before a b u e) (row_missing (step1 a b u c.args.t).done b (credit c.args.t) (second-of a b _ (seen1 c.before.before.before.before a b u e)) c.if-not-second.true) refl
 
 credit-requires : tie.Need-credit-q-requires
 credit-requires c κs = search rules
@@ -84,7 +84,7 @@ kept-requires-4 : tie.Need-kept-requires-then-not-b
 kept-requires-4 c κs = search rules
 
 returns-4 : tie.Need-returns-then-not-b
-returns-4 c = λ a b u e. c.kept-then-not-b.ensures ∙ credit_refuses a b u c.before.before.before.before.before.before.before.before.before.before.before.before.before.before.before.args.t e (passed1 c.before.before.before.before.before.before.before a b u e) (number2 c.before.before a b u e) c.before.if-not-b.true-raw
+returns-4 c = λ a b u e. c.kept-then-not-b.ensures ∙ credit_refuses a b u c.args.t e (passed1 c.before.before.before.before.before.before.before a b u e) (number2 c.before.before a b u e) c.if-not-b.true-raw
 
 put-second-requires : tie.Need-put_second-two-requires
 put-second-requires c κs = search rules
@@ -96,34 +96,17 @@ kept-requires-5 : tie.Need-kept-requires-then-not-c
 kept-requires-5 c κs = search rules
 
 returns-5 : tie.Need-returns-then-not-c
-returns-5 c = λ a b u e. c.kept-then-not-c.ensures ∙ accept_refuses a b u c.before.before.before.before.before.before.before.before.before.before.before.before.before.before.before.before.before.before.before.before.before.args.t e (passed1 c.before.before.before.before.before.before.before.before.before.before.before.before.before a b u e) (passed2 c.before.before.before.before.before a b u e) (number3 c.before.before a b u e) c.before.if-not-c.true-raw
+returns-5 c = λ a b u e. c.kept-then-not-c.ensures ∙ accept_refuses a b u c.args.t e (passed1 c.before.before.before.before.before.before.before.before.before.before.before.before.before a b u e) (passed2 c.before.before.before.before.before a b u e) (number3 c.before.before a b u e) c.if-not-c.true-raw
 
 put-first-requires-2 : tie.Need-put_first-three-requires
 put-first-requires-2 c κs = search rules
 
 returns-6 : tie.Need-returns
 returns-6 c = λ a b u e.
-    all_pass_lem a b u c.before.before.before.before.before.before.before.before.before.before.before.before.before.before.before.before.before.before.before.before.before.before.args.t (passed1 c.before.before.before.before.before.before.before.before.before.before.before.before.before.before a b u e) (passed2 c.before.before.before.before.before.before a b u e) (sym (number3 c.before.before.before a b u e) ∙ zero_of c.before.before.if-not-c.false-raw)
-    (first_step a b _ c.before.before.before.accept-accepted.result (seen2 c.before.before.before.before.before.before a b u e) (accept c.before.before.before.before.before.before.before.before.before.before.before.before.before.before.before.before.before.before.before.before.before.before.args.t) c.put_first-three.ensures (row_done (step2 a b u c.before.before.before.before.before.before.before.before.before.before.before.before.before.before.before.before.before.before.before.before.before.before.args.t).done a (accept c.before.before.before.before.before.before.before.before.before.before.before.before.before.before.before.before.before.before.before.before.before.before.args.t) (first-of a b _ (seen2 c.before.before.before.before.before.before a b u e)) c.before.before.before.accept-accepted.ensures (lender-here c.before.before.before.before.before.before a b u e) (zero_of c.before.before.if-not-c.false-raw)))
+    all_pass_lem a b u c.args.t (passed1 c.before.before.before.before.before.before.before.before.before.before.before.before.before.before a b u e) (passed2 c.before.before.before.before.before.before a b u e) (sym (number3 c.before.before.before a b u e) ∙ zero_of c.if-not-c.false-raw)
+    (first_step a b _ c.accept-accepted.result (seen2 c.before.before.before.before.before.before a b u e) (accept c.args.t) c.put_first-three.ensures (row_done (step2 a b u c.args.t).done a (accept c.args.t) (first-of a b _ (seen2 c.before.before.before.before.before.before a b u e)) c.accept-accepted.ensures (lender-here c.before.before.before.before.before.before a b u e) (zero_of c.if-not-c.false-raw)))
 
 pub settle_spec : {M : Type 1} → statement M
 settle_spec =
     tie.close
-    (tie.spec
-    kept-requires
-    returns
-    debit-requires
-    kept-requires-2
-    returns-2
-    put-first-requires
-    kept-requires-3
-    returns-3
-    credit-requires
-    kept-requires-4
-    returns-4
-    put-second-requires
-    accept-requires
-    kept-requires-5
-    returns-5
-    put-first-requires-2
-    returns-6)
+    (tie.spec kept-requires returns debit-requires kept-requires-2 returns-2 put-first-requires kept-requires-3 returns-3 credit-requires kept-requires-4 returns-4 put-second-requires accept-requires kept-requires-5 returns-5 put-first-requires-2 returns-6)

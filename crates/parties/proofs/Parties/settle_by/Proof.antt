@@ -6,19 +6,12 @@ use Rattle.parties.proofs.Parties.settle_by.Statement.{statement}
 use Rattle.parties.proofs.Parties.settle_by.Tie as tie
 
 returns : tie.Need-returns-then-lends
-returns c = first_lends c.before.before.args.t c.before.before.args.lends c.before.if-lends.true c.settle.ensures
+returns c = first_lends c.args.t c.args.lends c.if-lends.true c.settle.ensures
 
 returns-2 : tie.Need-returns
-returns-2 c = second_lends c.before.before.before.before.before.before.args.t c.before.before.before.before.before.before.args.lends c.before.before.before.before.before.if-lends.false c.before.before.before.before.turned-other.ensures c.before.before.before.settle-posted.ensures (c.kept.ensures ∙ ap (posted_parties _) c.before.turned.ensures)
+returns-2 c = second_lends c.args.t c.args.lends c.if-lends.false c.turned-other.ensures c.settle-posted.ensures (c.kept.ensures ∙ ap (posted_parties _) c.turned.ensures)
 
 pub settle_by_spec : {M : Type 1} → statement M
 settle_by_spec =
     tie.close
-    (tie.spec
-    (λ c κs. search rules)
-    returns
-    (λ c κs. search rules)
-    (λ c κs. search rules)
-    (λ c κs. search rules)
-    (λ c κs. search rules)
-    returns-2)
+    (tie.spec (λ c κs. search rules) returns (λ c κs. search rules) (λ c κs. search rules) (λ c κs. search rules) (λ c κs. search rules) returns-2)

@@ -7,11 +7,11 @@ use Rattle.parties.proofs.Parties.side.Tie as tie
 
 returns : tie.Need-returns-then-not-first
 unfolding side_of
-returns c = sym (pick_off c.before.before.args.self.first c.before.before.args.self.second (not-true _ c.before.if-not-first.true-raw))
+returns c = sym (pick_off c.args.self.first c.args.self.second (not-true _ c.if-not-first.true-raw))
 
 returns-2 : tie.Need-returns
 unfolding side_of
-returns-2 c = sym (pick_on c.before.before.args.self.first c.before.before.args.self.second (not-false _ c.before.if-not-first.false-raw))
+returns-2 c = sym (pick_on c.args.self.first c.args.self.second (not-false _ c.if-not-first.false-raw))
 
 pub side_spec : {M : Type 1} → statement M
 side_spec = tie.close (tie.spec returns returns-2)

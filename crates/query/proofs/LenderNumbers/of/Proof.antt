@@ -4,9 +4,9 @@ use Rattle.query.proofs.LenderNumbers.of.Statement.{statement}
 use Rattle.query.proofs.LenderNumbers.of.Tie as tie
 
 returns : tie.Need-returns
-returns c = let p = c.before.before.before.before.before.before.before.args.a.purse-1 in rw (
-  simp (back p.offered (search rules)) at c.before.before.before.before.bits-offered.ensures,
-  simp (back p.accepted (search rules)) at c.before.before.bits-accepted.ensures,
+returns c = let p = c.args.a.purse-1 in rw (
+  simp (back p.offered (search rules)) at c.bits-offered.ensures,
+  simp (back p.accepted (search rules)) at c.bits-accepted.ensures,
 )
 
 pub of_spec : {M : Type 1} → statement M

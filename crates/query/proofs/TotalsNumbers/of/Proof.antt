@@ -5,9 +5,9 @@ use Rattle.query.proofs.TotalsNumbers.of.Tie as tie
 
 returns : tie.Need-returns
 returns c = rw (
-  simp (back c.before.before.before.before.before.before.before.args.t.financed c.before.before.before.before.before.before.struct_told-1.given.0.1) at c.before.before.before.before.before.bits-financed.ensures,
-  simp (back c.before.before.before.before.before.before.before.args.t.repaid c.before.before.before.before.struct_told-2-1.given.1.0.1) at c.before.before.before.bits-repaid.ensures,
-  simp (back c.before.before.before.before.before.before.before.args.t.fees c.before.before.struct_told-3-1.given.1.1.0.1) at c.before.bits-fees.ensures,
+  simp (back c.args.t.financed c.struct_told-1.given.0.1) at c.bits-financed.ensures,
+  simp (back c.args.t.repaid c.struct_told-2-1.given.1.0.1) at c.bits-repaid.ensures,
+  simp (back c.args.t.fees c.struct_told-3-1.given.1.1.0.1) at c.bits-fees.ensures,
 )
 
 pub of_spec : {M : Type 1} → statement M

@@ -10,11 +10,11 @@ use Rattle.settings.proofs.Settings.pause.Tie as tie
 returns : tie.Need-returns-then-not-admin_passes
 returns c =
     c.refused.ensures ∙ (
-    refuses posted unauthorized _ _ _ (told c.before.before.admin_passes.ensures c.before.if-not-admin_passes.true-raw))
+    refuses posted unauthorized _ _ _ (told c.admin_passes.ensures c.if-not-admin_passes.true-raw))
 
 returns-2 : tie.Need-returns
 returns-2 c =
-    goes_on posted unauthorized _ _ _ (told c.before.admin_passes.ensures c.if-not-admin_passes.false-raw)
+    goes_on posted unauthorized _ _ _ (told c.admin_passes.ensures c.if-not-admin_passes.false-raw)
     (does posted _ _ refl)
 
 pub pause_spec : {M : Type 1} → statement M

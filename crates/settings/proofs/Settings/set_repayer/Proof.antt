@@ -10,17 +10,17 @@ use Rattle.settings.proofs.Settings.set_repayer.Tie as tie
 returns : tie.Need-returns-then-not-admin_passes
 returns c =
     c.refused.ensures ∙ (
-    refuses posted unauthorized _ _ _ (told c.before.before.admin_passes.ensures c.before.if-not-admin_passes.true-raw))
+    refuses posted unauthorized _ _ _ (told c.admin_passes.ensures c.if-not-admin_passes.true-raw))
 
 returns-2 : tie.Need-returns-then-not-known
 returns-2 c =
     c.refused-then-not-known.ensures ∙ (
-    goes_on posted unauthorized _ _ _ (told c.before.before.before.admin_passes.ensures c.before.before.if-not-admin_passes.false-raw)
-    (refuses posted not_found _ _ _ c.before.if-not-known.true-raw))
+    goes_on posted unauthorized _ _ _ (told c.admin_passes.ensures c.if-not-admin_passes.false-raw)
+    (refuses posted not_found _ _ _ c.if-not-known.true-raw))
 
 returns-3 : tie.Need-returns
 returns-3 c =
-    goes_on posted unauthorized _ _ _ (told c.before.before.admin_passes.ensures c.before.if-not-admin_passes.false-raw)
+    goes_on posted unauthorized _ _ _ (told c.admin_passes.ensures c.if-not-admin_passes.false-raw)
     (goes_on posted not_found _ _ _ c.if-not-known.false-raw
     (does posted _ _ refl))
 

@@ -22,19 +22,19 @@ in-bits next threshold h = let l = leb-true next 4294967295 (both _ _ h).0 in mo
 returns : tie.Need-returns-then-not-admin_passes
 returns c =
     c.refused.ensures ∙ (
-    refuses posted unauthorized _ _ _ (told c.before.before.admin_passes.ensures c.before.if-not-admin_passes.true-raw))
+    refuses posted unauthorized _ _ _ (told c.admin_passes.ensures c.if-not-admin_passes.true-raw))
 
 returns-2 : tie.Need-returns-then-not-threshold_ok
 returns-2 c =
     c.refused-then-not-threshold_ok.ensures ∙ (
-    goes_on posted unauthorized _ _ _ (told c.before.before.before.before.admin_passes.ensures c.before.before.before.if-not-admin_passes.false-raw)
-    (refuses posted invalid_input _ _ _ (told c.before.before.threshold_ok.ensures c.before.if-not-threshold_ok.true-raw)))
+    goes_on posted unauthorized _ _ _ (told c.admin_passes.ensures c.if-not-admin_passes.false-raw)
+    (refuses posted invalid_input _ _ _ (told c.threshold_ok.ensures c.if-not-threshold_ok.true-raw)))
 
 returns-3 : tie.Need-returns
 returns-3 c =
-    goes_on posted unauthorized _ _ _ (told c.before.before.before.admin_passes.ensures c.before.before.if-not-admin_passes.false-raw)
-    (goes_on posted invalid_input _ _ _ (told c.before.threshold_ok.ensures c.if-not-threshold_ok.false-raw)
-    (does posted _ _ (rw (in-bits _ _ (not-false _ (told c.before.threshold_ok.ensures c.if-not-threshold_ok.false-raw))))))
+    goes_on posted unauthorized _ _ _ (told c.admin_passes.ensures c.if-not-admin_passes.false-raw)
+    (goes_on posted invalid_input _ _ _ (told c.threshold_ok.ensures c.if-not-threshold_ok.false-raw)
+    (does posted _ _ (rw (in-bits _ _ (not-false _ (told c.threshold_ok.ensures c.if-not-threshold_ok.false-raw))))))
 
 pub set_seats_spec : {M : Type 1} → statement M
 set_seats_spec =

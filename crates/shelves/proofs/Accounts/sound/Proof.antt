@@ -18,29 +18,18 @@ decreases-loop self n t ok₀ i₀ ok i = 64 - i
 
 loop-again : tie.Need-loop-i-preserved invariant-loop decreases-loop
 loop-again c =
-    let i = c.before.before.before.loop-i.i in
-    let count = c.before.before.before.before.before.before.before.args.self.count in
-    check_turn c.before.before.before.loop-i.invariant c.before.before.loop-i-test.true (c.fits2.ensures ∙ sym (by_use_lem count i _ _))
+    let i = c.loop-i.i in
+    let count = c.args.self.count in
+    check_turn c.loop-i.invariant c.loop-i-test.true (c.fits2.ensures ∙ sym (by_use_lem count i _ _))
 
 returns : tie.Need-returns invariant-loop decreases-loop
 unfolding accounts_test
 returns c = (
-  both_same c.before.before.ids_sound-ids.ensures (check_done c.before.loop-i.invariant c.loop-i-test.false),
-  record { ids_long = search rules; rows_long = simp length-map at c.before.before.before.before.before.well-formed.0.1.1.1.0.1.0.1 },
+  both_same c.ids_sound-ids.ensures (check_done c.loop-i.invariant c.loop-i-test.false),
+  record { ids_long = search rules; rows_long = simp length-map at c.well-formed.0.1.1.1.0.1.0.1 },
 )
 
 pub sound_spec : {M : Type 1} → statement M
 sound_spec =
     tie.close
-    (tie.spec
-    invariant-loop
-    decreases-loop
-    (λ c κs. search rules)
-    (λ c. check_start _ _)
-    (λ c. search rules)
-    (λ c. search rules)
-    (λ c κs. search rules)
-    (λ c. search rules)
-    (λ c. search rules)
-    loop-again
-    returns)
+    (tie.spec invariant-loop decreases-loop (λ c κs. search rules) (λ c. check_start _ _) (λ c. search rules) (λ c. search rules) (λ c κs. search rules) (λ c. search rules) (λ c. search rules) loop-again returns)

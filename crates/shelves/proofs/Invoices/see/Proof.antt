@@ -8,10 +8,10 @@ use Rattle.shelves.proofs.Invoices.see.Statement.{statement}
 use Rattle.shelves.proofs.Invoices.see.Tie as tie
 
 below : (c : tie.After-spot_by-spot) → c.spot_by-spot.result.at < 64
-below c = spot_below c.before.before.before.before.requires (omega arith) c.before.before.before.before.args.key c.spot_by-spot.ensures
+below c = spot_below c.requires (omega arith) c.args.key c.spot_by-spot.ensures
 
 returns : tie.Need-returns
-returns c = c.at.ensures ∙ ap seen_invoice (sym (spot_found c.before.before.before.before.before.before.requires (omega arith) c.before.before.before.before.before.before.args.key c.before.before.spot_by-spot.ensures))
+returns c = c.at.ensures ∙ ap seen_invoice (sym (spot_found c.requires (omega arith) c.args.key c.spot_by-spot.ensures))
 
 pub see_spec : {M : Type 1} → statement M
 see_spec = tie.close (tie.spec (λ c κs. search rules) (λ c. omega (arith, below c)) (λ c. omega (arith, below c)) (λ c κs. search rules) returns)

@@ -17,22 +17,22 @@ use Rattle.shelves.proofs.Invoices.store.Statement.{statement}
 use Rattle.shelves.proofs.Invoices.store.Tie as tie
 
 below : (c : tie.After-spot_by-spot) → c.spot_by-spot.result.at < 64
-below c = spot_below c.before.before.before.before.requires (omega arith) c.before.before.before.before.args.key c.spot_by-spot.ensures
+below c = spot_below c.requires (omega arith) c.args.key c.spot_by-spot.ensures
 
-wrote : (c : tie.After-over-kept) → as_invoices c.before.before.before.before.before.before.before.args.self.ids (set c.before.before.before.before.before.before.before.args.self.rows c.before.before.before.spot_by-spot.result.at c.over-kept.result) c.before.before.before.before.before.before.before.args.self.count ≡ stored_invoices (put_by (put_by (invoices_of c.before.before.before.before.before.before.before.args.self) c.before.before.before.before.before.before.before.args.key c.before.before.before.before.before.before.before.args.x.row) c.before.before.before.before.before.before.before.args.key c.before.before.before.before.before.before.before.args.x.row)
-wrote c = once stored_invoices (invoices_of c.before.before.before.before.before.before.before.args.self) c.before.before.before.before.before.before.before.args.key c.before.before.before.before.before.before.before.args.x.row (invoice_wrote c.before.before.before.before.before.before.before.requires c.before.before.before.before.before.before.before.args.key c.before.before.before.spot_by-spot.ensures c.before.before.before.before.before.before.before.args.x.row c.over-kept.ensures)
+wrote : (c : tie.After-over-kept) → as_invoices c.args.self.ids (set c.args.self.rows c.spot_by-spot.result.at c.over-kept.result) c.args.self.count ≡ stored_invoices (put_by (put_by (invoices_of c.args.self) c.args.key c.args.x.row) c.args.key c.args.x.row)
+wrote c = once stored_invoices (invoices_of c.args.self) c.args.key c.args.x.row (invoice_wrote c.requires c.args.key c.spot_by-spot.ensures c.args.x.row c.over-kept.ensures)
 
-was : (c : tie.After-over-kept) → c.before.before.before.spot_by-spot.result.here ≡ has (find_by (invoices_of c.before.before.before.before.before.before.before.args.self) c.before.before.before.before.before.before.before.args.key)
-was c = was_by _ _ (spot_found c.before.before.before.before.before.before.before.requires (omega arith) c.before.before.before.before.before.before.before.args.key c.before.before.before.spot_by-spot.ensures)
+was : (c : tie.After-over-kept) → c.spot_by-spot.result.here ≡ has (find_by (invoices_of c.args.self) c.args.key)
+was c = was_by _ _ (spot_found c.requires (omega arith) c.args.key c.spot_by-spot.ensures)
 
-came : (c : tie.After-over-kept) → {b : Bool} → not c.before.before.before.spot_by-spot.result.here && c.before.before.before.before.before.before.before.args.x.here ≡ b → not (has (find_by (invoices_of c.before.before.before.before.before.before.before.args.self) c.before.before.before.before.before.before.before.args.key)) && c.before.before.before.before.before.before.before.args.x.here ≡ b
-came c = λ q. ap (λ z. not z && c.before.before.before.before.before.before.before.args.x.here) (sym (was c)) ∙ q
+came : (c : tie.After-over-kept) → {b : Bool} → not c.spot_by-spot.result.here && c.args.x.here ≡ b → not (has (find_by (invoices_of c.args.self) c.args.key)) && c.args.x.here ≡ b
+came c = λ q. ap (λ z. not z && c.args.x.here) (sym (was c)) ∙ q
 
 let-in-requires : tie.Need-let_in-requires
-let-in-requires c κs = subst InvoiceShelf (sym (wrote c.before.before.before.before)) (invoices_keeping.good (fine_by (fine_by (invoices_keeping.fine _ c.before.before.before.before.before.before.before.before.before.before.before.requires) c.before.before.before.before.before.before.before.before.before.before.before.args.key c.before.before.before.before.before.before.before.before.before.before.before.args.x.row) c.before.before.before.before.before.before.before.before.before.before.before.args.key c.before.before.before.before.before.before.before.before.before.before.before.args.x.row))
+let-in-requires c κs = subst InvoiceShelf (sym (wrote c.before.before.before.before)) (invoices_keeping.good (fine_by (fine_by (invoices_keeping.fine _ c.requires) c.args.key c.args.x.row) c.args.key c.args.x.row))
 
 returns : tie.Need-returns-then-spot-x
-returns c = λ u l. grows invoices_keeping invoice_row (λ r. refl) l (wrote c.before.before.before.before.before) (came c.before.before.before.before.before c.before.before.if-spot-x.true) ((simp c.before.id.ensures at c.let_in.ensures) (room invoices_keeping invoice_row (λ r. refl) l (wrote c.before.before.before.before.before) (came c.before.before.before.before.before c.before.before.if-spot-x.true)))
+returns c = λ u l. grows invoices_keeping invoice_row (λ r. refl) l (wrote c.before.before.before.before.before) (came c.before.before.before.before.before c.if-spot-x.true) ((simp c.id.ensures at c.let_in.ensures) (room invoices_keeping invoice_row (λ r. refl) l (wrote c.before.before.before.before.before) (came c.before.before.before.before.before c.if-spot-x.true)))
 
 returns-2 : tie.Need-returns
 returns-2 c = λ u l. stays invoices_keeping invoice_row (λ r. refl) l (wrote c.before.before.before) (came c.before.before.before c.if-spot-x.false)
@@ -40,14 +40,4 @@ returns-2 c = λ u l. stays invoices_keeping invoice_row (λ r. refl) l (wrote c
 pub store_spec : {M : Type 1} → statement M
 store_spec =
     tie.close
-    (tie.spec
-    (λ c κs. search rules)
-    (λ c. omega (arith, below c))
-    (λ c. omega (arith, below c))
-    (λ c κs. search rules)
-    (λ c. omega (arith, below c.before.before.before))
-    (λ c. omega (arith, below c.before.before.before))
-    (λ c κs. search rules)
-    let-in-requires
-    returns
-    returns-2)
+    (tie.spec (λ c κs. search rules) (λ c. omega (arith, below c)) (λ c. omega (arith, below c)) (λ c κs. search rules) (λ c. omega (arith, below c.before.before.before)) (λ c. omega (arith, below c.before.before.before)) (λ c κs. search rules) let-in-requires returns returns-2)

@@ -5,7 +5,7 @@ use Rattle.shelves.proofs.Offers.none.Tie as tie
 
 returns : tie.Need-returns
 unfolding padded
-returns c = rw c.before.before.before.none-none.ensures
+returns c = rw c.none-none.ensures
 
 pub none_spec : {M : Type 1} → statement M
 none_spec = tie.close (tie.spec (λ c κs. search rules) returns)

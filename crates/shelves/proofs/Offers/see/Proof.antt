@@ -9,7 +9,7 @@ use Rattle.shelves.proofs.Offers.see.Statement.{statement}
 use Rattle.shelves.proofs.Offers.see.Tie as tie
 
 below : (c : tie.After-spot_by-spot) → c.spot_by-spot.result.at < 64
-below c = spot_below c.before.before.before.before.requires.shelf (omega arith) c.before.before.before.before.args.key c.spot_by-spot.ensures
+below c = spot_below c.requires.shelf (omega arith) c.args.key c.spot_by-spot.ensures
 
 mul-o : tie.Need-offset_bounds-self-place
 mul-o c = omega (arith, below c)
@@ -30,18 +30,9 @@ element-copy-out-q : tie.Need-bounds-self-place-3
 element-copy-out-q c = omega (arith, below c.before.before)
 
 returns : tie.Need-returns
-returns c = c.at.ensures ∙ ap seen_deal (sym (deal_read_lem c.before.before.before.before.before.before.before.before.requires _ _ _ c.before.before.before.before.before.before.before.before.args.key c.before.before.before.before.spot_by-spot.ensures))
+returns c = c.at.ensures ∙ ap seen_deal (sym (deal_read_lem c.requires _ _ _ c.args.key c.spot_by-spot.ensures))
 
 pub see_spec : {M : Type 1} → statement M
 see_spec =
     tie.close
-    (tie.spec
-    (λ c κs. search rules)
-    mul-o
-    element-copy-out-o
-    mul-g
-    element-copy-out-g
-    mul-q
-    element-copy-out-q
-    (λ c κs. search rules)
-    returns)
+    (tie.spec (λ c κs. search rules) mul-o element-copy-out-o mul-g element-copy-out-g mul-q element-copy-out-q (λ c κs. search rules) returns)

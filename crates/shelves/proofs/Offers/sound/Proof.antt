@@ -38,45 +38,30 @@ even c = level _ _ _ (rows_long c) (negotiations_long c) (schedules_long c)
 
 loop-again : tie.Need-loop-i-preserved invariant-loop decreases-loop
 loop-again c =
-    let start = c.before.before.before.before.before.before.before.before.before in
+    let start = c in
     let self = start.args.self in
-    let i = c.before.before.before.before.before.loop-i.i in
+    let i = c.loop-i.i in
     let row_is = join_at deal_of _ _ _ (even start) i (omega (arith, rows_long start)) no_deal _ _ _ in
     let negotiation-is = any-default self.negotiations i _ no_negotiation (omega (arith, negotiations_long start)) in
-    let below = c.before.before.before.before.loop-i-test.true in (
-      check_turn c.before.before.before.before.before.loop-i.invariant.0 below (c.fits2.ensures.0 ∙ sym (ap (λ r. cond (ltb i self.count) (deal_sound start.args.edition r) (deal_zero r)) row_is) ∙ sym (by_use_lem self.count i _ _)),
-      below_on c.before.before.before.before.before.loop-i.invariant.1 (subst (λ n. Whole round_slots n) negotiation-is c.fits2.ensures.1),
+    let below = c.loop-i-test.true in (
+      check_turn c.loop-i.invariant.0 below (c.fits2.ensures.0 ∙ sym (ap (λ r. cond (ltb i self.count) (deal_sound start.args.edition r) (deal_zero r)) row_is) ∙ sym (by_use_lem self.count i _ _)),
+      below_on c.loop-i.invariant.1 (subst (λ n. Whole round_slots n) negotiation-is c.fits2.ensures.1),
     )
 
 returns : tie.Need-returns invariant-loop decreases-loop
 unfolding deals_test
 returns c = (
-  both_same c.before.before.ids_sound-ids.ensures (check_done c.before.loop-i.invariant.0 c.loop-i-test.false),
+  both_same c.ids_sound-ids.ensures (check_done c.loop-i.invariant.0 c.loop-i-test.false),
   record {
     ids_long = search rules;
-    rows_long = rows_long c.before.before.before.before.before;
-    negotiations_long = negotiations_long c.before.before.before.before.before;
-    schedules_long = schedules_long c.before.before.before.before.before;
-    whole = λ k h. c.before.loop-i.invariant.1 k (omega (arith, c.loop-i-test.false));
+    rows_long = rows_long c;
+    negotiations_long = negotiations_long c;
+    schedules_long = schedules_long c;
+    whole = λ k h. c.loop-i.invariant.1 k (omega (arith, c.loop-i-test.false));
   },
 )
 
 pub sound_spec : {M : Type 1} → statement M
 sound_spec =
     tie.close
-    (tie.spec
-    invariant-loop
-    decreases-loop
-    (λ c κs. search rules)
-    (λ c. (check_start _ _, λ k h. absurd (omega arith)))
-    (λ c. search rules)
-    (λ c. c.loop-i-test.true)
-    (λ c. search rules)
-    (λ c. c.before.loop-i-test.true)
-    (λ c. search rules)
-    (λ c. c.before.before.loop-i-test.true)
-    (λ c κs. search rules)
-    (λ c. search rules)
-    (λ c. search rules)
-    loop-again
-    returns)
+    (tie.spec invariant-loop decreases-loop (λ c κs. search rules) (λ c. (check_start _ _, λ k h. absurd (omega arith))) (λ c. search rules) (λ c. c.loop-i-test.true) (λ c. search rules) (λ c. c.loop-i-test.true) (λ c. search rules) (λ c. c.loop-i-test.true) (λ c κs. search rules) (λ c. search rules) (λ c. search rules) loop-again returns)

@@ -8,17 +8,9 @@ use Rattle.snapshot.proofs.reading.read_account.Tie as tie
 returns : tie.Need-returns
 unfolding account
 returns c =
-    takes_via account_from account_parts (λ x _. refl) (takes_then c.before.before.before.before.before.before.before.before.next-id.ensures.takes (takes_then c.before.before.before.before.before.before.before.read_purse-p.ensures (takes_then c.before.before.before.before.before.before.next-pending.ensures.takes (takes_then c.before.before.before.before.before.next-repaid.ensures.takes (takes_flag 0x77 c.before.before.before.before.next-blacklisted.ensures)))))
+    takes_via account_from account_parts (λ x _. refl) (takes_then c.next-id.ensures.takes (takes_then c.read_purse-p.ensures (takes_then c.next-pending.ensures.takes (takes_then c.next-repaid.ensures.takes (takes_flag 0x77 c.next-blacklisted.ensures)))))
 
 pub read_account_spec : {M : Type 1} → statement M
 read_account_spec =
     tie.close
-    (tie.spec
-    (λ c κs. search rules)
-    (λ c κs. search rules)
-    (λ c κs. search rules)
-    (λ c κs. search rules)
-    (λ c κs. search rules)
-    (λ c. search rules)
-    (λ c. search rules)
-    returns)
+    (tie.spec (λ c κs. search rules) (λ c κs. search rules) (λ c κs. search rules) (λ c κs. search rules) (λ c κs. search rules) (λ c. search rules) (λ c. search rules) returns)

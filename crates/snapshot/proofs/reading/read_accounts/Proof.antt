@@ -17,35 +17,21 @@ abbrev decreases-loop : tie.decreases-loop-i
 decreases-loop s n ids₀ rows₀ d₀ i₀ ids rows d i = n - i
 
 loop-holds : tie.Need-loop-i-init invariant-loop decreases-loop
-loop-holds c = (omega arith, table_start _ _ _ _ _ (ap (λ (x : Accounts). x.ids-1) c.before.before.none-none.ensures) (ap (λ (x : Accounts). x.rows-1) c.before.before.none-none.ensures))
+loop-holds c = (omega arith, table_start _ _ _ _ _ (ap (λ (x : Accounts). x.ids-1) c.none-none.ensures) (ap (λ (x : Accounts). x.rows-1) c.none-none.ensures))
 
 -- a place of the table
-place : (c : tie.In-loop-i invariant-loop decreases-loop) → c.before.loop-i.i < 64
-place c = omega (arith, c.loop-i-test.true, c.before.before.before.before.before.count-k.ensures.low)
+place : (c : tie.In-loop-i invariant-loop decreases-loop) → c.loop-i.i < 64
+place c = omega (arith, c.loop-i-test.true, c.count-k.ensures.low)
 
 loop-again : tie.Need-loop-i-preserved invariant-loop decreases-loop
 loop-again c =
     let d = c.before.before.before in
-    (omega (arith, d.loop-i-test.true), table_turn _ _ _ _ _ (place d) d.before.loop-i.invariant.1 c.before.before.read_account-g.ensures)
+    (omega (arith, d.loop-i-test.true), table_turn _ _ _ _ _ (place d) d.loop-i.invariant.1 c.read_account-g.ensures)
 
 returns : tie.Need-returns invariant-loop decreases-loop
-returns c = table_done as_accounts c.before.before.before.before.before.count-k.ensures (omega arith) c.before.loop-i.invariant.1
+returns c = table_done as_accounts c.count-k.ensures (omega arith) c.loop-i.invariant.1
 
 pub read_accounts_spec : {M : Type 1} → statement M
 read_accounts_spec =
     tie.close
-    (tie.spec
-    invariant-loop
-    decreases-loop
-    (λ c κs. search rules)
-    (λ c κs. search rules)
-    loop-holds
-    (λ c κs. search rules)
-    (λ c. omega (arith, place c.before.before.before))
-    (λ c. place c.before.before.before)
-    (λ c. omega (arith, place c.before.before.before))
-    (λ c. place c.before.before.before)
-    (λ c. omega (arith, place c.before.before.before))
-    (λ c. omega (arith, c.before.before.before.loop-i-test.true))
-    loop-again
-    returns)
+    (tie.spec invariant-loop decreases-loop (λ c κs. search rules) (λ c κs. search rules) loop-holds (λ c κs. search rules) (λ c. omega (arith, place c.before.before.before)) (λ c. place c.before.before.before) (λ c. omega (arith, place c.before.before.before)) (λ c. place c.before.before.before) (λ c. omega (arith, place c.before.before.before)) (λ c. omega (arith, c.loop-i-test.true)) loop-again returns)

@@ -8,14 +8,9 @@ use Rattle.snapshot.proofs.reading.read_deal.Tie as tie
 returns : tie.Need-returns
 unfolding deal
 returns c =
-    takes_via deal_from deal_parts (λ x _. refl) (takes_then c.before.before.before.before.before.before.before.next-id.ensures.takes (takes_then c.before.before.before.before.before.before.read_offer-o.ensures (takes_then c.before.before.before.before.before.read_negotiation-n.ensures c.before.before.before.before.read_schedule-p.ensures)))
+    takes_via deal_from deal_parts (λ x _. refl) (takes_then c.next-id.ensures.takes (takes_then c.read_offer-o.ensures (takes_then c.read_negotiation-n.ensures c.read_schedule-p.ensures)))
 
 pub read_deal_spec : {M : Type 1} → statement M
 read_deal_spec =
     tie.close
-    (tie.spec
-    (λ c κs. search rules)
-    (λ c κs. search rules)
-    (λ c κs. search rules)
-    (λ c κs. search rules)
-    returns)
+    (tie.spec (λ c κs. search rules) (λ c κs. search rules) (λ c κs. search rules) (λ c κs. search rules) returns)

@@ -8,16 +8,9 @@ use Rattle.snapshot.proofs.reading.read_invoice.Tie as tie
 returns : tie.Need-returns
 unfolding invoice
 returns c =
-    takes_via invoice_from invoice_parts (λ x _. refl) (takes_then c.before.before.before.before.before.next-id.ensures.takes (takes_then c.before.before.before.before.next-originator.ensures.takes (takes_then (takes_signed 0x05 c.before.before.before.next-amount.ensures c.before.of_bits.ensures) c.before.before.next-status.ensures.takes)))
+    takes_via invoice_from invoice_parts (λ x _. refl) (takes_then c.next-id.ensures.takes (takes_then c.next-originator.ensures.takes (takes_then (takes_signed 0x05 c.next-amount.ensures c.of_bits.ensures) c.next-status.ensures.takes)))
 
 pub read_invoice_spec : {M : Type 1} → statement M
 read_invoice_spec =
     tie.close
-    (tie.spec
-    (λ c κs. search rules)
-    (λ c κs. search rules)
-    (λ c κs. search rules)
-    (λ c κs. search rules)
-    (λ c κs. search rules)
-    (λ c. search rules)
-    returns)
+    (tie.spec (λ c κs. search rules) (λ c κs. search rules) (λ c κs. search rules) (λ c κs. search rules) (λ c κs. search rules) (λ c. search rules) returns)

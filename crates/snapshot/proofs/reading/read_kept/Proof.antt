@@ -8,24 +8,15 @@ use Rattle.snapshot.proofs.reading.read_kept.Tie as tie
 
 returns : tie.Need-returns-then-not-keeps_terms
 unfolding kept
-returns c = takes_lacking _ _ _ (sym c.before.keeps_terms.ensures ∙ not-true _ c.if-not-keeps_terms.true-raw)
+returns c = takes_lacking _ _ _ (sym c.keeps_terms.ensures ∙ not-true _ c.if-not-keeps_terms.true-raw)
 
 returns-2 : tie.Need-returns
 unfolding kept
 returns-2 c =
-    takes_given _ _ _ (sym c.before.before.before.before.before.before.before.keeps_terms.ensures ∙ not-false _ c.before.before.before.before.before.before.if-not-keeps_terms.false-raw)
-    (takes_then (takes_signed 0x9a c.before.before.before.before.before.next-amount.ensures c.before.before.of_bits.ensures) (takes_then c.before.before.before.before.next-rate.ensures.takes c.before.before.before.next-kind.ensures.takes))
+    takes_given _ _ _ (sym c.keeps_terms.ensures ∙ not-false _ c.if-not-keeps_terms.false-raw)
+    (takes_then (takes_signed 0x9a c.next-amount.ensures c.of_bits.ensures) (takes_then c.next-rate.ensures.takes c.next-kind.ensures.takes))
 
 pub read_kept_spec : {M : Type 1} → statement M
 read_kept_spec =
     tie.close
-    (tie.spec
-    (λ c κs. search rules)
-    returns
-    (λ c κs. search rules)
-    (λ c κs. search rules)
-    (λ c κs. search rules)
-    (λ c κs. search rules)
-    (λ c. search rules)
-    (λ c. search rules)
-    returns-2)
+    (tie.spec (λ c κs. search rules) returns (λ c κs. search rules) (λ c κs. search rules) (λ c κs. search rules) (λ c κs. search rules) (λ c. search rules) (λ c. search rules) returns-2)

@@ -8,10 +8,10 @@ use Rattle.snapshot.proofs.reading.read_negotiation.Tie as tie
 returns : tie.Need-returns
 unfolding negotiation
 returns c =
-    let r = c.before.before.before.read_rounds-t.ensures in
-    let x = c.before.before.before.before.before.next-deadline.result.x in
-    let y = c.before.before.before.before.next-outcome.result.x in
-    let t : Takes c.before.before.before.before.before.before.before.args.s.now c.before.before.before.before.before.before.before.args.c (negotiation c.before.before.before.before.before.before.before.args.edition) c.before.before.before.read_rounds-t.result.c (negotiation_from (x, (y, r.all))) = takes_via negotiation_from negotiation_parts _ (takes_then c.before.before.before.before.before.next-deadline.ensures.takes (takes_then c.before.before.before.before.next-outcome.ensures.takes r.takes)) in
+    let r = c.read_rounds-t.ensures in
+    let x = c.next-deadline.result.x in
+    let y = c.next-outcome.result.x in
+    let t : Takes c.args.s.now c.args.c (negotiation c.args.edition) c.read_rounds-t.result.c (negotiation_from (x, (y, r.all))) = takes_via negotiation_from negotiation_parts _ (takes_then c.next-deadline.ensures.takes (takes_then c.next-outcome.ensures.takes r.takes)) in
     rw (laid_rounds_lem x y r.all r.is) at t
 
 pub read_negotiation_spec : {M : Type 1} → statement M

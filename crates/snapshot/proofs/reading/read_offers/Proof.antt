@@ -35,40 +35,22 @@ decreases-loop s e n ids₀ rows₀ negotiations₀ schedules₀ d₀ i₀ ids r
 
 loop-holds : tie.Need-loop-i-init invariant-loop decreases-loop
 loop-holds c =
-    let e = c.before.before.before.before.none-none.ensures in
+    let e = c.none-none.ensures in
     (omega arith, parts_start _ _ _ _ _ _ _ _ (ap (λ (x : Offers). x.ids-1) e) (ap (λ (x : Offers). x.rows-1) e) (ap (λ (x : Offers). x.negotiations-1) e) (ap (λ (x : Offers). x.schedules-1) e))
 
 -- a place of the table
-place : (c : tie.In-loop-i invariant-loop decreases-loop) → c.before.loop-i.i < 64
-place c = omega (arith, c.loop-i-test.true, c.before.before.before.before.before.before.before.count-k.ensures.low)
+place : (c : tie.In-loop-i invariant-loop decreases-loop) → c.loop-i.i < 64
+place c = omega (arith, c.loop-i-test.true, c.count-k.ensures.low)
 
 loop-again : tie.Need-loop-i-preserved invariant-loop decreases-loop
 loop-again c =
     let d = c.before.before.before.before.before.before in
-    (omega (arith, d.loop-i-test.true), parts_turn _ _ _ _ _ _ _ _ (place d) d.before.loop-i.invariant.1 c.before.before.before.before.before.read_deal-g.ensures)
+    (omega (arith, d.loop-i-test.true), parts_turn _ _ _ _ _ _ _ _ (place d) d.loop-i.invariant.1 c.read_deal-g.ensures)
 
 returns : tie.Need-returns invariant-loop decreases-loop
-returns c = parts_done offer_in talk_in plan_in offers_of c.before.before.before.before.before.before.before.count-k.ensures (omega arith) c.before.loop-i.invariant.1
+returns c = parts_done offer_in talk_in plan_in offers_of c.count-k.ensures (omega arith) c.loop-i.invariant.1
 
 pub read_offers_spec : {M : Type 1} → statement M
 read_offers_spec =
     tie.close
-    (tie.spec
-    invariant-loop
-    decreases-loop
-    (λ c κs. search rules)
-    (λ c κs. search rules)
-    loop-holds
-    (λ c κs. search rules)
-    (λ c. omega (arith, place c.before.before.before.before.before.before))
-    (λ c. place c.before.before.before.before.before.before)
-    (λ c. omega (arith, place c.before.before.before.before.before.before))
-    (λ c. place c.before.before.before.before.before.before)
-    (λ c. omega (arith, place c.before.before.before.before.before.before))
-    (λ c. place c.before.before.before.before.before.before)
-    (λ c. omega (arith, place c.before.before.before.before.before.before))
-    (λ c. place c.before.before.before.before.before.before)
-    (λ c. omega (arith, place c.before.before.before.before.before.before))
-    (λ c. omega (arith, c.before.before.before.before.before.before.loop-i-test.true))
-    loop-again
-    returns)
+    (tie.spec invariant-loop decreases-loop (λ c κs. search rules) (λ c κs. search rules) loop-holds (λ c κs. search rules) (λ c. omega (arith, place c.before.before.before.before.before.before)) (λ c. place c.before.before.before.before.before.before) (λ c. omega (arith, place c.before.before.before.before.before.before)) (λ c. place c.before.before.before.before.before.before) (λ c. omega (arith, place c.before.before.before.before.before.before)) (λ c. place c.before.before.before.before.before.before) (λ c. omega (arith, place c.before.before.before.before.before.before)) (λ c. place c.before.before.before.before.before.before) (λ c. omega (arith, place c.before.before.before.before.before.before)) (λ c. omega (arith, c.loop-i-test.true)) loop-again returns)

@@ -8,18 +8,9 @@ use Rattle.snapshot.proofs.reading.read_purse.Tie as tie
 returns : tie.Need-returns
 unfolding purse
 returns c =
-    takes_via purse_from purse_parts (λ x _. refl) (takes_then (takes_signed 0x71 c.before.before.before.before.before.before.before.next-balance.ensures c.before.before.before.of_bits.ensures) (takes_then (takes_signed 0x72 c.before.before.before.before.before.before.next-allowance.ensures c.before.before.of_bits-2.ensures) (takes_then (takes_signed 0x73 c.before.before.before.before.before.next-offered.ensures c.before.of_bits-3.ensures) (takes_signed 0x74 c.before.before.before.before.next-accepted.ensures c.of_bits-4.ensures))))
+    takes_via purse_from purse_parts (λ x _. refl) (takes_then (takes_signed 0x71 c.next-balance.ensures c.of_bits.ensures) (takes_then (takes_signed 0x72 c.next-allowance.ensures c.of_bits-2.ensures) (takes_then (takes_signed 0x73 c.next-offered.ensures c.of_bits-3.ensures) (takes_signed 0x74 c.next-accepted.ensures c.of_bits-4.ensures))))
 
 pub read_purse_spec : {M : Type 1} → statement M
 read_purse_spec =
     tie.close
-    (tie.spec
-    (λ c κs. search rules)
-    (λ c κs. search rules)
-    (λ c κs. search rules)
-    (λ c κs. search rules)
-    (λ c κs. search rules)
-    (λ c κs. search rules)
-    (λ c κs. search rules)
-    (λ c κs. search rules)
-    returns)
+    (tie.spec (λ c κs. search rules) (λ c κs. search rules) (λ c κs. search rules) (λ c κs. search rules) (λ c κs. search rules) (λ c κs. search rules) (λ c κs. search rules) (λ c κs. search rules) returns)

@@ -8,15 +8,9 @@ use Rattle.snapshot.proofs.reading.read_round.Tie as tie
 returns : tie.Need-returns
 unfolding round
 returns c =
-    rw c.new.ensures (takes_via round_from round_parts (λ x _. refl) (takes_then c.before.before.before.before.before.next-party.ensures.takes (takes_then c.before.before.before.before.read_terms-t.ensures c.before.before.before.next-time.ensures.takes)))
+    rw c.new.ensures (takes_via round_from round_parts (λ x _. refl) (takes_then c.next-party.ensures.takes (takes_then c.read_terms-t.ensures c.next-time.ensures.takes)))
 
 pub read_round_spec : {M : Type 1} → statement M
 read_round_spec =
     tie.close
-    (tie.spec
-    (λ c κs. search rules)
-    (λ c κs. search rules)
-    (λ c κs. search rules)
-    (λ c. search rules)
-    (λ c κs. search rules)
-    returns)
+    (tie.spec (λ c κs. search rules) (λ c κs. search rules) (λ c κs. search rules) (λ c. search rules) (λ c κs. search rules) returns)

@@ -8,15 +8,9 @@ use Rattle.snapshot.proofs.reading.read_terms.Tie as tie
 returns : tie.Need-returns
 unfolding terms
 returns c =
-    takes_via terms_from terms_parts (λ x _. refl) (takes_then (takes_signed 0x05 c.before.before.before.before.next-amount.ensures c.before.of_bits.ensures) (takes_then c.before.before.before.next-rate.ensures.takes c.before.before.next-duration.ensures.takes))
+    takes_via terms_from terms_parts (λ x _. refl) (takes_then (takes_signed 0x05 c.next-amount.ensures c.of_bits.ensures) (takes_then c.next-rate.ensures.takes c.next-duration.ensures.takes))
 
 pub read_terms_spec : {M : Type 1} → statement M
 read_terms_spec =
     tie.close
-    (tie.spec
-    (λ c κs. search rules)
-    (λ c κs. search rules)
-    (λ c κs. search rules)
-    (λ c κs. search rules)
-    (λ c. search rules)
-    returns)
+    (tie.spec (λ c κs. search rules) (λ c κs. search rules) (λ c κs. search rules) (λ c κs. search rules) (λ c. search rules) returns)

@@ -8,18 +8,9 @@ use Rattle.snapshot.proofs.reading.read_totals.Tie as tie
 returns : tie.Need-returns
 unfolding totals
 returns c =
-    takes_via totals_from totals_parts (λ x _. refl) (takes_then c.before.before.before.before.before.before.before.next-offers.ensures.takes (takes_then (takes_signed 0x64 c.before.before.before.before.before.before.next-financed.ensures c.before.before.before.of_bits.ensures) (takes_then (takes_signed 0x65 c.before.before.before.before.before.next-repaid.ensures c.before.before.of_bits-2.ensures) (takes_signed 0x66 c.before.before.before.before.next-fees.ensures c.before.of_bits-3.ensures))))
+    takes_via totals_from totals_parts (λ x _. refl) (takes_then c.next-offers.ensures.takes (takes_then (takes_signed 0x64 c.next-financed.ensures c.of_bits.ensures) (takes_then (takes_signed 0x65 c.next-repaid.ensures c.of_bits-2.ensures) (takes_signed 0x66 c.next-fees.ensures c.of_bits-3.ensures))))
 
 pub read_totals_spec : {M : Type 1} → statement M
 read_totals_spec =
     tie.close
-    (tie.spec
-    (λ c κs. search rules)
-    (λ c κs. search rules)
-    (λ c κs. search rules)
-    (λ c κs. search rules)
-    (λ c κs. search rules)
-    (λ c κs. search rules)
-    (λ c κs. search rules)
-    (λ c. search rules)
-    returns)
+    (tie.spec (λ c κs. search rules) (λ c κs. search rules) (λ c κs. search rules) (λ c κs. search rules) (λ c κs. search rules) (λ c κs. search rules) (λ c κs. search rules) (λ c. search rules) returns)

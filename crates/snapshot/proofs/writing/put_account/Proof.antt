@@ -8,16 +8,9 @@ use Rattle.snapshot.proofs.writing.put_account.Tie as tie
 returns : tie.Need-returns
 unfolding account
 returns c =
-    puts_via account_from account_parts (λ x _. refl) refl (puts_then c.before.before.before.before.before.before.before.before.before.before.before.before.before.before.before.before.before.before.before.put-p.ensures (puts_then c.before.before.before.before.before.before.before.before.before.before.before.before.before.before.put_purse-q.ensures (puts_then c.before.before.before.before.before.before.before.before.before.before.put_half-u.ensures (puts_then c.before.before.before.before.before.before.put_half-v.ensures c.before.before.put_flag.ensures))))
+    puts_via account_from account_parts (λ x _. refl) refl (puts_then c.put-p.ensures (puts_then c.put_purse-q.ensures (puts_then c.put_half-u.ensures (puts_then c.put_half-v.ensures c.put_flag.ensures))))
 
 pub put_account_spec : {M : Type 1} → statement M
 put_account_spec =
     tie.close
-    (tie.spec
-    (λ c κs. search rules)
-    (λ c κs. search rules)
-    (λ c κs. search rules)
-    (λ c κs. search rules)
-    (λ c κs. search rules)
-    (λ c. puts_kept (returns c))
-    returns)
+    (tie.spec (λ c κs. search rules) (λ c κs. search rules) (λ c κs. search rules) (λ c κs. search rules) (λ c κs. search rules) (λ c. puts_kept (returns c)) returns)

@@ -23,8 +23,8 @@ ids_long s = search rules
 rows_long : (s : tie.Start invariant-loop decreases-loop) → length s.args.table.rows ≡ 64
 rows_long s = simp length-map at s.well-formed.1.1.1.0.1.1.1.0.1.0.1
 
-place : (c : tie.In-loop-i invariant-loop decreases-loop) → c.before.loop-i.i < 64
-place c = omega (arith, c.loop-i-test.true, c.before.before.before.before.before.before.before.requires)
+place : (c : tie.In-loop-i invariant-loop decreases-loop) → c.loop-i.i < 64
+place c = omega (arith, c.loop-i-test.true, c.requires)
 
 loop-holds : tie.Need-loop-i-init invariant-loop decreases-loop
 loop-holds c = (omega arith, table_begun _ _ _ _ _ _)
@@ -33,28 +33,14 @@ loop-again : tie.Need-loop-i-preserved invariant-loop decreases-loop
 loop-again c =
     let d = c.before.before.before.before.before.before in
     let s = d.before.before.before.before.before.before.before in
-    (omega (arith, d.loop-i-test.true), table_more _ _ s.args.table.ids s.args.table.rows _ _ _ (omega (arith, place d, ids_long s)) (omega (arith, place d, rows_long s)) d.before.loop-i.invariant.1 c.before.before.put_invoice-p.ensures)
+    (omega (arith, d.loop-i-test.true), table_more _ _ s.args.table.ids s.args.table.rows _ _ _ (omega (arith, place d, ids_long s)) (omega (arith, place d, rows_long s)) d.loop-i.invariant.1 c.put_invoice-p.ensures)
 
 returns : tie.Need-returns invariant-loop decreases-loop
 returns c =
     let s = c.before.before.before.before.before.before.before in
-    table_whole s.args.table.ids s.args.table.rows 0x80 64 (omega arith) (omega (arith, s.requires, ids_long s)) (omega (arith, s.requires, rows_long s)) s.requires c.before.before.before.before.put-p.ensures c.before.loop-i.invariant.1
+    table_whole s.args.table.ids s.args.table.rows 0x80 64 (omega arith) (omega (arith, s.requires, ids_long s)) (omega (arith, s.requires, rows_long s)) s.requires c.put-p.ensures c.loop-i.invariant.1
 
 pub put_invoices_spec : {M : Type 1} → statement M
 put_invoices_spec =
     tie.close
-    (tie.spec
-    invariant-loop
-    decreases-loop
-    (λ c κs. search rules)
-    loop-holds
-    (λ c. omega (arith, place c))
-    (λ c. omega (arith, place c))
-    (λ c. omega (arith, place c.before))
-    (λ c. omega (arith, place c.before))
-    (λ c κs. search rules)
-    (λ c. omega (arith, place c.before.before.before.before.before.before))
-    (λ c. omega (arith, c.before.before.before.before.before.before.loop-i-test.true))
-    loop-again
-    (λ c. puts_kept (returns c))
-    returns)
+    (tie.spec invariant-loop decreases-loop (λ c κs. search rules) loop-holds (λ c. omega (arith, place c)) (λ c. omega (arith, place c)) (λ c. omega (arith, place c.before)) (λ c. omega (arith, place c.before)) (λ c κs. search rules) (λ c. omega (arith, place c.before.before.before.before.before.before)) (λ c. omega (arith, c.loop-i-test.true)) loop-again (λ c. puts_kept (returns c)) returns)

@@ -12,24 +12,17 @@ use Rattle.snapshot.proofs.writing.put_kept.Tie as tie
 returns : tie.Need-returns-then-not-keeps_terms
 unfolding kept
 returns c =
-    let e = sym c.before.keeps_terms.ensures ∙ not-true _ c.if-not-keeps_terms.true-raw in
-    puts_lacking _ _ _ e (unkept (keeps_terms c.before.before.before.args.edition) c.before.before.before.args.row c.before.before.before.requires e)
+    let e = sym c.keeps_terms.ensures ∙ not-true _ c.if-not-keeps_terms.true-raw in
+    puts_lacking _ _ _ e (unkept (keeps_terms c.args.edition) c.args.row c.requires e)
 
 returns-2 : tie.Need-returns
 unfolding kept
 returns-2 c =
-    puts_given _ _ _ (sym c.before.before.before.before.before.before.before.before.before.before.before.before.before.before.keeps_terms.ensures ∙ not-false _ c.before.before.before.before.before.before.before.before.before.before.before.before.before.if-not-keeps_terms.false-raw)
-    (puts_then (as_signed 0x9a (back c.before.before.before.before.before.before.before.before.before.before.before.before.before.before.before.before.args.row.amount c.before.before.before.before.before.before.before.before.before.before.before.struct_told-1.given.1.1.1.1.0.1) c.before.before.before.before.before.before.before.before.before.before.put_signed-p.ensures)
-    (puts_then c.before.before.before.before.before.before.put_half-q.ensures c.before.before.put_half.ensures))
+    puts_given _ _ _ (sym c.keeps_terms.ensures ∙ not-false _ c.if-not-keeps_terms.false-raw)
+    (puts_then (as_signed 0x9a (back c.args.row.amount c.struct_told-1.given.1.1.1.1.0.1) c.put_signed-p.ensures)
+    (puts_then c.put_half-q.ensures c.put_half.ensures))
 
 pub put_kept_spec : {M : Type 1} → statement M
 put_kept_spec =
     tie.close
-    (tie.spec
-    (λ c κs. search rules)
-    returns
-    (λ c κs. search rules)
-    (λ c κs. search rules)
-    (λ c κs. search rules)
-    (λ c. puts_kept (returns-2 c))
-    returns-2)
+    (tie.spec (λ c κs. search rules) returns (λ c κs. search rules) (λ c κs. search rules) (λ c κs. search rules) (λ c. puts_kept (returns-2 c)) returns-2)

@@ -17,15 +17,9 @@ returns : tie.Need-returns
 unfolding negotiation
 returns c =
     let s = c.before.before.before.before.before.before.before.before.before.before.before.before.before.before.before in
-    puts_via negotiation_from negotiation_parts _ (same_rounds (round_limit s.args.edition) s.args.row s.requires (limit_in_slots s.args.edition) (long s)) (puts_then c.before.before.before.before.before.before.before.before.before.before.before.before.put-p.ensures (puts_then c.before.before.before.before.before.before.before.before.put_half-q.ensures c.before.before.put_rounds.ensures))
+    puts_via negotiation_from negotiation_parts _ (same_rounds (round_limit s.args.edition) s.args.row s.requires (limit_in_slots s.args.edition) (long s)) (puts_then c.put-p.ensures (puts_then c.put_half-q.ensures c.put_rounds.ensures))
 
 pub put_negotiation_spec : {M : Type 1} → statement M
 put_negotiation_spec =
     tie.close
-    (tie.spec
-    (λ c κs. search rules)
-    (λ c κs. search rules)
-    (λ c. search rules)
-    (λ c κs. few_rounds _ c.before.before.before.before.before.before.before.before.before.before.before.before.args.row c.before.before.before.before.before.before.before.before.before.before.before.before.requires)
-    (λ c. puts_kept (returns c))
-    returns)
+    (tie.spec (λ c κs. search rules) (λ c κs. search rules) (λ c. search rules) (λ c κs. few_rounds _ c.args.row c.requires) (λ c. puts_kept (returns c)) returns)

@@ -38,7 +38,7 @@ module _ (s : tie.Start invariant-loop decreases-loop) where
   few : s.args.table.count ≤ 64
   few = few_deals s.args.edition s.args.table s.requires
 
-place : (c : tie.In-loop-i invariant-loop decreases-loop) → c.before.loop-i.i < 64
+place : (c : tie.In-loop-i invariant-loop decreases-loop) → c.loop-i.i < 64
 place c = omega (arith, c.loop-i-test.true, few c.before.before.before.before.before.before.before)
 
 loop-holds : tie.Need-loop-i-init invariant-loop decreases-loop
@@ -48,39 +48,21 @@ put-deal-requires : tie.Need-put_deal-p-requires invariant-loop decreases-loop
 put-deal-requires c κs =
     let d = c.before.before.before.before.before in
     let s = d.before.before.before.before.before.before.before in
-    deal_sound_lem s.args.edition s.args.table s.requires (rows_long s) (negotiations_long s) (schedules_long s) d.before.loop-i.i d.loop-i-test.true _ _ _
+    deal_sound_lem s.args.edition s.args.table s.requires (rows_long s) (negotiations_long s) (schedules_long s) d.loop-i.i d.loop-i-test.true _ _ _
 
 loop-again : tie.Need-loop-i-preserved invariant-loop decreases-loop
 loop-again c =
     let d = c.before.before.before.before.before.before.before.before in
     let s = d.before.before.before.before.before.before.before in
     let t = s.args.table in
-    (omega (arith, d.loop-i-test.true), table_made _ _ t.ids (rows_of_lem t) _ _ no_deal (omega (arith, place d, ids_long s)) (omega (arith, place d, all-long s)) (deal_at_lem s.args.edition t s.requires (rows_long s) (negotiations_long s) (schedules_long s) d.before.loop-i.i d.loop-i-test.true _ _ _ no_deal) d.before.loop-i.invariant.1 c.before.before.put_deal-p.ensures)
+    (omega (arith, d.loop-i-test.true), table_made _ _ t.ids (rows_of_lem t) _ _ no_deal (omega (arith, place d, ids_long s)) (omega (arith, place d, all-long s)) (deal_at_lem s.args.edition t s.requires (rows_long s) (negotiations_long s) (schedules_long s) d.loop-i.i d.loop-i-test.true _ _ _ no_deal) d.loop-i.invariant.1 c.put_deal-p.ensures)
 
 returns : tie.Need-returns invariant-loop decreases-loop
 returns c =
     let s = c.before.before.before.before.before.before.before in
-    table_whole s.args.table.ids (rows_of_lem s.args.table) 0x90 64 (omega arith) (omega (arith, few s, ids_long s)) (omega (arith, few s, all-long s)) (few s) c.before.before.before.before.put-p.ensures c.before.loop-i.invariant.1
+    table_whole s.args.table.ids (rows_of_lem s.args.table) 0x90 64 (omega arith) (omega (arith, few s, ids_long s)) (omega (arith, few s, all-long s)) (few s) c.put-p.ensures c.loop-i.invariant.1
 
 pub put_offers_spec : {M : Type 1} → statement M
 put_offers_spec =
     tie.close
-    (tie.spec
-    invariant-loop
-    decreases-loop
-    (λ c κs. search rules)
-    loop-holds
-    (λ c. omega (arith, place c))
-    (λ c. omega (arith, place c))
-    (λ c. omega (arith, place c.before))
-    (λ c. omega (arith, place c.before))
-    (λ c. omega (arith, place c.before.before))
-    (λ c. omega (arith, place c.before.before))
-    (λ c. omega (arith, place c.before.before.before))
-    (λ c. omega (arith, place c.before.before.before))
-    put-deal-requires
-    (λ c. omega (arith, place c.before.before.before.before.before.before.before.before))
-    (λ c. omega (arith, c.before.before.before.before.before.before.before.before.loop-i-test.true))
-    loop-again
-    (λ c. puts_kept (returns c))
-    returns)
+    (tie.spec invariant-loop decreases-loop (λ c κs. search rules) loop-holds (λ c. omega (arith, place c)) (λ c. omega (arith, place c)) (λ c. omega (arith, place c.before)) (λ c. omega (arith, place c.before)) (λ c. omega (arith, place c.before.before)) (λ c. omega (arith, place c.before.before)) (λ c. omega (arith, place c.before.before.before)) (λ c. omega (arith, place c.before.before.before)) put-deal-requires (λ c. omega (arith, place c.before.before.before.before.before.before.before.before)) (λ c. omega (arith, c.loop-i-test.true)) loop-again (λ c. puts_kept (returns c)) returns)

@@ -8,15 +8,9 @@ use Rattle.snapshot.proofs.writing.put_round.Tie as tie
 returns : tie.Need-returns
 unfolding round
 returns c =
-    puts_via round_from round_parts (λ x _. refl) refl (puts_then c.before.before.before.before.before.before.before.before.before.before.before.put_half-p.ensures (puts_then (rw c.before.before.before.before.before.before.before.before.terms-t.ensures at c.before.before.before.before.before.before.put_terms-q.ensures) c.before.before.put.ensures))
+    puts_via round_from round_parts (λ x _. refl) refl (puts_then c.put_half-p.ensures (puts_then (rw c.terms-t.ensures at c.put_terms-q.ensures) c.put.ensures))
 
 pub put_round_spec : {M : Type 1} → statement M
 put_round_spec =
     tie.close
-    (tie.spec
-    (λ c κs. search rules)
-    (λ c κs. search rules)
-    (λ c κs. search rules)
-    (λ c κs. search rules)
-    (λ c. puts_kept (returns c))
-    returns)
+    (tie.spec (λ c κs. search rules) (λ c κs. search rules) (λ c κs. search rules) (λ c κs. search rules) (λ c. puts_kept (returns c)) returns)

@@ -20,36 +20,24 @@ decreases-loop out₀ ink e n list p₀ i₀ out p i = n - i
 has : (s : tie.Start invariant-loop decreases-loop) → s.args.n ≤ length s.args.list
 has s = omega (arith, s.requires, s.well-formed.1.1.1.1.1.0.1, limit_in_slots s.args.edition)
 
-place : (c : tie.In-loop-i invariant-loop decreases-loop) → c.before.loop-i.i < 16
-place c = omega (arith, c.loop-i-test.true, c.before.before.before.before.before.before.before.requires, limit_in_slots c.before.before.before.before.before.before.before.args.edition)
+place : (c : tie.In-loop-i invariant-loop decreases-loop) → c.loop-i.i < 16
+place c = omega (arith, c.loop-i-test.true, c.requires, limit_in_slots c.args.edition)
 
 loop-holds : tie.Need-loop-i-init invariant-loop decreases-loop
-loop-holds c = (omega arith, taken_start _ _ c.before.before.before.before.before.args.list _ _)
+loop-holds c = (omega arith, taken_start _ _ c.args.list _ _)
 
 loop-again : tie.Need-loop-i-preserved invariant-loop decreases-loop
 loop-again c =
     let d = c.before.before.before.before.before in
     let s = d.before.before.before.before.before.before.before in
-    (omega (arith, d.loop-i-test.true), taken_turn _ _ s.args.list _ _ _ (omega (arith, d.loop-i-test.true, has s)) d.before.loop-i.invariant.1 c.before.before.put_round-p.ensures)
+    (omega (arith, d.loop-i-test.true), taken_turn _ _ s.args.list _ _ _ (omega (arith, d.loop-i-test.true, has s)) d.loop-i.invariant.1 c.put_round-p.ensures)
 
 returns : tie.Need-returns invariant-loop decreases-loop
 returns c =
     let s = c.before.before.before.before.before.before.before in
-    taken_done s.args.list {i = c.before.loop-i.i} 0x97 (round_limit s.args.edition) (omega arith) (has s) s.requires c.before.before.before.before.put-p.ensures c.before.loop-i.invariant.1
+    taken_done s.args.list {i = c.loop-i.i} 0x97 (round_limit s.args.edition) (omega arith) (has s) s.requires c.put-p.ensures c.loop-i.invariant.1
 
 pub put_rounds_spec : {M : Type 1} → statement M
 put_rounds_spec =
     tie.close
-    (tie.spec
-    invariant-loop
-    decreases-loop
-    (λ c κs. search rules)
-    loop-holds
-    (λ c. omega (arith, place c))
-    (λ c. omega (arith, place c))
-    (λ c κs. search rules)
-    (λ c. omega (arith, place c.before.before.before.before.before))
-    (λ c. omega (arith, c.before.before.before.before.before.loop-i-test.true))
-    loop-again
-    (λ c. puts_kept (returns c))
-    returns)
+    (tie.spec invariant-loop decreases-loop (λ c κs. search rules) loop-holds (λ c. omega (arith, place c)) (λ c. omega (arith, place c)) (λ c κs. search rules) (λ c. omega (arith, place c.before.before.before.before.before)) (λ c. omega (arith, c.loop-i-test.true)) loop-again (λ c. puts_kept (returns c)) returns)

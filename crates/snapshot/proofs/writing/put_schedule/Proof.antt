@@ -11,16 +11,9 @@ unfolding schedule
 returns c =
     let s = c.before.before.before.before.before.before.before.before.before.before.before.before.before.before.before.before.before.before.before.before.before.before in
     puts_via schedule_from schedule_parts (λ x _. refl) refl
-    (puts_then c.before.before.before.before.before.before.before.before.before.before.before.before.before.before.before.before.before.before.before.put_half-p.ensures (puts_then c.before.before.before.before.before.before.before.before.before.before.before.before.before.before.before.put_half-q.ensures (puts_then (as_signed 0x99 (back s.args.row.installment c.before.before.before.before.before.before.before.before.before.before.before.struct_told-1.given.1.1.0.1) c.before.before.before.before.before.before.before.before.before.before.put_signed-u.ensures) (puts_then c.before.before.before.before.before.before.put-v.ensures c.before.before.put_kept.ensures))))
+    (puts_then c.put_half-p.ensures (puts_then c.put_half-q.ensures (puts_then (as_signed 0x99 (back s.args.row.installment c.struct_told-1.given.1.1.0.1) c.put_signed-u.ensures) (puts_then c.put-v.ensures c.put_kept.ensures))))
 
 pub put_schedule_spec : {M : Type 1} → statement M
 put_schedule_spec =
     tie.close
-    (tie.spec
-    (λ c κs. search rules)
-    (λ c κs. search rules)
-    (λ c κs. search rules)
-    (λ c κs. search rules)
-    (λ c κs. search rules)
-    (λ c. puts_kept (returns c))
-    returns)
+    (tie.spec (λ c κs. search rules) (λ c κs. search rules) (λ c κs. search rules) (λ c κs. search rules) (λ c κs. search rules) (λ c. puts_kept (returns c)) returns)

@@ -17,17 +17,12 @@ first-listed = refl
 answers-sound-requires : tie.Need-answers_sound-r-requires
 answers-sound-requires c κs =
     let s = fresh_model_lem first_edition first-listed in
-    (rw c.before.of_edition-book.ensures (shelved_stored s.fits), rw c.before.of_edition-book.ensures (book_sound s))
+    (rw c.of_edition-book.ensures (shelved_stored s.fits), rw c.of_edition-book.ensures (book_sound s))
 
 returns : tie.Need-returns
-returns c = c.line.ensures ∙ ap line_of c.before.before.answers_sound-r.ensures.0 ∙ fault_line_lem _ _ ∙ question_line _ _
+returns c = c.line.ensures ∙ ap line_of c.answers_sound-r.ensures.0 ∙ fault_line_lem _ _ ∙ question_line _ _
 
 pub solgaverna_faulty_question_spec : {M : Type 1} → statement M
 solgaverna_faulty_question_spec =
     tie.close
-    (tie.spec
-    (λ c κs. search rules)
-    (λ c. search rules)
-    answers-sound-requires
-    (λ c κs. search rules)
-    returns)
+    (tie.spec (λ c κs. search rules) (λ c. search rules) answers-sound-requires (λ c κs. search rules) returns)

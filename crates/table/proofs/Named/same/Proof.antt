@@ -12,7 +12,7 @@ both : {a b : Named} {i j : ℕ} → a ≡ Id i → b ≡ Id j → eqb i j ≡ s
 both {a} {b} {i} p q = sym (ap (λ z. same z b) p ∙ ap (same (Id i)) q)
 
 returns-3 : tie.Need-returns
-returns-3 c = both c.before.before.before.before.in-Id.is c.before.in-Id-other.is
+returns-3 c = both c.in-Id.is c.in-Id-other.is
 
 pub same_spec : {M : Type 1} → statement M
 same_spec =

@@ -5,4 +5,4 @@ use Rattle.text.proofs.reading.byte.Statement.{statement}
 use Rattle.text.proofs.reading.byte.Tie as tie
 
 pub byte_spec : {M : Type 1} → statement M
-byte_spec = tie.close (tie.spec (λ c. search rules) (λ c. search rules) (λ c. sym (past_end c.before.args.s.now c.before.args.p c.if-p-s.false)))
+byte_spec = tie.close (tie.spec (λ c. search rules) (λ c. search rules) (λ c. sym (past_end c.args.s.now c.args.p c.if-p-s.false)))

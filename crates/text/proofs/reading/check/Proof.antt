@@ -11,7 +11,7 @@ returns c = sym (pick_on _ _ c.if-plain-v.true)
 
 returns-2 : tie.Need-returns
 unfolding checked
-returns-2 c = c.none.ensures ∙ sym (pick_off _ _ c.before.if-plain-v.false)
+returns-2 c = c.none.ensures ∙ sym (pick_off _ _ c.if-plain-v.false)
 
 pub check_spec : {M : Type 1} → statement M
 check_spec = tie.close (tie.spec returns (λ c κs. search rules) returns-2)

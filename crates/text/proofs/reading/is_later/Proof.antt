@@ -11,7 +11,7 @@ returns : tie.Need-returns-then-n-gt65535
 returns c = not_later _ c.if-n-gt65535.true
 
 returns-2 : tie.Need-returns
-returns-2 c = ap (λ (b : Bool). ltb first_edition c.before.before.args.n && b) c.is_listed.ensures
+returns-2 c = ap (λ (b : Bool). ltb first_edition c.args.n && b) c.is_listed.ensures
 
 pub is_later_spec : {M : Type 1} → statement M
 is_later_spec = tie.close (tie.spec returns (λ c. search rules) (λ c κs. search rules) returns-2)

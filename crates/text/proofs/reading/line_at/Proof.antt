@@ -22,45 +22,45 @@ use Rattle.text.proofs.reading.line_at.Tie as tie
 
 -- the tag that was found, and the bytes from the place on
 abbrev tag : tie.After-word-word → ℕ
-tag c = c.before.before.tag_at-tag.result
+tag c = c.tag_at-tag.result
 
 abbrev bytes : tie.After-word-word → List ℕ
-bytes c = drop c.before.before.before.before.args.at c.before.before.before.before.args.s.now
+bytes c = drop c.args.at c.args.s.now
 
 abbrev edition : tie.After-word-word → ℕ
-edition c = c.before.before.before.before.args.edition
+edition c = c.args.edition
 
 abbrev first : tie.After-word-word → ℕ
-first c = c.before.before.before.before.args.first
+first c = c.args.first
 
 abbrev past : tie.After-word-word → ℕ
-past c = c.before.before.before.before.args.past
+past c = c.args.past
 
 found : (c : tie.After-word-word) → tag c ≡ tag_in (first c) (past c) (bytes c)
-found c = c.before.before.tag_at-tag.ensures
+found c = c.tag_at-tag.ensures
 
-here : (c : tie.After-word-word) → line_by (edition c) (tag c) (bytes c) c.before.before.before.before.args.at ≡ line_in (edition c) (first c) (past c) (bytes c) c.before.before.before.before.args.at
+here : (c : tie.After-word-word) → line_by (edition c) (tag c) (bytes c) c.args.at ≡ line_in (edition c) (first c) (past c) (bytes c) c.args.at
 here c = by_tag_lem (edition c) _ _ _ _ (found c)
 
 size_is : (c : tie.After-word-word) → c.word-word.result.0 ≡ length (word_of (tag c))
 size_is c = ap (λ (r : Spelling). r.0) c.word-word.ensures
 
 -- the name lies within the text
-room : (c : tie.After-word-word) → c.before.before.before.before.args.at + c.word-word.result.0 ≤ length c.before.before.before.before.args.s.now
+room : (c : tie.After-word-word) → c.args.at + c.word-word.result.0 ≤ length c.args.s.now
 room c =
     let s = c.before.before.before.before in
-    let p : 0 < tag c = omega (arith, c.before.if-tag-eq0.false) in
+    let p : 0 < tag c = omega (arith, c.if-tag-eq0.false) in
     let m = tag_among (first c) (past c) (bytes c) (found c) p in
     omega (arith, size_is c, leads_room (word_of (tag c)) (bytes c) m.stands, length-drop s.args.at s.args.s.now, s.requires)
 
 abbrev there-is : (c : tie.After-numbers_at-x) → Read
-there-is c = let w = c.before.before.before.before in numbers_there (edition w) (tag w) (bytes w) w.before.before.before.before.args.at
+there-is c = let w = c.before.before.before.before in numbers_there (edition w) (tag w) (bytes w) w.args.at
 
-read : (c : tie.After-numbers_at-x) → c.numbers_at-x.result ≡ numbers_for (c.before.before.before.before.before.before.before.before.args.at + length (word_of (tag c.before.before.before.before))) (there-is c)
+read : (c : tie.After-numbers_at-x) → c.numbers_at-x.result ≡ numbers_for (c.args.at + length (word_of (tag c.before.before.before.before))) (there-is c)
 read c =
     let w = c.before.before.before.before in
     let s = w.before.before.before.before in
-    let f = c.before.before.before.listed-row.ensures in
+    let f = c.listed-row.ensures in
     let b = drop (s.args.at + w.word-word.result.0) s.args.s.now in
     c.numbers_at-x.ensures
     ∙ ap (λ (r : Listed). numbers_for (s.args.at + w.word-word.result.0) (read_in (take r.0 r.1) b)) f
@@ -69,17 +69,17 @@ read c =
     ∙ ap (λ (l : List ℕ). numbers_for (s.args.at + length (word_of (tag w))) (read_in (fields_for (edition w) (tag w)) l)) (sym (drop-drop (length (word_of (tag w))) s.args.at s.args.s.now))
 
 returns : tie.Need-returns-then-tag-eq0
-returns c = c.no_line.ensures ∙ ap line_for (nameless _ _ _ _ c.before.if-tag-eq0.true ∙ by_tag_lem _ _ _ _ _ c.before.before.tag_at-tag.ensures)
+returns c = c.no_line.ensures ∙ ap line_for (nameless _ _ _ _ c.if-tag-eq0.true ∙ by_tag_lem _ _ _ _ _ c.tag_at-tag.ensures)
 
 numbers-at-requires : tie.Need-numbers_at-x-requires
 numbers-at-requires c κs =
     let w = c.before.before.before in
-    (room w, omega (arith, ap (λ (r : Listed). r.0) c.before.before.listed-row.ensures, few_fields (edition w) (tag w)))
+    (room w, omega (arith, ap (λ (r : Listed). r.0) c.listed-row.ensures, few_fields (edition w) (tag w)))
 
 returns-2 : tie.Need-returns-then-not-x
 returns-2 c =
     let d = c.before.before.before in
-    c.no_line-then-not-x.ensures ∙ ap line_for (numberless _ _ _ _ (ap (λ (x : Numbers). x.ok) (sym (read d)) ∙ not-true _ c.before.if-not-x.true) ∙ here d.before.before.before.before)
+    c.no_line-then-not-x.ensures ∙ ap line_for (numberless _ _ _ _ (ap (λ (x : Numbers). x.ok) (sym (read d)) ∙ not-true _ c.if-not-x.true) ∙ here d.before.before.before.before)
 
 -- the byte past the numbers
 last : (c : tie.After-byte) → get_or (bytes c.before.before.before.before.before.before.before) (length (word_of (tag c.before.before.before.before.before.before.before)) + (there-is c.before.before.before).size) 0 ≡ c.byte.result
@@ -94,7 +94,7 @@ last c =
 returns-3 : tie.Need-returns-then-byte-ne10
 returns-3 c =
     let b = c.before.before in
-    c.no_line-then-byte-ne10.ensures ∙ ap line_for (endless _ _ _ _ (λ e. c.before.if-byte-ne10.true (sym (last b) ∙ e)) ∙ here b.before.before.before.before.before.before.before)
+    c.no_line-then-byte-ne10.ensures ∙ ap line_for (endless _ _ _ _ (λ e. c.if-byte-ne10.true (sym (last b) ∙ e)) ∙ here b.before.before.before.before.before.before.before)
 
 returns-4 : tie.Need-returns
 returns-4 c =
@@ -106,24 +106,10 @@ returns-4 c =
     let x = d.numbers_at-x.result in
     let v : x.values-1 ≡ padded (there-is d).values-1 = ap (λ (y : Numbers). y.values-1) (read d) in
     let e : x.next + 1 ≡ s.args.at + (n + (there-is d).size + 1) = omega (arith, ap (λ (y : Numbers). y.next) (read d)) in
-    let z = lined _ _ _ _ w.before.if-tag-eq0.false (ap (λ (y : Numbers). y.ok) (sym (read d)) ∙ not-false _ b.before.if-not-x.false) (last b ∙ c.before.before.if-byte-ne10.false) ∙ here w in
+    let z = lined _ _ _ _ w.if-tag-eq0.false (ap (λ (y : Numbers). y.ok) (sym (read d)) ∙ not-false _ b.if-not-x.false) (last b ∙ c.if-byte-ne10.false) ∙ here w in
     rw (v, e) (ap line_for z)
 
 pub line_at_spec : {M : Type 1} → statement M
 line_at_spec =
     tie.close
-    (tie.spec
-    (λ c κs. search rules)
-    (λ c κs. search rules)
-    returns
-    (λ c κs. search rules)
-    (λ c κs. search rules)
-    (λ c. omega (arith, room c.before.before.before))
-    numbers-at-requires
-    (λ c κs. search rules)
-    returns-2
-    (λ c κs. search rules)
-    (λ c κs. search rules)
-    returns-3
-    (λ c. omega (arith, there c.before.before.before.before.before.before.before.before.before.before.before.before.before.before.args.s.now c.before.before.before.before.before.before.numbers_at-x.result.next (sym c.before.before.before.byte.ensures ∙ c.before.before.if-byte-ne10.false) (omega arith)))
-    returns-4)
+    (tie.spec (λ c κs. search rules) (λ c κs. search rules) returns (λ c κs. search rules) (λ c κs. search rules) (λ c. omega (arith, room c.before.before.before)) numbers-at-requires (λ c κs. search rules) returns-2 (λ c κs. search rules) (λ c κs. search rules) returns-3 (λ c. omega (arith, there c.args.s.now c.numbers_at-x.result.next (sym c.byte.ensures ∙ c.if-byte-ne10.false) (omega arith))) returns-4)

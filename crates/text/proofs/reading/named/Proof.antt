@@ -12,7 +12,7 @@ use Rattle.text.specs.declared.names.Spelling.{Spelling}
 use Rattle.text.proofs.reading.named.Statement.{statement}
 use Rattle.text.proofs.reading.named.Tie as tie
 
-size_is : (c : tie.After-word-word) → c.word-word.result.0 ≡ length (word_of c.before.before.args.k)
+size_is : (c : tie.After-word-word) → c.word-word.result.0 ≡ length (word_of c.args.k)
 size_is c = ap (λ (r : Spelling). r.0) c.word-word.ensures
 
 returns : tie.Need-returns-then-size-eq0
@@ -26,8 +26,8 @@ starts-requires c κs =
 returns-2 : tie.Need-returns
 returns-2 c =
     let s = c.before.before.before.before.before in
-    c.starts.ensures ∙ ap (λ (w : List ℕ). leads w (drop s.args.at s.args.s.now)) (word_in (word_of s.args.k) c.before.before.before.word-word.ensures)
-    ∙ some_name _ _ (λ e. c.before.if-size-eq0.false (size_is c.before.before.before ∙ e))
+    c.starts.ensures ∙ ap (λ (w : List ℕ). leads w (drop s.args.at s.args.s.now)) (word_in (word_of s.args.k) c.word-word.ensures)
+    ∙ some_name _ _ (λ e. c.if-size-eq0.false (size_is c.before.before.before ∙ e))
 
 pub named_spec : {M : Type 1} → statement M
 named_spec = tie.close (tie.spec (λ c κs. search rules) returns starts-requires returns-2)

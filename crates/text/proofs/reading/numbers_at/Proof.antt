@@ -25,19 +25,19 @@ all : (s : tie.Start invariant-loop decreases-loop) → length (take s.args.n s.
 all s = length-take-le s.args.n s.args.tags (omega (arith, s.requires.1, s.well-formed.1.1.1.0.1))
 
 -- the number at hand
-hand : (c : tie.After-spaced-x invariant-loop decreases-loop) → spaced_in (get_or (take c.before.before.before.before.args.n c.before.before.before.before.args.tags) c.before.before.loop-i.i 0) (drop c.before.before.loop-i.invariant.1.0 (drop c.before.before.before.before.args.at c.before.before.before.before.args.s.now)) ≡ c.spaced-x.result
+hand : (c : tie.After-spaced-x invariant-loop decreases-loop) → spaced_in (get_or (take c.args.n c.args.tags) c.loop-i.i 0) (drop c.loop-i.invariant.1.0 (drop c.args.at c.args.s.now)) ≡ c.spaced-x.result
 hand c =
-    let l = c.before.before.loop-i in
+    let l = c.loop-i in
     let s = c.before.before.before.before in
-    rw (get_or-take s.args.n s.args.tags l.i 0 c.before.loop-i-test.true, drop-drop l.invariant.1.0 s.args.at s.args.s.now, ← l.invariant.1.1.0) (sym c.spaced-x.ensures)
+    rw (get_or-take s.args.n s.args.tags l.i 0 c.loop-i-test.true, drop-drop l.invariant.1.0 s.args.at s.args.s.now, ← l.invariant.1.1.0) (sym c.spaced-x.ensures)
 
-here : (c : tie.In-loop-i invariant-loop decreases-loop) → c.before.loop-i.i < length (take c.before.before.before.args.n c.before.before.before.args.tags)
+here : (c : tie.In-loop-i invariant-loop decreases-loop) → c.loop-i.i < length (take c.args.n c.args.tags)
 here c = omega (arith, all c.before.before.before, c.loop-i-test.true)
 
 spaced-requires : tie.Need-spaced-x-requires invariant-loop decreases-loop
 spaced-requires c κs =
     let s = c.before.before.before in
-    let l = c.before.loop-i in
+    let l = c.loop-i in
     omega (arith, l.invariant.1.1.0, l.invariant.1.1.1.inside, length-drop s.args.at s.args.s.now, s.requires.0)
 
 returns : tie.Need-returns-then-not-x invariant-loop decreases-loop
@@ -45,14 +45,14 @@ unfolding padded
 returns c =
     let d = c.before.before in
     let s = d.before.before.before.before in
-    let e = gather_out d.before.before.loop-i.invariant.1.1.1 (here d.before) (ap (λ (x : Numeral). x.ok) (hand d) ∙ not-true _ c.if-not-x.true) in
+    let e = gather_out d.loop-i.invariant.1.1.1 (here d.before) (ap (λ (x : Numeral). x.ok) (hand d) ∙ not-true _ c.if-not-x.true) in
     let z : numbers_for s.args.at unread ≡ numbers_for s.args.at (read_in (take s.args.n s.args.tags) (drop s.args.at s.args.s.now)) = ap (numbers_for s.args.at) (sym e) in
     rw (add-zero s.args.at) at z
 
-size_fits : (c : tie.Else-not-x invariant-loop decreases-loop) → c.before.before.before.before.loop-i.q + (c.before.before.spaced-x.result.size + 1) ≤ length c.before.before.before.before.before.before.args.s.now
+size_fits : (c : tie.Else-not-x invariant-loop decreases-loop) → c.loop-i.q + (c.spaced-x.result.size + 1) ≤ length c.args.s.now
 size_fits c =
     let d = c.before.before in
-    let l = d.before.before.loop-i in
+    let l = d.loop-i in
     let s = d.before.before.before.before in
     let k = l.invariant.1.0 in
     let t = drop s.args.at s.args.s.now in
@@ -63,15 +63,15 @@ loop-again : tie.Need-loop-i-preserved invariant-loop decreases-loop
 loop-again c =
     let b = c.before in
     let d = b.before.before in
-    let l = d.before.before.loop-i in
+    let l = d.loop-i in
     let s = d.before.before.before.before in
     let k = l.invariant.1.0 in
-    let g = gather_on l.invariant.1.1.1 (here d.before) (omega (arith, d.before.loop-i-test.true, s.requires.1)) (ap (λ (x : Numeral). x.ok) (hand d) ∙ not-false _ b.if-not-x.false) in
-    (omega (arith, d.before.loop-i-test.true), (k + (d.spaced-x.result.size + 1), (omega (arith, l.invariant.1.1.0), rw (hand d) at g)))
+    let g = gather_on l.invariant.1.1.1 (here d.before) (omega (arith, d.loop-i-test.true, s.requires.1)) (ap (λ (x : Numeral). x.ok) (hand d) ∙ not-false _ b.if-not-x.false) in
+    (omega (arith, d.loop-i-test.true), (k + (d.spaced-x.result.size + 1), (omega (arith, l.invariant.1.1.0), rw (hand d) at g)))
 
 returns-2 : tie.Need-returns invariant-loop decreases-loop
 returns-2 c =
-    let l = c.before.loop-i in
+    let l = c.loop-i in
     let s = c.before.before.before in
     let g = l.invariant.1.1.1 in
     let e = gather_done g (omega (arith, all s, l.invariant.0, c.loop-i-test.false)) in
@@ -84,18 +84,4 @@ loop-holds c = (search rules, (0, (omega arith, gather_none _ _)))
 pub numbers_at_spec : {M : Type 1} → statement M
 numbers_at_spec =
     tie.close
-    (tie.spec
-    invariant-loop
-    decreases-loop
-    loop-holds
-    (λ c. omega (arith, c.before.before.before.requires.1))
-    spaced-requires
-    returns
-    (λ c. search rules)
-    (λ c. omega (arith, c.before.before.before.before.before.before.requires.1))
-    (λ c. omega (arith, size_fits c.before))
-    (λ c. omega (arith, size_fits c.before))
-    (λ c. omega (arith, c.before.before.before.before.loop-i-test.true))
-    (λ c. omega (arith, c.before.before.before.before.loop-i-test.true))
-    loop-again
-    returns-2)
+    (tie.spec invariant-loop decreases-loop loop-holds (λ c. omega (arith, c.requires.1)) spaced-requires returns (λ c. search rules) (λ c. omega (arith, c.requires.1)) (λ c. omega (arith, size_fits c.before)) (λ c. omega (arith, size_fits c.before)) (λ c. omega (arith, c.loop-i-test.true)) (λ c. omega (arith, c.loop-i-test.true)) loop-again returns-2)

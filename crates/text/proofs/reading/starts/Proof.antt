@@ -26,44 +26,31 @@ left s = length-drop s.args.at s.args.s.now
 returns : tie.Need-returns-then-s-at invariant-loop decreases-loop
 returns c =
     let s = c.before.before.before in
-    let l = c.before.before.loop-i in
-    sym (l.invariant.1 ∙ lead_out _ _ l.i (omega (arith, all s, c.before.loop-i-test.true)) (omega (arith, left s, c.if-s-at.true)))
+    let l = c.loop-i in
+    sym (l.invariant.1 ∙ lead_out _ _ l.i (omega (arith, all s, c.loop-i-test.true)) (omega (arith, left s, c.if-s-at.true)))
 
 returns-2 : tie.Need-returns-then-s-at-2 invariant-loop decreases-loop
 returns-2 c =
     let s = c.before.before.before.before.before in
-    let l = c.before.before.before.before.loop-i in
+    let l = c.loop-i in
     let x = get_or-drop s.args.at s.args.s.now l.i 0 in
-    let y = get_or-take s.args.n s.args.name l.i 0 c.before.before.before.loop-i-test.true in
-    sym (l.invariant.1 ∙ lead_not _ _ l.i (omega (arith, all s, c.before.before.before.loop-i-test.true)) (omega (arith, left s, c.before.before.if-s-at.false)) (λ e. c.if-s-at-2.true (sym x ∙ e ∙ y)))
+    let y = get_or-take s.args.n s.args.name l.i 0 c.loop-i-test.true in
+    sym (l.invariant.1 ∙ lead_not _ _ l.i (omega (arith, all s, c.loop-i-test.true)) (omega (arith, left s, c.if-s-at.false)) (λ e. c.if-s-at-2.true (sym x ∙ e ∙ y)))
 
 loop-again : tie.Need-loop-i-preserved invariant-loop decreases-loop
 loop-again c =
     let s = c.before.before.before.before.before in
-    let l = c.before.before.before.before.loop-i in
+    let l = c.loop-i in
     let x = get_or-drop s.args.at s.args.s.now l.i 0 in
-    let y = get_or-take s.args.n s.args.name l.i 0 c.before.before.before.loop-i-test.true in
-    (omega arith, l.invariant.1 ∙ lead_on _ _ l.i (omega (arith, all s, c.before.before.before.loop-i-test.true)) (omega (arith, left s, c.before.before.if-s-at.false)) (x ∙ c.if-s-at-2.false ∙ sym y))
+    let y = get_or-take s.args.n s.args.name l.i 0 c.loop-i-test.true in
+    (omega arith, l.invariant.1 ∙ lead_on _ _ l.i (omega (arith, all s, c.loop-i-test.true)) (omega (arith, left s, c.if-s-at.false)) (x ∙ c.if-s-at-2.false ∙ sym y))
 
 returns-3 : tie.Need-returns invariant-loop decreases-loop
 returns-3 c =
-    let l = c.before.loop-i in
+    let l = c.loop-i in
     sym (l.invariant.1 ∙ lead_done _ _ l.i (omega (arith, all c.before.before, l.invariant.0)))
 
 pub starts_spec : {M : Type 1} → statement M
 starts_spec =
     tie.close
-    (tie.spec
-    invariant-loop
-    decreases-loop
-    (λ c. (search rules, refl))
-    (λ c. omega (arith, c.before.before.requires))
-    returns
-    (λ c. omega (arith, c.before.before.before.requires, c.if-s-at.false))
-    (λ c. omega (arith, c.before.before.before.before.requires, c.before.if-s-at.false))
-    (λ c. omega (arith, c.before.before.before.before.requires))
-    returns-2
-    (λ c. omega (arith, c.before.before.before.before.before.requires))
-    (λ c. search rules)
-    loop-again
-    returns-3)
+    (tie.spec invariant-loop decreases-loop (λ c. (search rules, refl)) (λ c. omega (arith, c.requires)) returns (λ c. omega (arith, c.requires, c.if-s-at.false)) (λ c. omega (arith, c.requires, c.if-s-at.false)) (λ c. omega (arith, c.requires)) returns-2 (λ c. omega (arith, c.requires)) (λ c. search rules) loop-again returns-3)

@@ -19,27 +19,18 @@ loop-holds c = refl
 
 returns : tie.Need-returns-then-named invariant-loop decreases-loop
 returns c =
-    let l = c.before.before.before.loop-k in
-    sym (l.invariant ∙ tag_here _ _ l.k c.before.before.loop-k-test.true (sym c.before.named.ensures ∙ c.if-named.true))
+    let l = c.loop-k in
+    sym (l.invariant ∙ tag_here _ _ l.k c.loop-k-test.true (sym c.named.ensures ∙ c.if-named.true))
 
 loop-again : tie.Need-loop-k-preserved invariant-loop decreases-loop
 loop-again c =
-    let l = c.before.before.before.loop-k in
-    l.invariant ∙ tag_on _ _ l.k c.before.before.loop-k-test.true (sym c.before.named.ensures ∙ c.if-named.false)
+    let l = c.loop-k in
+    l.invariant ∙ tag_on _ _ l.k c.loop-k-test.true (sym c.named.ensures ∙ c.if-named.false)
 
 returns-2 : tie.Need-returns invariant-loop decreases-loop
-returns-2 c = let l = c.before.loop-k in sym (l.invariant ∙ no_tag _ _ l.k c.loop-k-test.false)
+returns-2 c = let l = c.loop-k in sym (l.invariant ∙ no_tag _ _ l.k c.loop-k-test.false)
 
 pub tag_at_spec : {M : Type 1} → statement M
 tag_at_spec =
     tie.close
-    (tie.spec
-    invariant-loop
-    decreases-loop
-    loop-holds
-    (λ c κs. c.before.before.before.requires)
-    returns
-    (λ c. omega (arith, c.before.before.loop-k-test.true))
-    (λ c. omega (arith, c.before.before.loop-k-test.true))
-    loop-again
-    returns-2)
+    (tie.spec invariant-loop decreases-loop loop-holds (λ c κs. c.requires) returns (λ c. omega (arith, c.loop-k-test.true)) (λ c. omega (arith, c.loop-k-test.true)) loop-again returns-2)

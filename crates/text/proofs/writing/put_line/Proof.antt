@@ -17,34 +17,24 @@ use Rattle.text.proofs.writing.put_line.Statement.{statement}
 use Rattle.text.proofs.writing.put_line.Tie as tie
 
 array-share-prefix-name : tie.Need-slice_bounds-name-end
-array-share-prefix-name c = word_fits (word_of c.before.before.before.before.args.tag) c.before.before.word-word.ensures
+array-share-prefix-name c = word_fits (word_of c.args.tag) c.word-word.ensures
 
 slice-aggregate-put : tie.Need-slice_bounds-put-end
-slice-aggregate-put c = sym (length-take-le _ _ (word_fits (word_of c.before.before.before.before.before.args.tag) c.before.before.before.word-word.ensures))
+slice-aggregate-put c = sym (length-take-le _ _ (word_fits (word_of c.args.tag) c.word-word.ensures))
 
 put-numerals-requires : tie.Need-put_numerals-q-requires
-put-numerals-requires c κs = omega (arith, ap (λ (r : Listed). r.0) c.before.before.listed-row.ensures, few_fields c.before.before.before.before.before.before.before.before.before.before.before.args.edition c.before.before.before.before.before.before.before.before.before.before.before.args.tag)
+put-numerals-requires c κs = omega (arith, ap (λ (r : Listed). r.0) c.listed-row.ensures, few_fields c.args.edition c.args.tag)
 
 returns : tie.Need-returns
 unfolding line_of
 returns c =
     let s = c.before.before.before.before.before.before.before.before.before.before.before.before.before.before.before.before.before.before.before in
-    let f = c.before.before.before.before.before.before.before.before.before.before.listed-row.ensures in
+    let f = c.listed-row.ensures in
     let e = ap (λ (r : Listed). numerals_of (take r.0 r.1) s.args.numbers) f ∙ ap (λ (l : List ℕ). numerals_of l s.args.numbers) (take_padded (fields_for s.args.edition s.args.tag)) in
-    next (retext c.before.before.before.before.before.before.before.before.before.before.before.before.before.put-put.ensures (word_in (word_of s.args.tag) c.before.before.before.before.before.before.before.before.before.before.before.before.before.before.before.before.before.word-word.ensures))
-    (next (retext c.before.before.before.before.before.before.before.put_numerals-q.ensures e) c.before.before.put.ensures)
+    next (retext c.put-put.ensures (word_in (word_of s.args.tag) c.word-word.ensures))
+    (next (retext c.put_numerals-q.ensures e) c.put.ensures)
 
 pub put_line_spec : {M : Type 1} → statement M
 put_line_spec =
     tie.close
-    (tie.spec
-    (λ c κs. search rules)
-    array-share-prefix-name
-    slice-aggregate-put
-    (λ c κs. search rules)
-    (λ c κs. search rules)
-    put-numerals-requires
-    (λ c. search rules)
-    (λ c κs. search rules)
-    (λ c. search rules)
-    returns)
+    (tie.spec (λ c κs. search rules) array-share-prefix-name slice-aggregate-put (λ c κs. search rules) (λ c κs. search rules) put-numerals-requires (λ c. search rules) (λ c κs. search rules) (λ c. search rules) returns)

@@ -8,20 +8,13 @@ use Rattle.text.proofs.writing.put_numeral.Tie as tie
 
 returns : tie.Need-returns-then-signed
 unfolding numeral_of
-returns c = retext c.before.before.put_signed.ensures (sym (pick_on _ _ (sym c.before.before.before.before.before.signed.ensures ∙ c.before.before.before.before.if-signed.true)))
+returns c = retext c.put_signed.ensures (sym (pick_on _ _ (sym c.signed.ensures ∙ c.if-signed.true)))
 
 returns-2 : tie.Need-returns
 unfolding numeral_of
-returns-2 c = retext c.before.before.put_decimal.ensures (sym (pick_off _ _ (sym c.before.before.before.before.before.signed.ensures ∙ c.before.before.before.before.if-signed.false)))
+returns-2 c = retext c.put_decimal.ensures (sym (pick_off _ _ (sym c.signed.ensures ∙ c.if-signed.false)))
 
 pub put_numeral_spec : {M : Type 1} → statement M
 put_numeral_spec =
     tie.close
-    (tie.spec
-    (λ c κs. search rules)
-    (λ c κs. search rules)
-    (λ c. search rules)
-    returns
-    (λ c κs. search rules)
-    (λ c. search rules)
-    returns-2)
+    (tie.spec (λ c κs. search rules) (λ c κs. search rules) (λ c. search rules) returns (λ c κs. search rules) (λ c. search rules) returns-2)

@@ -20,27 +20,15 @@ all s = length-take-le s.args.n s.args.tags (omega (arith, s.requires, s.well-fo
 
 loop-again : tie.Need-loop-i-preserved invariant-loop decreases-loop
 loop-again c =
-    let l = c.before.before.before.before.before.loop-i in
+    let l = c.loop-i in
     let s = c.before.before.before.before.before.before.before in
-    let t = get_or-take s.args.n s.args.tags l.i 0 c.before.before.before.before.loop-i-test.true in
-    (omega arith, one_number (omega (arith, all s, c.before.before.before.before.loop-i-test.true)) l.invariant.1 (rw t c.before.before.put_spaced-p.ensures))
+    let t = get_or-take s.args.n s.args.tags l.i 0 c.loop-i-test.true in
+    (omega arith, one_number (omega (arith, all s, c.loop-i-test.true)) l.invariant.1 (rw t c.put_spaced-p.ensures))
 
 returns : tie.Need-returns invariant-loop decreases-loop
-returns c = all_numbers (omega (arith, all c.before.before.before, c.before.loop-i.invariant.0)) c.before.loop-i.invariant.1
+returns c = all_numbers (omega (arith, all c.before.before.before, c.loop-i.invariant.0)) c.loop-i.invariant.1
 
 pub put_numerals_spec : {M : Type 1} → statement M
 put_numerals_spec =
     tie.close
-    (tie.spec
-    invariant-loop
-    decreases-loop
-    (λ c. (search rules, no_number))
-    (λ c. omega (arith, c.before.before.before.before.requires))
-    (λ c. search rules)
-    (λ c. omega (arith, c.before.before.before.before.requires))
-    (λ c κs. search rules)
-    (λ c. search rules)
-    (λ c. search rules)
-    loop-again
-    (λ c. c.before.loop-i.invariant.1.long)
-    returns)
+    (tie.spec invariant-loop decreases-loop (λ c. (search rules, no_number)) (λ c. omega (arith, c.requires)) (λ c. search rules) (λ c. omega (arith, c.requires)) (λ c κs. search rules) (λ c. search rules) (λ c. search rules) loop-again (λ c. c.loop-i.invariant.1.long) returns)

@@ -11,28 +11,18 @@ use Rattle.text.proofs.writing.put_signed.Tie as tie
 
 returns : tie.Need-returns-then-x-lt9223372036854775808
 unfolding signed_of
-returns c = retext c.before.before.put_decimal.ensures (sym (pick_on _ _ (lt-ltb _ _ c.before.before.before.before.if-x-lt9223372036854775808.true)))
+returns c = retext c.put_decimal.ensures (sym (pick_on _ _ (lt-ltb _ _ c.if-x-lt9223372036854775808.true)))
 
 returns-2 : tie.Need-returns
 unfolding signed_of
 returns-2 c =
-    let x = c.before.before.before.before.before.before.before.before.before.before.before.args.x in
-    let h = c.before.before.before.before.before.before.before.before.before.if-x-lt9223372036854775808.false in
-    let f = c.before.before.before.before.before.before.before.before.before.before.before.ranges.x in
+    let x = c.args.x in
+    let h = c.if-x-lt9223372036854775808.false in
+    let f = c.ranges.x in
     let e : 18446744073709551615 - x + 1 ≡ 18446744073709551616 - x = omega arith in
-    retext (next c.before.before.before.before.before.before.put-put.ensures (rw e at c.before.before.put_decimal-2.ensures)) (sym (pick_off _ _ (le-ltb _ _ h)))
+    retext (next c.put-put.ensures (rw e at c.put_decimal-2.ensures)) (sym (pick_off _ _ (le-ltb _ _ h)))
 
 pub put_signed_spec : {M : Type 1} → statement M
 put_signed_spec =
     tie.close
-    (tie.spec
-    (λ c κs. search rules)
-    (λ c. search rules)
-    returns
-    (λ c. search rules)
-    (λ c κs. search rules)
-    (λ c. search rules)
-    (λ c. search rules)
-    (λ c κs. search rules)
-    (λ c. search rules)
-    returns-2)
+    (tie.spec (λ c κs. search rules) (λ c. search rules) returns (λ c. search rules) (λ c κs. search rules) (λ c. search rules) (λ c. search rules) (λ c κs. search rules) (λ c. search rules) returns-2)

@@ -4,7 +4,7 @@ use Rattle.text.proofs.writing.put_spaced.Statement.{statement}
 use Rattle.text.proofs.writing.put_spaced.Tie as tie
 
 returns : tie.Need-returns
-returns c = next c.before.before.before.before.before.before.put-put.ensures c.before.before.put_numeral.ensures
+returns c = next c.put-put.ensures c.put_numeral.ensures
 
 pub put_spaced_spec : {M : Type 1} → statement M
 put_spaced_spec =

@@ -10,7 +10,7 @@ use Rattle.totals.proofs.Totals.count.Tie as tie
 returns : tie.Need-returns-then-count-ge-COUNT_LIMIT
 returns c =
     c.refused.ensures ∙ (
-    refuses counted out_of_range _ _ _ (le-leb _ _ c.before.if-count-ge-COUNT_LIMIT.true))
+    refuses counted out_of_range _ _ _ (le-leb _ _ c.if-count-ge-COUNT_LIMIT.true))
 
 returns-2 : tie.Need-returns
 returns-2 c =

@@ -7,10 +7,10 @@ use Rattle.totals.proofs.Totals.sound.Tie as tie
 returns : tie.Need-returns
 unfolding totals_sound
 returns c =
-    let s = c.before.before.before.before.before.before.args.self in
+    let s = c.args.self in
     rw (
-      simp (back s.financed (search rules)) at c.before.before.before.before.in_total_range-financed.ensures,
-      simp (back s.repaid (search rules)) at c.before.before.in_total_range-repaid.ensures,
+      simp (back s.financed (search rules)) at c.in_total_range-financed.ensures,
+      simp (back s.repaid (search rules)) at c.in_total_range-repaid.ensures,
       simp (back s.fees (search rules)) at c.in_total_range-fees.ensures,
     )
 
