@@ -77,6 +77,10 @@ class Names:
                 out.append(s)
                 i += 1
                 continue
+            if i and not all(it == "before" for it in steps[:i]):
+                out.append(s)
+                i += 1
+                continue
             if rest and rest[0] == "given":
                 for n in range(len(rest), 1, -1):
                     if (key, tuple(rest[:n])) in self.arms:
@@ -319,13 +323,46 @@ MISMATCH = []
 def turned(text, names, function):
     text = walk_back(text, Graph(names.of))
     out = []
-    for line in text.split("\n"):
+    for block in blocks(text):
+        out.append(renamed(block, names))
+    text = "\n".join(out)
+    last = function.split(".")[-1]
+    dashed = re.escape(last.replace("_", "-"))
+    return re.sub(rf"(?<![^\s(])(?:{dashed}-spec|{re.escape(last)}-spec|{dashed}_spec)(?![\w'-])", last + "_spec", text)
+
+
+def no_places(block):
+    """Variables of a declaration that hold no place: what a field was taken of, and arguments of other types."""
+    found = set()
+    for m in re.finditer(rf"\blet ({WORD}) = {WORD}((?:\.{WORD})+) in\b", block):
+        if any(it != "before" for it in m[2][1:].split(".")):
+            found.add(m[1])
+    for m in re.finditer(r"λ \((" + WORD + r") : [^λ]*?\)\.|λ (" + WORD + r"(?: " + WORD + r")*)\.", block):
+        found.update({m[1]} if m[1] else set(m[2].split()) - ({"c"} if "tie.spec" in block else set()))
+    m = re.match(r"(?:(?:pub|abbrev|unfoldable) )*(" + WORD + r") :(.*?)\n(?=(?:unfolding .*\n)?" + r"\1(?= |$))(?:unfolding .*\n)?\1((?: [^=\n]*?)?) =(?=\s)", block + "\n", re.S)
+    if m:
+        params = [it for it in split_arguments(m[3]) if not it.startswith("{")]
+        for p, t in zip(params, binders(m[2])):
+            if "tie." not in t:
+                found.add(p)
+        for group in re.finditer(r"\(([^():]*) : ([^()]*(?:\([^()]*\)[^()]*)*)\)", m[2]):
+            if "tie." not in group[2]:
+                found.update(group[1].split())
+    return found
+
+
+def renamed(block, names):
+    out = []
+    apart = no_places(block)
+    for line in block.split("\n"):
         if line.startswith("use ") or line.lstrip().startswith("--"):
             out.append(line)
             continue
 
         def one(m):
             head, tail = m[1], m[2]
+            if head in apart:
+                return m[0]
             if head == "tie":
                 first = tail[1:].split(".")
                 return "tie." + ".".join([names.tied(first[0])] + first[1:])
@@ -344,10 +381,7 @@ def turned(text, names, function):
             line = re.sub(re.escape(a) + r"(?![\w'-])", b, line)
         line = re.sub(r"(?<=[\w)'])\.fits(?=\.)", ".ranges", line)
         out.append(line)
-    text = "\n".join(out)
-    last = function.split(".")[-1]
-    dashed = re.escape(last.replace("_", "-"))
-    return re.sub(rf"(?<![^\s(])(?:{dashed}-spec|{re.escape(last)}-spec|{dashed}_spec)(?![\w'-])", last + "_spec", text)
+    return "\n".join(out)
 
 
 def main():

@@ -32,22 +32,22 @@ size_is : (c : tie.After-tags-1) → 3 + 11 * c.fields-row.result.0 ≡ length (
 size_is c = ap (λ (n : ℕ). 3 + 11 * n) (count c) ∙ sym (length_record (start c).args.edition (start c).args.tag (start c).args.values)
 
 -- past the tests there is room
-room : (c : tie.Else-out-at-2) → (start c.before.before).args.at + (3 + 11 * c.fields-row.result.0) ≤ length (start c.before.before).args.out-1.now
+room : (c : tie.Else-out-at-2) → (start c.before.before).args.at + (3 + 11 * c.fields-row.result.0) ≤ length (start c.before.before).args.out.now
 room c = omega (arith, c.if-out-at-2.false, c.if-out-at.false)
 
 -- the buffer past the head, and past the fields
-head-put : (c : tie.After-put_head) → c.put_head.new.0 ≡ placed (start c.before.before.before.before).args.at (head_of (start c.before.before.before.before).args.tag (11 * c.fields-row.result.0)) (start c.before.before.before.before).args.out-1.now
+head-put : (c : tie.After-put_head) → c.put_head.new.0 ≡ placed (start c.before.before.before.before).args.at (head_of (start c.before.before.before.before).args.tag (11 * c.fields-row.result.0)) (start c.before.before.before.before).args.out.now
 unfolding head_of bytes_of
-head-put c = let d = c.before.before.before.before in c.put_head.ensures ∙ laid_in (start d).args.at _ (start d).args.out-1.now (omega (arith, room c.before.before))
+head-put c = let d = c.before.before.before.before in c.put_head.ensures ∙ laid_in (start d).args.at _ (start d).args.out.now (omega (arith, room c.before.before))
 
-head-kept : (c : tie.After-put_head) → length c.put_head.new.0 ≡ length (start c.before.before.before.before).args.out-1.now
+head-kept : (c : tie.After-put_head) → length c.put_head.new.0 ≡ length (start c.before.before.before.before).args.out.now
 unfolding head_of bytes_of
-head-kept c = let d = c.before.before.before.before in ap length (head-put c) ∙ length-placed (start d).args.at _ (start d).args.out-1.now (omega (arith, room c.before.before))
+head-kept c = let d = c.before.before.before.before in ap length (head-put c) ∙ length-placed (start d).args.at _ (start d).args.out.now (omega (arith, room c.before.before))
 
-fits : (c : tie.After-put_fields) → (start c.before.before.before.before.before.before.before.before).args.at + length (whole c.before.before.before.before.before.before.before.before) ≤ length (start c.before.before.before.before.before.before.before.before).args.out-1.now
+fits : (c : tie.After-put_fields) → (start c.before.before.before.before.before.before.before.before).args.at + length (whole c.before.before.before.before.before.before.before.before) ≤ length (start c.before.before.before.before.before.before.before.before).args.out.now
 fits c = omega (arith, size_is c.before.before.before.before.before.before.before.before, room c.before.before.before.before.before.before)
 
-all-put : (c : tie.After-put_fields) → c.put_fields.new.0 ≡ placed (start c.before.before.before.before.before.before.before.before).args.at (whole c.before.before.before.before.before.before.before.before) (start c.before.before.before.before.before.before.before.before).args.out-1.now
+all-put : (c : tie.After-put_fields) → c.put_fields.new.0 ≡ placed (start c.before.before.before.before.before.before.before.before).args.at (whole c.before.before.before.before.before.before.before.before) (start c.before.before.before.before.before.before.before.before).args.out.now
 all-put c =
     let h = c.before.before.before.before in
     let d = h.before.before.before.before in
@@ -57,10 +57,10 @@ all-put c =
     (parts_placed a.edition a.tag a.values a.out-1.now a.at d.fields-row.ensures (room h.before.before))
 
 returns : tie.Need-returns-then-out-at
-returns c = let d = c.before in short (start d).args.at (whole d) (start d).args.out-1.now (omega (arith, size_is d, c.if-out-at.true))
+returns c = let d = c.before in short (start d).args.at (whole d) (start d).args.out.now (omega (arith, size_is d, c.if-out-at.true))
 
 returns-2 : tie.Need-returns-then-out-at-2
-returns-2 c = let d = c.before.before in short (start d).args.at (whole d) (start d).args.out-1.now (omega (arith, size_is d, c.if-out-at-2.true, c.if-out-at.false))
+returns-2 c = let d = c.before.before in short (start d).args.at (whole d) (start d).args.out.now (omega (arith, size_is d, c.if-out-at-2.true, c.if-out-at.false))
 
 put-fields-requires : tie.Need-put_fields-requires
 put-fields-requires c κs =
@@ -72,13 +72,13 @@ same_length : tie.Need-shape_of-out
 same_length c =
     let f = c.before.before in
     let d = f.before.before.before.before.before.before.before.before in
-    ap length (all-put f) ∙ length-placed (start d).args.at (whole d) (start d).args.out-1.now (fits f)
+    ap length (all-put f) ∙ length-placed (start d).args.at (whole d) (start d).args.out.now (fits f)
 
 returns-3 : tie.Need-returns
 returns-3 c =
     let f = c.before.before in
     let d = f.before.before.before.before.before.before.before.before in
-    fitting (start d).args.at (whole d) (start d).args.out-1.now (fits f) (size_is d) (all-put f)
+    fitting (start d).args.at (whole d) (start d).args.out.now (fits f) (size_is d) (all-put f)
 
 pub encode_parts_spec : {M : Type 1} → statement M
 encode_parts_spec =

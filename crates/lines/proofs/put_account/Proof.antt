@@ -10,7 +10,7 @@ use Rattle.lines.proofs.put_account.Tie as tie
 returns : tie.Need-returns
 unfolding account_line
 returns c =
-    let p = c.args.row.purse-1 in
+    let p = c.args.row.purse in
     let balance = c.magnitude-balance.ensures ∙ ap magnitude_of (back p.balance (search rules)) in
     let allowance = c.magnitude-allowance.ensures ∙ ap magnitude_of (back p.allowance (search rules)) in
     let offered = c.magnitude-offered.ensures ∙ ap magnitude_of (back p.offered (search rules)) in

@@ -8,7 +8,7 @@ use Rattle.lists.proofs.active.Tie as tie
 
 returns : tie.Need-returns-then-l-lender
 unfolding active_in
-returns c = on _ c.if-l-lender.true (simp (back c.args.o.terms-1.amount c.struct_told-1.given.0.1) at c.magnitude.ensures)
+returns c = on _ c.if-l-lender.true (simp (back c.args.o.terms.amount c.struct_told-1.given.0.1) at c.magnitude.ensures)
 
 returns-2 : tie.Need-returns
 unfolding active_in

@@ -5,7 +5,7 @@ use Rattle.query.proofs.account_words.Tie as tie
 
 returns : tie.Need-returns
 returns c =
-    let p = c.args.account.row-1.purse-1 in
+    let p = c.args.account.row.purse in
     rw (
       simp (back p.balance (search rules)) at c.bits-balance.ensures,
       simp (back p.allowance (search rules)) at c.bits-allowance.ensures,

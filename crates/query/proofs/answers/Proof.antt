@@ -21,7 +21,7 @@ returns-2 : tie.Need-returns-then-out-asked
 returns-2 c =
     let a = c.args in
     goes_on told book_unsound _ _ _ (ap not (sym c.sound.ensures.tested) ∙ c.if-not-sound.false-raw)
-    (refuses told buffer_short _ _ _ (lt-ltb (length a.out-1.now) (12 * length (threes a.questions.now)) (omega (arith, length_threes a.questions.now, c.if-out-asked.true))))
+    (refuses told buffer_short _ _ _ (lt-ltb (length a.out.now) (12 * length (threes a.questions.now)) (omega (arith, length_threes a.questions.now, c.if-out-asked.true))))
 
 write-requires : tie.Need-write-requires
 write-requires c κs =
@@ -36,7 +36,7 @@ returns-3 c =
     let a = c.args in
     let n = length_threes a.questions.now in
     goes_on told book_unsound _ _ _ (ap not (sym c.sound.ensures.tested) ∙ c.if-not-sound.false-raw)
-    (goes_on told buffer_short _ _ _ (le-ltb (length a.out-1.now) (12 * length (threes a.questions.now)) (omega (arith, n, c.if-out-asked.false)))
+    (goes_on told buffer_short _ _ _ (le-ltb (length a.out.now) (12 * length (threes a.questions.now)) (omega (arith, n, c.if-out-asked.false)))
     (does told _ _ (both n c.write.ensures)))
 
 pub answers_spec : {M : Type 1} → statement M

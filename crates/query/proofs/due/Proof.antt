@@ -16,12 +16,12 @@ returns c = ap due_as (on _ (sym c.schedule_zero.ensures ∙ c.if-schedule_zero.
 returns-2 : tie.Need-returns-in-Number
 unfolding due_in due_as
 returns-2 c = ap due_as (off _ (sym c.schedule_zero.ensures ∙ c.if-schedule_zero.false)
-    (ap (λ (x : ℕ × (ℕ × ℕ)). x.1) (sym (ap due_says c.in-Number.is) ∙ rw c.keeps_terms-kept.ensures at (simp (back c.args.d.offer-1.repaid c.struct_told-1.given.1.1.1.1.1.0.1) at c.due.ensures))))
+    (ap (λ (x : ℕ × (ℕ × ℕ)). x.1) (sym (ap due_says c.in-Number.is) ∙ rw c.keeps_terms-kept.ensures at (simp (back c.args.d.offer.repaid c.struct_told-1.given.1.1.1.1.1.0.1) at c.due.ensures))))
 
 returns-3 : tie.Need-returns-in-Invalid
 unfolding due_in due_as
 returns-3 c = ap due_as (off _ (sym c.schedule_zero.ensures ∙ c.if-schedule_zero.false)
-    (ap (λ (x : ℕ × (ℕ × ℕ)). x.1) (sym (ap due_says c.in-Invalid.is) ∙ rw c.keeps_terms-kept.ensures at (simp (back c.args.d.offer-1.repaid c.struct_told-1.given.1.1.1.1.1.0.1) at c.due.ensures))))
+    (ap (λ (x : ℕ × (ℕ × ℕ)). x.1) (sym (ap due_says c.in-Invalid.is) ∙ rw c.keeps_terms-kept.ensures at (simp (back c.args.d.offer.repaid c.struct_told-1.given.1.1.1.1.1.0.1) at c.due.ensures))))
 
 pub due_spec : {M : Type 1} → statement M
 due_spec =

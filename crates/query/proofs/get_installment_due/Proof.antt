@@ -22,7 +22,7 @@ see-requires c κs = (c.sound.ensures.shelved (not-false c.sound.result c.if-not
 returns-2 : tie.Need-returns
 unfolding due_as
 returns-2 c = goes_on reply book_unsound _ _ _ (ap not (sym c.sound.ensures.tested) ∙ c.if-not-sound.false-raw)
-    (does reply _ _ (ap (λ (d : Due). d.number ∷ d.owed ∷ []) c.due-d.ensures ∙ ap (λ (s : SeenDeal). due_order (due_in c.args.book.settings-1.edition s.row-1 c.args.now)) c.see-seen.ensures))
+    (does reply _ _ (ap (λ (d : Due). d.number ∷ d.owed ∷ []) c.due-d.ensures ∙ ap (λ (s : SeenDeal). due_order (due_in c.args.book.settings.edition s.row c.args.now)) c.see-seen.ensures))
 
 pub get_installment_due_spec : {M : Type 1} → statement M
 get_installment_due_spec =

@@ -18,7 +18,7 @@ see-requires c κs = (c.sound.ensures.shelved (not-false c.sound.result c.if-not
 
 returns-2 : tie.Need-returns
 returns-2 c = goes_on reply book_unsound _ _ _ (ap not (sym c.sound.ensures.tested) ∙ c.if-not-sound.false-raw)
-    (does reply _ _ (ap lender_order (c.of-numbers.ensures ∙ ap (λ (s : SeenAccount). lender_numbers s.row-1) c.see-seen.ensures)))
+    (does reply _ _ (ap lender_order (c.of-numbers.ensures ∙ ap (λ (s : SeenAccount). lender_numbers s.row) c.see-seen.ensures)))
 
 pub get_lender_stats_spec : {M : Type 1} → statement M
 get_lender_stats_spec =

@@ -18,7 +18,7 @@ see-requires c κs = (c.sound.ensures.shelved (not-false c.sound.result c.if-not
 
 returns-2 : tie.Need-returns
 returns-2 c = goes_on reply book_unsound _ _ _ (ap not (sym c.sound.ensures.tested) ∙ c.if-not-sound.false-raw)
-    (does reply _ _ (ap (λ (s : SeenDeal). s.row-1.negotiation-1.deadline ∷ []) c.see-seen.ensures))
+    (does reply _ _ (ap (λ (s : SeenDeal). s.row.negotiation.deadline ∷ []) c.see-seen.ensures))
 
 pub get_negotiation_deadline_spec : {M : Type 1} → statement M
 get_negotiation_deadline_spec = tie.close (tie.spec (λ c κs. search rules) returns see-requires returns-2)

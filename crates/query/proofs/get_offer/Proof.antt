@@ -23,7 +23,7 @@ returns-2 c = goes_on reply book_unsound _ _ _ (ap not (sym c.sound.ensures.test
 returns-3 : tie.Need-returns
 returns-3 c = goes_on reply book_unsound _ _ _ (ap not (sym c.sound.ensures.tested) ∙ c.if-not-sound.false-raw)
     (goes_on reply not_found _ _ _ (ap (λ (s : SeenDeal). not s.here) (sym c.see-seen.ensures) ∙ c.if-not-seen.false)
-    (does reply _ _ (ap in_order (c.of-numbers.ensures ∙ ap (λ (s : SeenDeal). numbers_of c.args.id s.row-1.offer-1) c.see-seen.ensures))))
+    (does reply _ _ (ap in_order (c.of-numbers.ensures ∙ ap (λ (s : SeenDeal). numbers_of c.args.id s.row.offer) c.see-seen.ensures))))
 
 pub get_offer_spec : {M : Type 1} → statement M
 get_offer_spec =

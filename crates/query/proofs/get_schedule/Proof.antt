@@ -21,13 +21,13 @@ see-requires c κs = (c.sound.ensures.shelved (not-false c.sound.result c.if-not
 returns-2 : tie.Need-returns-then-schedule_zero
 unfolding schedule_values
 returns-2 c = goes_on reply book_unsound _ _ _ (ap not (sym c.sound.ensures.tested) ∙ c.if-not-sound.false-raw)
-    (does reply _ _ (on _ (ap (λ (s : SeenDeal). schedule_zero s.row-1.schedule-1) (sym c.see-seen.ensures) ∙ sym c.schedule_zero.ensures ∙ c.if-schedule_zero.true) refl))
+    (does reply _ _ (on _ (ap (λ (s : SeenDeal). schedule_zero s.row.schedule) (sym c.see-seen.ensures) ∙ sym c.schedule_zero.ensures ∙ c.if-schedule_zero.true) refl))
 
 returns-3 : tie.Need-returns
 unfolding schedule_values
 returns-3 c = goes_on reply book_unsound _ _ _ (ap not (sym c.sound.ensures.tested) ∙ c.if-not-sound.false-raw)
-    (does reply _ _ (off _ (ap (λ (s : SeenDeal). schedule_zero s.row-1.schedule-1) (sym c.see-seen.ensures) ∙ sym c.schedule_zero.ensures ∙ c.if-schedule_zero.false)
-    (ap schedule_order (c.of-numbers.ensures ∙ ap (λ (s : SeenDeal). schedule_numbers s.row-1.schedule-1) c.see-seen.ensures))))
+    (does reply _ _ (off _ (ap (λ (s : SeenDeal). schedule_zero s.row.schedule) (sym c.see-seen.ensures) ∙ sym c.schedule_zero.ensures ∙ c.if-schedule_zero.false)
+    (ap schedule_order (c.of-numbers.ensures ∙ ap (λ (s : SeenDeal). schedule_numbers s.row.schedule) c.see-seen.ensures))))
 
 pub get_schedule_spec : {M : Type 1} → statement M
 get_schedule_spec =

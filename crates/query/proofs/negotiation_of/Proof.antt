@@ -5,7 +5,7 @@ use Rattle.query.proofs.negotiation_of.Statement.{statement}
 use Rattle.query.proofs.negotiation_of.Tie as tie
 
 returns : tie.Need-returns
-returns c = ap (λ (s : SeenDeal). s.row-1.negotiation) c.see-seen.ensures
+returns c = ap (λ (s : SeenDeal). s.row.negotiation) c.see-seen.ensures
 
 pub negotiation_of_spec : {M : Type 1} → statement M
 negotiation_of_spec = tie.close (tie.spec (λ c κs. search rules) returns)

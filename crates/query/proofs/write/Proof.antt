@@ -31,22 +31,22 @@ St = tie.Start invariant-loop decreases-loop
 abbrev id_at : St → ℕ → ℕ
 id_at s i = get_or s.args.questions.now (3 * i + 1) 0
 
-below-o : (c : tie.After-spot_by-offer_spot invariant-loop decreases-loop) → c.spot_by-offer_spot.result.at-deal < 64
-below-o c = spot_below c.requires.shelved.offers-1.shelf (omega arith) (Id (id_at c c.loop-i.i)) c.spot_by-offer_spot.ensures
+below-o : (c : tie.After-spot_by-offer_spot invariant-loop decreases-loop) → c.spot_by-offer_spot.result.at < 64
+below-o c = spot_below c.requires.shelved.offers.shelf (omega arith) (Id (id_at c c.loop-i.i)) c.spot_by-offer_spot.ensures
 
-below-a : (c : tie.After-spot_by-account_spot invariant-loop decreases-loop) → c.spot_by-account_spot.result.at-deal < 64
-below-a c = spot_below c.requires.shelved.accounts-1 (omega arith) (Id (id_at c c.loop-i.i)) c.spot_by-account_spot.ensures
+below-a : (c : tie.After-spot_by-account_spot invariant-loop decreases-loop) → c.spot_by-account_spot.result.at < 64
+below-a c = spot_below c.requires.shelved.accounts (omega arith) (Id (id_at c c.loop-i.i)) c.spot_by-account_spot.ensures
 
-shown : (c : tie.After-at-account invariant-loop decreases-loop) (k : Table Invoice) → Shows (model_by c.args.book.accounts-1 k c.args.book.offers-1 c.args.book.totals-1 c.args.book.settings-1) (id_at c c.loop-i.i) c.at-deal.result c.at-account.result c.args.book.totals-1 c.args.book.settings-1 c.args.book.offers-1.count
+shown : (c : tie.After-at-account invariant-loop decreases-loop) (k : Table Invoice) → Shows (model_by c.args.book.accounts k c.args.book.offers c.args.book.totals c.args.book.settings) (id_at c c.loop-i.i) c.at-deal.result c.at-account.result c.args.book.totals c.args.book.settings c.args.book.offers.count
 shown c k =
     let s = c in
     let key = Id (id_at s c.loop-i.i) in
     record {
-      deal_seen = c.at-deal.ensures ∙ ap seen_deal (sym (deal_read_lem s.requires.shelved.offers-1 _ _ _ key c.spot_by-offer_spot.ensures));
-      account_seen = c.at-account.ensures ∙ ap seen_account (sym (spot_found s.requires.shelved.accounts-1 (omega arith) key c.spot_by-account_spot.ensures));
+      deal_seen = c.at-deal.ensures ∙ ap seen_deal (sym (deal_read_lem s.requires.shelved.offers _ _ _ key c.spot_by-offer_spot.ensures));
+      account_seen = c.at-account.ensures ∙ ap seen_account (sym (spot_found s.requires.shelved.accounts (omega arith) key c.spot_by-account_spot.ensures));
       totals_seen = refl;
       settings_seen = refl;
-      counted = sym s.requires.shelved.offers-1.shelf.counted;
+      counted = sym s.requires.shelved.offers.shelf.counted;
     }
 
 mul-offer : tie.Need-offset_bounds-offers-offer_place invariant-loop decreases-loop

@@ -24,7 +24,7 @@ returns c =
 
 returns-2 : tie.Need-returns
 returns-2 c =
-    let n = c.args.book.settings-1.edition in
+    let n = c.args.book.settings.edition in
     let s = c.args.s.now in
     let q = c.header-h in
     let h : headed n s ≡ false = ⊎_elim (λ t. headed_good s n (sym q.ensures ∙ ap opening t.1.given.1) ∙ ne_eqb _ n t.4.left) (λ l. headed_bad s n (sym q.ensures ∙ ap opening l.1.given.1)) c.in-Records.branch in

@@ -21,15 +21,15 @@ long : (s : tie.Start) → length (w s) ≡ s.args.size
 long s = length-take-le s.args.size (drop s.args.at s.args.s.now) (omega (arith, s.requires.0, length-drop s.args.at s.args.s.now))
 
 returns : tie.Need-returns-then-not-good
-returns c = let s = c.before.before.before in no_copy s.args.out-1.now s.args.p (w s) (not-true _ c.if-not-good.true-raw)
+returns c = let s = c.before.before.before in no_copy s.args.out.now s.args.p (w s) (not-true _ c.if-not-good.true-raw)
 
 returns-2 : tie.Need-returns
 returns-2 c =
     let e = c.before.before.before.before.before in
     let s = start e in
     let z : s.args.at + s.args.size - s.args.at ≡ s.args.size = omega arith in
-    a_copy s.args.out-1.now s.args.p (w s) (not-false _ e.if-not-good.false-raw) (omega (arith, long s))
-    (placed_mid s.args.p (w s) s.args.out-1.now c.copy.new.1.0 (omega (arith, long s, s.requires.1)) (rw (take-length (w s)) at (rw z at c.copy.ensures.value)))
+    a_copy s.args.out.now s.args.p (w s) (not-false _ e.if-not-good.false-raw) (omega (arith, long s))
+    (placed_mid s.args.p (w s) s.args.out.now c.copy.new.1.0 (omega (arith, long s, s.requires.1)) (rw (take-length (w s)) at (rw z at c.copy.ensures.value)))
 
 pub keep_spec : {M : Type 1} → statement M
 keep_spec =

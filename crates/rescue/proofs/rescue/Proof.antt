@@ -26,7 +26,7 @@ long c = let o = good c in length-take-le (first c) (start c).args.s.now (omega 
 returns : tie.Need-returns-in_default
 returns c =
     let a = c.args in
-    let w = bad_header_lem a.s.now a.out-1.now a.report-1.now (not_opened a.s.now (sym c.header-h.ensures ∙ ap opening c.in_default.is)) in
+    let w = bad_header_lem a.s.now a.out.now a.report.now (not_opened a.s.now (sym c.header-h.ensures ∙ ap opening c.in_default.is)) in
     (w.says, (w.clean, w.offsets))
 
 returns-2 : tie.Need-returns-then-out-s
@@ -53,13 +53,13 @@ copy-requires : tie.Need-copy-requires
 copy-requires c κs = let k = c in let o = good k in omega (arith, o, long k, c.if-out-s.false)
 
 -- the header's bytes
-head : (c : tie.After-copy) → c.copy.new.1.0 ≡ placed 0 (take (first c) (start c).args.s.now) (start c).args.out-1.now
+head : (c : tie.After-copy) → c.copy.new.1.0 ≡ placed 0 (take (first c) (start c).args.s.now) (start c).args.out.now
 head c =
     let k = c in
     let a = (start k).args in
     head_is a.s.now a.out-1.now a.report-1.now (good k) c.if-out-s.false c.copy.ensures.value
 
-enough : (c : tie.Else-report-count) → length (report_of (start c.before.before.before).args.s.now) ≤ length (start c.before.before.before).args.report-1.now
+enough : (c : tie.Else-report-count) → length (report_of (start c.before.before.before).args.s.now) ≤ length (start c.before.before.before).args.report.now
 enough c =
     let k = c.before.before.before in
     let a = (start k).args in

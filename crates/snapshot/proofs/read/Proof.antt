@@ -23,12 +23,12 @@ module _ (c : tie.After-read_offers-o) where
   made-stored : made ≡ stored model
   made-stored = rw (c.read_accounts-a.ensures.is, c.read_invoices-i.ensures.is, c.read_offers-o.ensures.is)
 
-  takes : Takes c.args.s.now c.read_edition-e.result.c-1 (fields c.read_edition-e.result.edition) c.read_offers-o.result.c-1 model
+  takes : Takes c.args.s.now c.read_edition-e.result.c (fields c.read_edition-e.result.edition) c.read_offers-o.result.c model
   unfolding fields
   takes = takes_via model_from model_parts (λ x _. refl) (takes_then c.read_settings-p.ensures (takes_then c.read_totals-t.ensures (takes_then c.read_accounts-a.ensures.takes (takes_then c.read_invoices-i.ensures.takes c.read_offers-o.ensures.takes))))
 
   -- what the bytes give
-  given : shows c.read_offers-o.result.c-1 model ≡ book_in c.args.s.now
+  given : shows c.read_offers-o.result.c model ≡ book_in c.args.s.now
   given = c.read_edition-e.ensures.on takes
 
 returns : tie.Need-returns-then-c-ne0
@@ -38,8 +38,8 @@ returns-2 : tie.Need-returns-then-c-s
 returns-2 c = let d = c.before.before.before.before.before.before.before.before.before.before.before in c.refused-then-c-s.ensures ∙ read_past _ _ (model d) (given d) c.if-c-ne0.false c.if-c-s.true
 
 -- the code's test
-test : (c : tie.After-sound-sound) → c.read_offers-o.result.c-1.ok && c.sound-sound.result ≡ c.read_offers-o.result.c-1.ok && book_test (stored (model c.before.before.before.before.before.before.before.before.before.before.before))
-test c = ap (λ t. c.read_offers-o.result.c-1.ok && t) (c.sound-sound.ensures.tested ∙ ap book_test (made-stored c.before.before.before.before.before.before.before.before.before.before.before))
+test : (c : tie.After-sound-sound) → c.read_offers-o.result.c.ok && c.sound-sound.result ≡ c.read_offers-o.result.c.ok && book_test (stored (model c.before.before.before.before.before.before.before.before.before.before.before))
+test c = ap (λ t. c.read_offers-o.result.c.ok && t) (c.sound-sound.ensures.tested ∙ ap book_test (made-stored c.before.before.before.before.before.before.before.before.before.before.before))
 
 returns-3 : tie.Need-returns-then-not-c-sound
 returns-3 c =

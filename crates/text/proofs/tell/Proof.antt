@@ -59,7 +59,7 @@ loop-again c =
     )
 
 -- the buffer keeps its length
-long : (c : tie.At-loop-c invariant-loop decreases-loop) → length c.loop-c.out-1 ≡ length c.args.out-1.now
+long : (c : tie.At-loop-c invariant-loop decreases-loop) → length c.loop-c.out ≡ length c.args.out.now
 long c = c.loop-c.invariant.1.long ∙ kept c.put_title-pen.ensures
 
 returns-2 : tie.Need-returns-in-Malformed invariant-loop decreases-loop

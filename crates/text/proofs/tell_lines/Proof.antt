@@ -73,7 +73,7 @@ loop-again c =
     (a.1, (omega (arith, a.0, v.1.0), (v.1.1.0 + 1, (omega (arith, v.1.1.1.0), goes_on (onward (title l).edition 0x21 0x57 (text_of l)) v.1.1.1.1 (item-is b) w))))
 
 -- the buffer keeps its length
-long : (c : tie.At-loop-at invariant-loop decreases-loop) → length c.loop-at.out-1 ≡ length c.args.out-1.now
+long : (c : tie.At-loop-at invariant-loop decreases-loop) → length c.loop-at.out ≡ length c.args.out.now
 long c = c.loop-at.invariant.1.1.1.1.long ∙ kept c.put_header-pen.ensures
 
 returns-2 : tie.Need-returns invariant-loop decreases-loop

@@ -9,8 +9,8 @@ use borrow.Author.Rules.{rules}
 use Rattle.account.proofs.Account.accept.Statement.{statement}
 use Rattle.account.proofs.Account.accept.Tie as tie
 
-moved : (c : tie.After-shift-moved) → c.shift-moved.result ≡ moved_of c.args.self.purse-1.accepted c.args.t.amount
-moved c = simp (back c.args.self.purse-1.accepted (search rules), back c.args.t.amount (search rules)) at c.shift-moved.ensures
+moved : (c : tie.After-shift-moved) → c.shift-moved.result ≡ moved_of c.args.self.purse.accepted c.args.t.amount
+moved c = simp (back c.args.self.purse.accepted (search rules), back c.args.t.amount (search rules)) at c.shift-moved.ensures
 
 returns : tie.Need-returns
 returns c =

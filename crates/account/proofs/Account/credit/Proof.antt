@@ -9,8 +9,8 @@ use borrow.Author.Rules.{rules}
 use Rattle.account.proofs.Account.credit.Statement.{statement}
 use Rattle.account.proofs.Account.credit.Tie as tie
 
-moved : (c : tie.After-shift-moved) → c.shift-moved.result ≡ moved_of c.args.self.purse-1.balance c.args.t.amount
-moved c = simp (back c.args.self.purse-1.balance (search rules), back c.args.t.amount (search rules)) at c.shift-moved.ensures
+moved : (c : tie.After-shift-moved) → c.shift-moved.result ≡ moved_of c.args.self.purse.balance c.args.t.amount
+moved c = simp (back c.args.self.purse.balance (search rules), back c.args.t.amount (search rules)) at c.shift-moved.ensures
 
 returns : tie.Need-returns
 returns c =

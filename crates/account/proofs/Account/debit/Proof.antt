@@ -14,11 +14,11 @@ use borrow.Author.Rules.{rules}
 use Rattle.account.proofs.Account.debit.Statement.{statement}
 use Rattle.account.proofs.Account.debit.Tie as tie
 
-allowed : (c : tie.After-lower-allowed) → c.lower-allowed.result ≡ moved_of c.args.self.purse-1.allowance (neg_ℤ c.args.t.amount)
-allowed c = simp (back c.args.self.purse-1.allowance (search rules), back c.args.t.amount (search rules)) at c.lower-allowed.ensures
+allowed : (c : tie.After-lower-allowed) → c.lower-allowed.result ≡ moved_of c.args.self.purse.allowance (neg_ℤ c.args.t.amount)
+allowed c = simp (back c.args.self.purse.allowance (search rules), back c.args.t.amount (search rules)) at c.lower-allowed.ensures
 
-moved : (c : tie.After-lower-moved) → c.lower-moved.result ≡ moved_of c.args.self.purse-1.balance (neg_ℤ c.args.t.amount)
-moved c = simp (back c.args.self.purse-1.balance (search rules), back c.args.t.amount (search rules)) at c.lower-moved.ensures
+moved : (c : tie.After-lower-moved) → c.lower-moved.result ≡ moved_of c.args.self.purse.balance (neg_ℤ c.args.t.amount)
+moved c = simp (back c.args.self.purse.balance (search rules), back c.args.t.amount (search rules)) at c.lower-moved.ensures
 
 returns : tie.Need-returns-then-not-allowed
 returns c =

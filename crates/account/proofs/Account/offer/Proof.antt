@@ -11,8 +11,8 @@ use borrow.Author.Rules.{rules}
 use Rattle.account.proofs.Account.offer.Statement.{statement}
 use Rattle.account.proofs.Account.offer.Tie as tie
 
-moved : (c : tie.After-shift-moved) → c.shift-moved.result ≡ moved_of c.args.self.purse-1.offered c.args.t.amount
-moved c = simp (back c.args.self.purse-1.offered (search rules), back c.args.t.amount (search rules)) at c.shift-moved.ensures
+moved : (c : tie.After-shift-moved) → c.shift-moved.result ≡ moved_of c.args.self.purse.offered c.args.t.amount
+moved c = simp (back c.args.self.purse.offered (search rules), back c.args.t.amount (search rules)) at c.shift-moved.ensures
 
 returns : tie.Need-returns-then-not-moved
 returns c =

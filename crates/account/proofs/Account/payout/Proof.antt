@@ -17,8 +17,8 @@ use Rattle.account.proofs.Account.payout.Tie as tie
 amount_in : (c : tie.After-in_amount_range) → c.in_amount_range.result ≡ in_amount c.args.amount
 amount_in c = simp (to_z-of_z c.ranges.amount) at c.in_amount_range.ensures
 
-moved : (c : tie.After-lower-moved) → c.lower-moved.result ≡ moved_of c.args.self.purse-1.balance (neg_ℤ c.args.amount)
-moved c = simp (back c.args.self.purse-1.balance (search rules), to_z-of_z c.ranges.amount) at c.lower-moved.ensures
+moved : (c : tie.After-lower-moved) → c.lower-moved.result ≡ moved_of c.args.self.purse.balance (neg_ℤ c.args.amount)
+moved c = simp (back c.args.self.purse.balance (search rules), to_z-of_z c.ranges.amount) at c.lower-moved.ensures
 
 returns : tie.Need-returns-then-not-in_amount_range
 returns c = c.refused.ensures ∙ refuses posted invalid_input _ _ _ (ap not (sym (amount_in c.before.before)) ∙ c.if-not-in_amount_range.true-raw)

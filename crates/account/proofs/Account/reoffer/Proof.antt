@@ -12,7 +12,7 @@ use Rattle.account.proofs.Account.reoffer.Statement.{statement}
 use Rattle.account.proofs.Account.reoffer.Tie as tie
 
 -- what the posting comes to
-moved : (c : tie.After-posted_to-moved) → c.posted_to-moved.result ≡ posted_to c.args.self.purse-1 (c.args.new.amount -ℤ c.args.old.amount)
+moved : (c : tie.After-posted_to-moved) → c.posted_to-moved.result ≡ posted_to c.args.self.purse (c.args.new.amount -ℤ c.args.old.amount)
 moved c = simp (back c.args.old.amount (search rules), back c.args.new.amount (search rules)) at c.posted_to-moved.ensures
 
 returns : tie.Need-returns
@@ -22,7 +22,7 @@ returns c =
     let ok = ap (λ (z : MovedPurse). z.ok) m in
     c.repursed.ensures
     ∙ moves_purse a.self out_of_range (reoffers (a.new.amount -ℤ a.old.amount)) (ok ∙ move_tells _ _ refl)
-    (λ h. ap (λ (z : MovedPurse). z.purse-1) m ∙ ap (λ (z : ℤ). with_offered a.self.purse-1 z) (move_makes _ _ refl (sym ok ∙ h)))
+    (λ h. ap (λ (z : MovedPurse). z.purse) m ∙ ap (λ (z : ℤ). with_offered a.self.purse z) (move_makes _ _ refl (sym ok ∙ h)))
 
 pub reoffer_spec : {M : Type 1} → statement M
 reoffer_spec = tie.close (tie.spec (λ c κs. search rules) (λ c κs. search rules) returns)

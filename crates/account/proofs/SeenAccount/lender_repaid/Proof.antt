@@ -28,7 +28,7 @@ returns-2 : tie.Need-returns-then-count-gt-COUNT_LIMIT
 returns-2 c =
     let a = c.args in
     c.refused-then-count-gt-COUNT_LIMIT.ensures
-    ∙ refused posted _ _ (goes _ _ (clear c.before.before) (fails out_of_range _ (lt-ltb count_limit (a.self.row-1.repaid + a.flag) (omega arith)))) (eqb-false _ _ (refusal_not-0 out_of_range))
+    ∙ refused posted _ _ (goes _ _ (clear c.before.before) (fails out_of_range _ (lt-ltb count_limit (a.self.row.repaid + a.flag) (omega arith)))) (eqb-false _ _ (refusal_not-0 out_of_range))
 
 returns-3 : tie.Need-returns-then-count-flag-gt-COUNT_LIMIT
 returns-3 c =

@@ -5,7 +5,7 @@ use Rattle.book.specs.Turning.{Turned, turned, fetched, counts_by_lem, accounts_
 use Rattle.book.proofs.Book.obey.Statement.{statement}
 use Rattle.book.proofs.Book.obey.Tie as tie
 
-step : (c : tie.After-turn-turn) → Turned c.args.self c.args.c (keys_by c.names-names.result.first-1 c.key-other.result c.key-key.result c.names-names.result.offer-1) c.turn-turn.result
+step : (c : tie.After-turn-turn) → Turned c.args.self c.args.c (keys_by c.names-names.result.first c.key-other.result c.key-key.result c.names-names.result.offer) c.turn-turn.result
 step c = turned c.requires (fetched c.names-names.ensures c.see-deal.ensures c.key-key.ensures c.see-paper.ensures c.key-other.ensures c.see-seen.ensures c.see-b.ensures c.same-one.ensures) (counts_by_lem c.requires) c.turn-turn.ensures
 
 names-requires : tie.Need-names-names-requires
@@ -36,13 +36,13 @@ turn-requires : tie.Need-turn-turn-requires
 turn-requires c κs = search rules
 
 store-requires : tie.Need-store-more-requires
-store-requires c κs = c.requires.accounts-1
+store-requires c κs = c.requires.accounts
 
 store-requires-2 : tie.Need-store-papers-requires
-store-requires-2 c κs = c.requires.invoices-1
+store-requires-2 c κs = c.requires.invoices
 
 store-requires-3 : tie.Need-store-deals-requires
-store-requires-3 c κs = c.requires.offers-1
+store-requires-3 c κs = c.requires.offers
 
 returns : tie.Need-returns
 returns c = steps (step c.before.before.before.before.before.before.before.before.before.before) (c.store-more.ensures _ (accounts_left (step c.before.before.before.before.before.before.before.before.before.before) refl)) (c.store-papers.ensures _ (invoices_left (step c.before.before.before.before.before.before.before.before.before.before) refl)) (c.store-deals.ensures _ (offers_left (step c.before.before.before.before.before.before.before.before.before.before) refl))

@@ -7,7 +7,7 @@ returns : tie.Need-returns
 returns c =
     let s = c.before.before.before.before.before.before.before in
     rw (
-      simp (back s.args.o.terms-1.amount c.struct_told-1.given.0.1) at c.bits-amount.ensures,
+      simp (back s.args.o.terms.amount c.struct_told-1.given.0.1) at c.bits-amount.ensures,
       simp (back s.args.o.repaid c.struct_told-2-1.given.1.1.1.1.1.0.1) at c.bits-repaid.ensures,
     )
 

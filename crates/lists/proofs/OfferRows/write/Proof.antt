@@ -47,7 +47,7 @@ loop-again c =
     ⊎_elim
     (λ x. rw (x.9, x.10)
     (write_on l.invariant 10 (λ a. refl) s.requires none (inside u l.i h) (e _ _ c.takes.ensures x.0.taken) _
-    (x.6.ensures ∙ ap (λ (z : List ℕ). placed (10 * l.n) z l.out-1) (x.3.ensures ∙ ap in_order x.2.ensures ∙ ap ten_of (sym (entry u l.i h))))))
+    (x.6.ensures ∙ ap (λ (z : List ℕ). placed (10 * l.n) z l.out) (x.3.ensures ∙ ap in_order x.2.ensures ∙ ap ten_of (sym (entry u l.i h))))))
     (λ x. rw (x.1, x.2) (write_off l.invariant 10 (λ a. refl) s.requires none (inside u l.i h) (e _ _ c.takes.ensures x.0.left)))
     c.if-takes.branch
 

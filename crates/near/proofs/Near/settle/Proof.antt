@@ -19,16 +19,16 @@ use Rattle.near.proofs.Near.settle.Statement.{statement}
 use Rattle.near.proofs.Near.settle.Tie as tie
 
 moved : (c : tie.After-settle_by-posted) → (o : ℕ) (m : Model) → c.args.self ≡ view_of (sides_of c.args.lends m o) m → c.settle_by-posted.result ≡ answered (partied (pick c.args.lends (lender_of m o) (originator_of m o)) (pick c.args.lends (originator_of m o) (lender_of m o))) m.accounts (settle_accounts m.accounts (lender_of m o) (originator_of m o) (terms_in m o))
-moved c o m = λ e. (simp (ap (λ n. n.deal-1) e) at c.settle_by-posted.ensures) (lender_of m o) (originator_of m o) m.accounts (ap (λ n. n.parties-1) e)
+moved c o m = λ e. (simp (ap (λ n. n.deal) e) at c.settle_by-posted.ensures) (lender_of m o) (originator_of m o) m.accounts (ap (λ n. n.parties) e)
 
 paid : (c : tie.After-settle_by-posted) → (o : ℕ) (m : Model) → c.args.self ≡ view_of (sides_of c.args.lends m o) m → c.settle_by-posted.result.answer ≡ first (settle_accounts m.accounts (lender_of m o) (originator_of m o) (terms_in m o)).checks
 paid c o m = λ e. number_of (partied (pick c.args.lends (lender_of m o) (originator_of m o)) (pick c.args.lends (originator_of m o) (lender_of m o))) _ (settle_accounts m.accounts (lender_of m o) (originator_of m o) (terms_in m o)) (λ p. p.answer) (λ n x. refl) (moved c o m e)
 
-summed : (c : tie.After-finance-q) → (o : ℕ) (m : Model) → c.args.self ≡ view_of (sides_of c.args.lends m o) m → c.finance-q.result ≡ answered counted m.totals-1 (finance_of m.totals-1 (terms_in m o))
+summed : (c : tie.After-finance-q) → (o : ℕ) (m : Model) → c.args.self ≡ view_of (sides_of c.args.lends m o) m → c.finance-q.result ≡ answered counted m.totals (finance_of m.totals (terms_in m o))
 summed c o m = λ e. simp e at c.finance-q.ensures
 
-raised : (c : tie.After-finance-q) → (o : ℕ) (m : Model) → c.args.self ≡ view_of (sides_of c.args.lends m o) m → c.finance-q.result.answer ≡ first (finance_of m.totals-1 (terms_in m o)).checks
-raised c o m = λ e. number_of counted _ (finance_of m.totals-1 (terms_in m o)) (λ p. p.answer) (λ n x. refl) (summed c o m e)
+raised : (c : tie.After-finance-q) → (o : ℕ) (m : Model) → c.args.self ≡ view_of (sides_of c.args.lends m o) m → c.finance-q.result.answer ≡ first (finance_of m.totals (terms_in m o)).checks
+raised c o m = λ e. number_of counted _ (finance_of m.totals (terms_in m o)) (λ p. p.answer) (λ n x. refl) (summed c o m e)
 
 returns : tie.Need-returns-then-not-posted
 unfolding settling
@@ -40,7 +40,7 @@ returns-2 c = λ o m e. same (sides_of c.args.lends m o) m e _ ∙ refused (turn
 
 returns-3 : tie.Need-returns
 unfolding settling
-returns-3 c = λ o m e. let z = sym (paid c.before.before.before.before.before.before.before.before.before.before.before.before.before.before o m e) ∙ eqb-true _ _ (not-false _ c.if-not-posted.false-raw) in let y = sym (raised c.before.before.before.before.before.before.before.before.before.before o m e) ∙ eqb-true _ _ (not-false _ c.if-not-q.false-raw) in let p = done_of (partied (pick c.args.lends (lender_of m o) (originator_of m o)) (pick c.args.lends (originator_of m o) (lender_of m o))) _ (settle_accounts m.accounts (lender_of m o) (originator_of m o) (terms_in m o)) (λ p. p.parties-1) (parties_of (pick c.args.lends (lender_of m o) (originator_of m o)) (pick c.args.lends (originator_of m o) (lender_of m o))) (λ n x. refl) (moved c.before.before.before.before.before.before.before.before.before.before.before.before.before.before o m e) z in rw (c.put-put.ensures, c.put-z.ensures, c.financed-j.ensures, c.settled-settled.ensures, done_of counted _ (finance_of m.totals-1 (terms_in m o)) (λ p. p.row-1) (λ x. x) (λ n x. refl) (summed c.before.before.before.before.before.before.before.before.before.before o m e) y) (ap (λ b. record { answer = 0; near = b }) (settled_view c.args.lends m o c.args.now e _ _ p) ∙ accepted (turn_of (sides_of c.args.lends m o)) _ _ (goes _ _ z (sym y)) refl refl)
+returns-3 c = λ o m e. let z = sym (paid c.before.before.before.before.before.before.before.before.before.before.before.before.before.before o m e) ∙ eqb-true _ _ (not-false _ c.if-not-posted.false-raw) in let y = sym (raised c.before.before.before.before.before.before.before.before.before.before o m e) ∙ eqb-true _ _ (not-false _ c.if-not-q.false-raw) in let p = done_of (partied (pick c.args.lends (lender_of m o) (originator_of m o)) (pick c.args.lends (originator_of m o) (lender_of m o))) _ (settle_accounts m.accounts (lender_of m o) (originator_of m o) (terms_in m o)) (λ p. p.parties) (parties_of (pick c.args.lends (lender_of m o) (originator_of m o)) (pick c.args.lends (originator_of m o) (lender_of m o))) (λ n x. refl) (moved c.before.before.before.before.before.before.before.before.before.before.before.before.before.before o m e) z in rw (c.put-put.ensures, c.put-z.ensures, c.financed-j.ensures, c.settled-settled.ensures, done_of counted _ (finance_of m.totals (terms_in m o)) (λ p. p.row) (λ x. x) (λ n x. refl) (summed c.before.before.before.before.before.before.before.before.before.before o m e) y) (ap (λ b. record { answer = 0; near = b }) (settled_view c.args.lends m o c.args.now e _ _ p) ∙ accepted (turn_of (sides_of c.args.lends m o)) _ _ (goes _ _ z (sym y)) refl refl)
 
 pub settle_spec : {M : Type 1} → statement M
 settle_spec =

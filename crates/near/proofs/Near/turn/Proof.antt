@@ -21,11 +21,11 @@ use Rattle.near.specs.Steps.{same}
 use Rattle.near.proofs.Near.turn.Statement.{statement}
 use Rattle.near.proofs.Near.turn.Tie as tie
 
-stands : (c : tie.After-gate-n) (m : Model) → c.args.self ≡ view_of (keys_of m c.args.c-1) m → c.gate-n.result ≡ first (gate_checks m (shape_of c.args.c-1))
-stands c m = λ e. c.gate-n.ensures ∙ ap (λ z. first (gate_by z.settings.paused z.parties.first.here (names_of c.args.c-1))) e
+stands : (c : tie.After-gate-n) (m : Model) → c.args.self ≡ view_of (keys_of m c.args.c) m → c.gate-n.result ≡ first (gate_checks m (shape_of c.args.c))
+stands c m = λ e. c.gate-n.ensures ∙ ap (λ z. first (gate_by z.settings.paused z.parties.first.here (names_of c.args.c))) e
 
-passes : (c : tie.Else-not-n) (r : Turn) → TurnsBy c.args.self r c.args.c-1 c.args.rows (λ m. ruled m (shape_of c.args.c-1)) → TurnsBy c.args.self r c.args.c-1 c.args.rows (λ m. commanded m c.args.c-1)
-passes c r = λ h m f e. h m f e ∙ then_answers (turn_of (keys_of m c.args.c-1)) _ _ (λ n. ruled n (shape_of c.args.c-1)) _ refl (sym (stands (c.before) m e) ∙ eqb-true _ _ (not-false _ c.if-not-n.false-raw))
+passes : (c : tie.Else-not-n) (r : Turn) → TurnsBy c.args.self r c.args.c c.args.rows (λ m. ruled m (shape_of c.args.c)) → TurnsBy c.args.self r c.args.c c.args.rows (λ m. commanded m c.args.c)
+passes c r = λ h m f e. h m f e ∙ then_answers (turn_of (keys_of m c.args.c)) _ _ (λ n. ruled n (shape_of c.args.c)) _ refl (sym (stands (c.before) m e) ∙ eqb-true _ _ (not-false _ c.if-not-n.false-raw))
 
 -- the command is known to be k
 on-it : {n : Near} {r : Turn} {c : Command} (k : Command) {f : Counts} → c ≡ k → TurnsBy n r k f (λ m. ruled m (shape_of k)) → TurnsBy n r c f (λ m. ruled m (shape_of c))
@@ -35,7 +35,7 @@ gate-requires : tie.Need-gate-n-requires
 gate-requires c κs = search rules
 
 returns : tie.Need-returns-then-not-n
-returns c = λ m f e. same (keys_of m c.args.c-1) m e _ ∙ refused (turn_of (keys_of m c.args.c-1)) _ _ (next_stops _ (λ n. ruled n (shape_of c.args.c-1)) (stands (c.before) m e) (eqb-false _ _ (not-true _ c.if-not-n.true-raw))) (eqb-false _ _ (not-true _ c.if-not-n.true-raw))
+returns c = λ m f e. same (keys_of m c.args.c) m e _ ∙ refused (turn_of (keys_of m c.args.c)) _ _ (next_stops _ (λ n. ruled n (shape_of c.args.c)) (stands (c.before) m e) (eqb-false _ _ (not-true _ c.if-not-n.true-raw))) (eqb-false _ _ (not-true _ c.if-not-n.true-raw))
 
 enum_told : tie.Need-enum_told-1
 enum_told c = search rules

@@ -19,14 +19,14 @@ not-closed : (c : tie.Else-s-eq-CLOSED) → let a = c.args in eqb (standing a.se
 not-closed c = ne_eqb _ _ (λ e. c.if-s-eq-CLOSED.false (c.status-s.ensures ∙ e))
 
 outside : (c : tie.After-status-s) (b : Bool) → let a = c.args in
-    outsider a.self a.now a.caller && b ≡ (eqb c.status-s.result 1 && not (eqb a.self.row-1.offer-1.lender a.caller)) && b
+    outsider a.self a.now a.caller && b ≡ (eqb c.status-s.result 1 && not (eqb a.self.row.offer.lender a.caller)) && b
 outside c b = let a = c.args in
-    ap (λ z. (eqb z 1 && not (eqb a.self.row-1.offer-1.lender a.caller)) && b) (sym c.status-s.ensures)
+    ap (λ z. (eqb z 1 && not (eqb a.self.row.offer.lender a.caller)) && b) (sym c.status-s.ensures)
 
 as-closed : (c : tie.After-closed-next) → let a = c.args in
-    c.closed-next.result ≡ closed_as (outcome_at (standing a.self a.now)) a.self.row-1.negotiation-1
+    c.closed-next.result ≡ closed_as (outcome_at (standing a.self a.now)) a.self.row.negotiation
 as-closed c = let a = c.args in
-    c.closed-next.ensures ∙ ap (λ z. closed_as z a.self.row-1.negotiation-1) (c.outcome_at-end.ensures ∙ ap outcome_at c.status-s.ensures)
+    c.closed-next.ensures ∙ ap (λ z. closed_as z a.self.row.negotiation) (c.outcome_at-end.ensures ∙ ap outcome_at c.status-s.ensures)
 
 refused-requires : tie.Need-refused-requires
 refused-requires c κs = search rules
@@ -92,7 +92,7 @@ returns-6 c =
     (goes_on posted invalid_transition _ _ _ (not-closed c.before.before.before.before.before.before)
     (goes_on posted not_found _ _ _ (outside c.before.before.before.before.before.before.before.before _ ∙ c.if-outsider-paper.false)
     (goes_on posted unauthorized _ _ _ (outside c.before.before.before.before.before.before.before.before _ ∙ c.if-outsider-originator.false)
-    (does posted _ _ (ap (λ z. with_negotiation z c.args.self.row-1) (as-closed c)))))))
+    (does posted _ _ (ap (λ z. with_negotiation z c.args.self.row) (as-closed c)))))))
 
 pub close_spec : {M : Type 1} → statement M
 close_spec =

@@ -32,7 +32,7 @@ cast-listed c =
     record { fits = omega (arith, listed_le (keeps_terms s.edition) s.kind (not-false (kind_listed (keeps_terms s.edition) s.kind) q.0)) }
 
 -- the installment that is tested is the one of the offer's terms
-tested : (c : tie.After-is_zero) → none_to_pay c.args.self.row-1.offer-1.terms-1 c.args.kind c.args.count ≡ c.is_zero.result
+tested : (c : tie.After-is_zero) → none_to_pay c.args.self.row.offer.terms c.args.kind c.args.count ≡ c.is_zero.result
 tested c =
     let told = simp (back c.installment_of-installment.result (search rules)) at c.is_zero.ensures in
     none_is _ _ _ ∙ sym (told ∙ ap is_zero c.installment_of-installment.ensures)

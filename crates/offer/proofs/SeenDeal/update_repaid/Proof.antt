@@ -33,7 +33,7 @@ returns-4 c =
     goes_on posted unauthorized _ _ _ c.if-not-allowed.false-raw
     (goes_on posted not_found _ _ _ c.if-not-self.false
     (goes_on posted out_of_range _ _ _ (sym (in-total c.before.before) ∙ c.if-not-in_total_range.false-raw)
-    (does posted _ _ (let d = c.args.self.row-1 in ap (λ z. with_offer (with_repaid z d.offer-1) d) (to_z-of_z c.ranges.amount)))))
+    (does posted _ _ (let d = c.args.self.row in ap (λ z. with_offer (with_repaid z d.offer) d) (to_z-of_z c.ranges.amount)))))
 
 pub update_repaid_spec : {M : Type 1} → statement M
 update_repaid_spec =

@@ -17,10 +17,10 @@ use Rattle.parties.proofs.Parties.settle.Tie as tie
 -- what is seen at the two ids
 module _ (a b : ℕ) (u : Table Account) where
   first-of : {p : Parties} → p ≡ parties_of a b u → p.first-1 ≡ seen_in u a
-  first-of e = ap (λ (z : Parties). z.first-1) e
+  first-of e = ap (λ (z : Parties). z.first) e
 
   second-of : {p : Parties} → p ≡ parties_of a b u → p.second-1 ≡ seen_in u b
-  second-of e = ap (λ (z : Parties). z.second-1) e
+  second-of e = ap (λ (z : Parties). z.second) e
 
 module _ (c : tie.After-debit-p) (a b : ℕ) (u : Table Account) (e : c.args.self ≡ parties_of a b u) where
   number1 : c.debit-p.result.answer ≡ first (step1 a b u c.args.t).checks
@@ -44,7 +44,7 @@ module _ (c : tie.After-put_second-two) (a b : ℕ) (u : Table Account) (e : c.a
   seen2 : c.put_second-two.result ≡ parties_of a b (step2 a b u c.args.t).done
   seen2 = second_step a b _ c.credit-q.result (seen1 c.before.before.before.before.before.before.before.before a b u e) (credit c.args.t) c.put_second-two.ensures (row_done (step1 a b u c.args.t).done b (credit c.args.t) (second-of a b _ (seen1 c.before.before.before.before.before.before.before.before a b u e)) c.credit-q.ensures c.if-not-second.false (zero_of c.if-not-b.false-raw))
 
-  lender-here : not c.put_second-two.result.first-1.here ≡ false
+  lender-here : not c.put_second-two.result.first.here ≡ false
   lender-here =
       ap (λ z. not z.here) (first-of a b _ seen2)
       ∙ still_here _ a b _ (still_here _ a a _ (ap (λ z. not z.here) (sym (first-of a b u e)) ∙ c.if-not-first.false))

@@ -4,7 +4,7 @@ use Rattle.query.proofs.LenderNumbers.of.Statement.{statement}
 use Rattle.query.proofs.LenderNumbers.of.Tie as tie
 
 returns : tie.Need-returns
-returns c = let p = c.args.a.purse-1 in rw (
+returns c = let p = c.args.a.purse in rw (
   simp (back p.offered (search rules)) at c.bits-offered.ensures,
   simp (back p.accepted (search rules)) at c.bits-accepted.ensures,
 )

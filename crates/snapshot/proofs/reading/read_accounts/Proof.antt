@@ -17,7 +17,7 @@ abbrev decreases-loop : tie.decreases-loop-i
 decreases-loop s n ids₀ rows₀ d₀ i₀ ids rows d i = n - i
 
 loop-holds : tie.Need-loop-i-init invariant-loop decreases-loop
-loop-holds c = (omega arith, table_start _ _ _ _ _ (ap (λ (x : Accounts). x.ids-1) c.none-none.ensures) (ap (λ (x : Accounts). x.rows-1) c.none-none.ensures))
+loop-holds c = (omega arith, table_start _ _ _ _ _ (ap (λ (x : Accounts). x.ids) c.none-none.ensures) (ap (λ (x : Accounts). x.rows) c.none-none.ensures))
 
 -- a place of the table
 place : (c : tie.In-loop-i invariant-loop decreases-loop) → c.loop-i.i < 64

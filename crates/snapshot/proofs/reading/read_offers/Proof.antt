@@ -36,7 +36,7 @@ decreases-loop s e n ids₀ rows₀ negotiations₀ schedules₀ d₀ i₀ ids r
 loop-holds : tie.Need-loop-i-init invariant-loop decreases-loop
 loop-holds c =
     let e = c.none-none.ensures in
-    (omega arith, parts_start _ _ _ _ _ _ _ _ (ap (λ (x : Offers). x.ids-1) e) (ap (λ (x : Offers). x.rows-1) e) (ap (λ (x : Offers). x.negotiations-1) e) (ap (λ (x : Offers). x.schedules-1) e))
+    (omega arith, parts_start _ _ _ _ _ _ _ _ (ap (λ (x : Offers). x.ids) e) (ap (λ (x : Offers). x.rows) e) (ap (λ (x : Offers). x.negotiations) e) (ap (λ (x : Offers). x.schedules) e))
 
 -- a place of the table
 place : (c : tie.In-loop-i invariant-loop decreases-loop) → c.loop-i.i < 64

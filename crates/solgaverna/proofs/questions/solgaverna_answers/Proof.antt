@@ -5,10 +5,10 @@ use Rattle.solgaverna.proofs.questions.solgaverna_answers.Statement.{statement}
 use Rattle.solgaverna.proofs.questions.solgaverna_answers.Tie as tie
 
 returns : tie.Need-returns-then-not-number
-returns c = let a = c.args in malformed a.out-1.now _ c.replay-replayed.ensures (not-true _ c.if-not-number.true-raw) c.refused.ensures
+returns c = let a = c.args in malformed a.out.now _ c.replay-replayed.ensures (not-true _ c.if-not-number.true-raw) c.refused.ensures
 
 returns-2 : tie.Need-returns
-returns-2 c = let a = c.args in whole a.out-1.now _ c.replay-replayed.ensures (not-false _ c.if-not-number.false-raw) (counts c.looked_up.ensures c.answers-r.ensures)
+returns-2 c = let a = c.args in whole a.out.now _ c.replay-replayed.ensures (not-false _ c.if-not-number.false-raw) (counts c.looked_up.ensures c.answers-r.ensures)
 
 pub solgaverna_answers_spec : {M : Type 1} → statement M
 solgaverna_answers_spec =

@@ -24,11 +24,11 @@ returns-2 : tie.Need-returns-then-not-is_later
 unfolding titled
 returns-2 c = c.no_title-then-not-is_later.ensures ∙ sym (pick_off _ _ (sym c.is_later.ensures ∙ not-true _ c.if-not-is_later.true-raw)) ∙ some_title _ (line-had c.before.before.before.before)
 
-later : (c : tie.Else-not-is_later) → is_later (get_or c.line_at-x.result.values-1 0 0) ≡ true
+later : (c : tie.Else-not-is_later) → is_later (get_or c.line_at-x.result.values 0 0) ≡ true
 later c = sym c.is_later.ensures ∙ not-false _ c.if-not-is_later.false-raw
 
 cast-t10 : tie.Need-overflow_cast-result
-cast-t10 c = let n = get_or c.line_at-x.result.values-1 0 0 in omega (arith, listed_fits n (later_known n (later c)))
+cast-t10 c = let n = get_or c.line_at-x.result.values 0 0 in omega (arith, listed_fits n (later_known n (later c)))
 
 returns-3 : tie.Need-returns
 unfolding titled
