@@ -24,7 +24,6 @@ class Names:
         self.fields = {}
         self.raw = {}
         self.arms = {}
-        self.clauses = {}
         new_of = {}
         for at, (old, parent, (a, b), callee, extra) in enumerate(of["places"]):
             new = of["places_by_name"][at]
@@ -35,8 +34,6 @@ class Names:
                 self.fields.setdefault(plain(a), b)
                 for x, y in extra:
                     self.raw[(plain(a), x)] = y
-            if of["clauses"][at]:
-                self.clauses[plain(a)] = of["clauses"][at]["fields"]
             if arm:
                 group, _, items = arm
                 for field, step, path in items:
@@ -92,13 +89,6 @@ class Names:
                     out.append(self.fields.get(key, s))
                     i += 1
                 continue
-            if s in ("pre", "requires") and self.of.get("pre"):
-                out.append("requires")
-                i += 1
-                if rest and rest[0].isdigit():
-                    out.append(self.of["pre"]["fields"][int(rest[0])])
-                    i += 1
-                continue
             if s == "pre":
                 out.append("requires")
                 i += 1
@@ -113,9 +103,6 @@ class Names:
                 elif word in ("true", "false"):
                     out.append(word)
                     i += 1
-                elif len(rest) > 1 and rest[0] == "ensures" and rest[1].isdigit() and key in self.clauses and int(rest[1]) < len(self.clauses[key]):
-                    out += ["ensures", self.clauses[key][int(rest[1])]]
-                    i += 2
                 continue
             out.append(s)
             i += 1
@@ -361,7 +348,7 @@ def renamed(block, names):
 
         def one(m):
             head, tail = m[1], m[2]
-            if head in apart:
+            if head in apart or head[0].isupper():
                 return m[0]
             if head == "tie":
                 first = tail[1:].split(".")

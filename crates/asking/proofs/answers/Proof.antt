@@ -8,15 +8,15 @@ use Rattle.asking.proofs.answers.Tie as tie
 
 returns : tie.Need-returns-then-not-sound
 unfolding told_for left_by
-returns c = let e = sym c.sound.ensures.tested ∙ not-true _ c.if-not-sound.true-raw in (off _ e refl, off _ e refl)
+returns c = let e = sym c.sound.ensures.0 ∙ not-true _ c.if-not-sound.true-raw in (off _ e refl, off _ e refl)
 
 answers-sound-requires : tie.Need-answers_sound-requires
-answers-sound-requires c κs = let t = not-false _ c.if-not-sound.false-raw in (c.sound.ensures.shelved t, sym c.sound.ensures.tested ∙ t)
+answers-sound-requires c κs = let t = not-false _ c.if-not-sound.false-raw in (c.sound.ensures.1 t, sym c.sound.ensures.0 ∙ t)
 
 returns-2 : tie.Need-returns
 unfolding told_for left_by
 returns-2 c =
-    let e = sym c.sound.ensures.tested ∙ not-false _ c.if-not-sound.false-raw in
+    let e = sym c.sound.ensures.0 ∙ not-false _ c.if-not-sound.false-raw in
     (on _ e (c.said.ensures ∙ c.answers_sound.ensures.0), on _ e c.answers_sound.ensures.1)
 
 pub answers_spec : {M : Type 1} → statement M

@@ -25,7 +25,7 @@ returns c =
     retext c.put_list.ensures
     (ap (λ (x : Asked). list_text x (offers_of c.offers_only-offers.result)) c.of-asked.ensures
     ∙ ap (λ (k : ℕ). list_text (wanted_of k s.a s.b) (offers_of c.offers_only-offers.result)) c.past.ensures
-    ∙ ap (list_text (wanted_of (s.tag - 0x60) s.a s.b)) (ap offers_of c.offers_only-offers.ensures ∙ offers_held c.requires.shelved)
+    ∙ ap (list_text (wanted_of (s.tag - 0x60) s.a s.b)) (ap offers_of c.offers_only-offers.ensures ∙ offers_held c.requires.0)
     ∙ by_list (model_of s.book) s.a s.b c.if-tag-lt112.true)
 
 returns-2 : tie.Need-returns-then-tag-eq116
@@ -60,4 +60,4 @@ returns-5 c =
 pub put_answer_spec : {M : Type 1} → statement M
 put_answer_spec =
     tie.close
-    (tie.spec (λ c κs. search rules) (λ c κs. search rules) (λ c κs. search rules) (λ c κs. search rules) (λ c. search rules) returns (λ c κs. c.requires.shelved) (λ c κs. search rules) (λ c. search rules) returns-2 (λ c κs. c.requires) (λ c. search rules) (λ c κs. search rules) (λ c. search rules) returns-3 (λ c κs. c.requires.shelved) (λ c κs. search rules) (λ c. search rules) returns-4 (λ c κs. search rules) (λ c κs. c.requires.shelved) (λ c κs. search rules) (λ c. search rules) returns-5)
+    (tie.spec (λ c κs. search rules) (λ c κs. search rules) (λ c κs. search rules) (λ c κs. search rules) (λ c. search rules) returns (λ c κs. c.requires.0) (λ c κs. search rules) (λ c. search rules) returns-2 (λ c κs. c.requires) (λ c. search rules) (λ c κs. search rules) (λ c. search rules) returns-3 (λ c κs. c.requires.0) (λ c κs. search rules) (λ c. search rules) returns-4 (λ c κs. search rules) (λ c κs. c.requires.0) (λ c κs. search rules) (λ c. search rules) returns-5)

@@ -19,7 +19,7 @@ returns-2 c = retext c.put_row-then-not-is_known.ensures (list_unknown _ c.in-Fo
 returns-3 : tie.Need-returns
 returns-3 c =
     retext (next c.put_row-p.ensures c.put_offers.ensures)
-    (list_known _ c.in-For.is (sym c.is_known.ensures ∙ not-false _ c.if-not-is_known.false-raw) c.count_of-n.ensures.counted)
+    (list_known _ c.in-For.is (sym c.is_known.ensures ∙ not-false _ c.if-not-is_known.false-raw) c.count_of-n.ensures.0)
 
 pub put_list_spec : {M : Type 1} → statement M
 put_list_spec =

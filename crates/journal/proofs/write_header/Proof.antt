@@ -16,7 +16,7 @@ unfolding header_of field_of head_of bytes_of placed
 returns-2 c =
     let b = c.before.before.before.before.before in
     let a = b.args in
-    fitting 0 (header_of a.edition) a.out.now b.if-out-lt5.false refl (rw (b.byte.ensures, b.byte-2.ensures) at c.copy.ensures.value)
+    fitting 0 (header_of a.edition) a.out.now b.if-out-lt5.false refl (rw (b.byte.ensures, b.byte-2.ensures) at c.copy.ensures.1)
 
 pub write_header_spec : {M : Type 1} → statement M
 write_header_spec =

@@ -15,17 +15,17 @@ use Rattle.query.proofs.answers.Statement.{statement}
 use Rattle.query.proofs.answers.Tie as tie
 
 returns : tie.Need-returns-then-not-sound
-returns c = refuses told book_unsound _ _ _ (ap not (sym c.sound.ensures.tested) ∙ c.if-not-sound.true-raw)
+returns c = refuses told book_unsound _ _ _ (ap not (sym c.sound.ensures.0) ∙ c.if-not-sound.true-raw)
 
 returns-2 : tie.Need-returns-then-out-asked
 returns-2 c =
     let a = c.args in
-    goes_on told book_unsound _ _ _ (ap not (sym c.sound.ensures.tested) ∙ c.if-not-sound.false-raw)
+    goes_on told book_unsound _ _ _ (ap not (sym c.sound.ensures.0) ∙ c.if-not-sound.false-raw)
     (refuses told buffer_short _ _ _ (lt-ltb (length a.out.now) (12 * length (threes a.questions.now)) (omega (arith, length_threes a.questions.now, c.if-out-asked.true))))
 
 write-requires : tie.Need-write-requires
 write-requires c κs =
-    (c.sound.ensures.shelved (not-false c.sound.result c.if-not-sound.false-raw), omega (arith, length_threes c.args.questions.now, c.if-out-asked.false))
+    (c.sound.ensures.1 (not-false c.sound.result c.if-not-sound.false-raw), omega (arith, length_threes c.args.questions.now, c.if-out-asked.false))
 
 -- the answer and the buffer
 both : {n n' : ℕ} {l l' : List ℕ} → n ≡ n' → l ≡ l' → ◌≡◌ {A = List ℕ × List ℕ} (n ∷ [], l) (n' ∷ [], l')
@@ -35,7 +35,7 @@ returns-3 : tie.Need-returns
 returns-3 c =
     let a = c.args in
     let n = length_threes a.questions.now in
-    goes_on told book_unsound _ _ _ (ap not (sym c.sound.ensures.tested) ∙ c.if-not-sound.false-raw)
+    goes_on told book_unsound _ _ _ (ap not (sym c.sound.ensures.0) ∙ c.if-not-sound.false-raw)
     (goes_on told buffer_short _ _ _ (le-ltb (length a.out.now) (12 * length (threes a.questions.now)) (omega (arith, n, c.if-out-asked.false)))
     (does told _ _ (both n c.write.ensures)))
 

@@ -11,15 +11,15 @@ use Rattle.query.proofs.get_lender_active_total.Statement.{statement}
 use Rattle.query.proofs.get_lender_active_total.Tie as tie
 
 returns : tie.Need-returns-then-not-sound
-returns c = refuses reply book_unsound _ _ _ (ap not (sym c.sound.ensures.tested) ∙ c.if-not-sound.true-raw)
+returns c = refuses reply book_unsound _ _ _ (ap not (sym c.sound.ensures.0) ∙ c.if-not-sound.true-raw)
 
 active-of-requires : tie.Need-active_of-total-requires
 active-of-requires c κs =
     let sound = not-false c.sound.result c.if-not-sound.false-raw in
-    (c.sound.ensures.shelved sound, sym c.sound.ensures.tested ∙ sound)
+    (c.sound.ensures.1 sound, sym c.sound.ensures.0 ∙ sound)
 
 returns-2 : tie.Need-returns
-returns-2 c = goes_on reply book_unsound _ _ _ (ap not (sym c.sound.ensures.tested) ∙ c.if-not-sound.false-raw)
+returns-2 c = goes_on reply book_unsound _ _ _ (ap not (sym c.sound.ensures.0) ∙ c.if-not-sound.false-raw)
     (does reply _ _ (ap (λ (n : ℕ). n ∷ []) c.active_of-total.ensures))
 
 pub get_lender_active_total_spec : {M : Type 1} → statement M

@@ -11,13 +11,13 @@ use Rattle.query.proofs.get_negotiation_deadline.Statement.{statement}
 use Rattle.query.proofs.get_negotiation_deadline.Tie as tie
 
 returns : tie.Need-returns-then-not-sound
-returns c = refuses reply book_unsound _ _ _ (ap not (sym c.sound.ensures.tested) ∙ c.if-not-sound.true-raw)
+returns c = refuses reply book_unsound _ _ _ (ap not (sym c.sound.ensures.0) ∙ c.if-not-sound.true-raw)
 
 see-requires : tie.Need-see-seen-requires
-see-requires c κs = (c.sound.ensures.shelved (not-false c.sound.result c.if-not-sound.false-raw)).offers-1
+see-requires c κs = (c.sound.ensures.1 (not-false c.sound.result c.if-not-sound.false-raw)).offers-1
 
 returns-2 : tie.Need-returns
-returns-2 c = goes_on reply book_unsound _ _ _ (ap not (sym c.sound.ensures.tested) ∙ c.if-not-sound.false-raw)
+returns-2 c = goes_on reply book_unsound _ _ _ (ap not (sym c.sound.ensures.0) ∙ c.if-not-sound.false-raw)
     (does reply _ _ (ap (λ (s : SeenDeal). s.row.negotiation.deadline ∷ []) c.see-seen.ensures))
 
 pub get_negotiation_deadline_spec : {M : Type 1} → statement M

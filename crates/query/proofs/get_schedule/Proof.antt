@@ -13,19 +13,19 @@ use Rattle.query.proofs.get_schedule.Statement.{statement}
 use Rattle.query.proofs.get_schedule.Tie as tie
 
 returns : tie.Need-returns-then-not-sound
-returns c = refuses reply book_unsound _ _ _ (ap not (sym c.sound.ensures.tested) ∙ c.if-not-sound.true-raw)
+returns c = refuses reply book_unsound _ _ _ (ap not (sym c.sound.ensures.0) ∙ c.if-not-sound.true-raw)
 
 see-requires : tie.Need-see-seen-requires
-see-requires c κs = (c.sound.ensures.shelved (not-false c.sound.result c.if-not-sound.false-raw)).offers-1
+see-requires c κs = (c.sound.ensures.1 (not-false c.sound.result c.if-not-sound.false-raw)).offers-1
 
 returns-2 : tie.Need-returns-then-schedule_zero
 unfolding schedule_values
-returns-2 c = goes_on reply book_unsound _ _ _ (ap not (sym c.sound.ensures.tested) ∙ c.if-not-sound.false-raw)
+returns-2 c = goes_on reply book_unsound _ _ _ (ap not (sym c.sound.ensures.0) ∙ c.if-not-sound.false-raw)
     (does reply _ _ (on _ (ap (λ (s : SeenDeal). schedule_zero s.row.schedule) (sym c.see-seen.ensures) ∙ sym c.schedule_zero.ensures ∙ c.if-schedule_zero.true) refl))
 
 returns-3 : tie.Need-returns
 unfolding schedule_values
-returns-3 c = goes_on reply book_unsound _ _ _ (ap not (sym c.sound.ensures.tested) ∙ c.if-not-sound.false-raw)
+returns-3 c = goes_on reply book_unsound _ _ _ (ap not (sym c.sound.ensures.0) ∙ c.if-not-sound.false-raw)
     (does reply _ _ (off _ (ap (λ (s : SeenDeal). schedule_zero s.row.schedule) (sym c.see-seen.ensures) ∙ sym c.schedule_zero.ensures ∙ c.if-schedule_zero.false)
     (ap schedule_order (c.of-numbers.ensures ∙ ap (λ (s : SeenDeal). schedule_numbers s.row.schedule) c.see-seen.ensures))))
 

@@ -8,10 +8,10 @@ use Rattle.query.proofs.get_stats.Statement.{statement}
 use Rattle.query.proofs.get_stats.Tie as tie
 
 returns : tie.Need-returns-then-not-sound
-returns c = refuses reply book_unsound _ _ _ (ap not (sym c.sound.ensures.tested) ∙ c.if-not-sound.true-raw)
+returns c = refuses reply book_unsound _ _ _ (ap not (sym c.sound.ensures.0) ∙ c.if-not-sound.true-raw)
 
 returns-2 : tie.Need-returns
-returns-2 c = goes_on reply book_unsound _ _ _ (ap not (sym c.sound.ensures.tested) ∙ c.if-not-sound.false-raw)
+returns-2 c = goes_on reply book_unsound _ _ _ (ap not (sym c.sound.ensures.0) ∙ c.if-not-sound.false-raw)
     (does reply _ _ (ap totals_order c.of-numbers.ensures))
 
 pub get_stats_spec : {M : Type 1} → statement M

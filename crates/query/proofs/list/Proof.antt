@@ -14,13 +14,13 @@ use Rattle.query.proofs.list.Statement.{statement}
 use Rattle.query.proofs.list.Tie as tie
 
 returns : tie.Need-returns-then-not-sound
-returns c = refuses told book_unsound _ _ _ (ap not (sym c.sound.ensures.tested) ∙ c.if-not-sound.true-raw)
+returns c = refuses told book_unsound _ _ _ (ap not (sym c.sound.ensures.0) ∙ c.if-not-sound.true-raw)
 
 returns-2 : tie.Need-returns
-returns-2 c = goes_on told book_unsound _ _ _ (ap not (sym c.sound.ensures.tested) ∙ c.if-not-sound.false-raw)
+returns-2 c = goes_on told book_unsound _ _ _ (ap not (sym c.sound.ensures.0) ∙ c.if-not-sound.false-raw)
     (c.list.ensures
     ∙ ap (λ (t : Table Offer). answered told ([], c.args.out.now) (list_rule c.args.w t c.args.out.now))
-    (ap offers_of c.offers_only-rows.ensures ∙ offers_held (c.sound.ensures.shelved (not-false c.sound.result c.if-not-sound.false-raw))))
+    (ap offers_of c.offers_only-rows.ensures ∙ offers_held (c.sound.ensures.1 (not-false c.sound.result c.if-not-sound.false-raw))))
 
 pub list_spec : {M : Type 1} → statement M
 list_spec =

@@ -32,21 +32,21 @@ abbrev id_at : St → ℕ → ℕ
 id_at s i = get_or s.args.questions.now (3 * i + 1) 0
 
 below-o : (c : tie.After-spot_by-offer_spot invariant-loop decreases-loop) → c.spot_by-offer_spot.result.at < 64
-below-o c = spot_below c.requires.shelved.offers.shelf (omega arith) (Id (id_at c c.loop-i.i)) c.spot_by-offer_spot.ensures
+below-o c = spot_below c.requires.0.offers.shelf (omega arith) (Id (id_at c c.loop-i.i)) c.spot_by-offer_spot.ensures
 
 below-a : (c : tie.After-spot_by-account_spot invariant-loop decreases-loop) → c.spot_by-account_spot.result.at < 64
-below-a c = spot_below c.requires.shelved.accounts (omega arith) (Id (id_at c c.loop-i.i)) c.spot_by-account_spot.ensures
+below-a c = spot_below c.requires.0.accounts (omega arith) (Id (id_at c c.loop-i.i)) c.spot_by-account_spot.ensures
 
 shown : (c : tie.After-at-account invariant-loop decreases-loop) (k : Table Invoice) → Shows (model_by c.args.book.accounts k c.args.book.offers c.args.book.totals c.args.book.settings) (id_at c c.loop-i.i) c.at-deal.result c.at-account.result c.args.book.totals c.args.book.settings c.args.book.offers.count
 shown c k =
     let s = c in
     let key = Id (id_at s c.loop-i.i) in
     record {
-      deal_seen = c.at-deal.ensures ∙ ap seen_deal (sym (deal_read_lem s.requires.shelved.offers _ _ _ key c.spot_by-offer_spot.ensures));
-      account_seen = c.at-account.ensures ∙ ap seen_account (sym (spot_found s.requires.shelved.accounts (omega arith) key c.spot_by-account_spot.ensures));
+      deal_seen = c.at-deal.ensures ∙ ap seen_deal (sym (deal_read_lem s.requires.0.offers _ _ _ key c.spot_by-offer_spot.ensures));
+      account_seen = c.at-account.ensures ∙ ap seen_account (sym (spot_found s.requires.0.accounts (omega arith) key c.spot_by-account_spot.ensures));
       totals_seen = refl;
       settings_seen = refl;
-      counted = sym s.requires.shelved.offers.shelf.counted;
+      counted = sym s.requires.0.offers.shelf.counted;
     }
 
 mul-offer : tie.Need-offset_bounds-offers-offer_place invariant-loop decreases-loop
@@ -76,13 +76,13 @@ element-copy-out-account-row c = omega (arith, below-a c)
 mul-put : tie.Need-overflow_mul-i invariant-loop decreases-loop
 mul-put c =
     let s = c in
-    omega (arith, reply_room (c.loop-i.invariant []) s.requires.room c.loop-i-test.true, reply_length (c.loop-i.invariant []) s.requires.room, s.well-formed.1.1.0.0)
+    omega (arith, reply_room (c.loop-i.invariant []) s.requires.1 c.loop-i-test.true, reply_length (c.loop-i.invariant []) s.requires.1, s.well-formed.1.1.0.0)
 
 put-requires : tie.Need-put-requires invariant-loop decreases-loop
 put-requires c κs =
     omega (
       arith,
-      reply_room (c.loop-i.invariant []) c.requires.room c.loop-i-test.true,
+      reply_room (c.loop-i.invariant []) c.requires.1 c.loop-i-test.true,
       ap length (c.answer-words.ensures _ (shown c.before.before.before [])) ∙ twelve_long (reply_to _ _ _ _),
     )
 
@@ -95,13 +95,13 @@ loop-less c = omega (arith, c.loop-i-test.true)
 loop-again : tie.Need-loop-i-preserved invariant-loop decreases-loop
 loop-again c k =
     let s = c in
-    reply_on (c.loop-i.invariant k) s.requires.room c.loop-i-test.true (c.answer-words.ensures _ (shown c.before.before.before.before.before.before k)) c.put.ensures
+    reply_on (c.loop-i.invariant k) s.requires.1 c.loop-i-test.true (c.answer-words.ensures _ (shown c.before.before.before.before.before.before k)) c.put.ensures
 
 same_length : tie.Need-shape_of-out invariant-loop decreases-loop
-same_length c = reply_length (c.loop-i.invariant (invoices_of c.args.book.invoices)) c.requires.room
+same_length c = reply_length (c.loop-i.invariant (invoices_of c.args.book.invoices)) c.requires.1
 
 returns : tie.Need-returns invariant-loop decreases-loop
-returns c = reply_done (c.loop-i.invariant (invoices_of c.args.book.invoices)) c.requires.room c.loop-i-test.false
+returns c = reply_done (c.loop-i.invariant (invoices_of c.args.book.invoices)) c.requires.1 c.loop-i-test.false
 
 mul-code : tie.Need-overflow_mul-code invariant-loop decreases-loop
 mul-code c = search rules

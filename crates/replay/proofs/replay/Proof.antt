@@ -10,7 +10,7 @@ walk-requires c κs = (fresh c.fresh_for-book.ensures).shelved
 
 returns : tie.Need-returns
 unfolding replay_of
-returns c = c.walk-w.ensures.outcome ∙ ap (λ m. outcome_of 0 (replay_on m c.args.s.now)) (fresh c.fresh_for-book.ensures).model
+returns c = c.walk-w.ensures.0 ∙ ap (λ m. outcome_of 0 (replay_on m c.args.s.now)) (fresh c.fresh_for-book.ensures).model
 
 pub replay_spec : {M : Type 1} → statement M
 replay_spec = tie.close (tie.spec (λ c κs. search rules) (λ c. search rules) walk-requires returns)

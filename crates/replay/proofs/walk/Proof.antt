@@ -20,7 +20,7 @@ returns : tie.Need-returns-then-edition-settings
 returns c =
     let o = sym c.header-h.ensures ∙ ap opening c.in-Records.is in
     let t = c.if-edition-settings.true in
-    (c.records.ensures.outcome ∙ sym (ap (outcome_of 0) (replay_headed _ _ o t)), tells_headed c.args.book _ o t c.put_edition-past.ensures c.records.ensures.wrote)
+    (c.records.ensures.0 ∙ sym (ap (outcome_of 0) (replay_headed _ _ o t)), tells_headed c.args.book _ o t c.put_edition-past.ensures c.records.ensures.1)
 
 returns-2 : tie.Need-returns
 returns-2 c =
@@ -28,7 +28,7 @@ returns-2 c =
     let s = c.args.s.now in
     let q = c.header-h in
     let h : headed n s ≡ false = ⊎_elim (λ t. headed_good s n (sym q.ensures ∙ ap opening t.1.given.1) ∙ ne_eqb _ n t.4.left) (λ l. headed_bad s n (sym q.ensures ∙ ap opening l.1.given.1)) c.in-Records.branch in
-    (c.finish.ensures.outcome ∙ play_bare _ h c.requires, tells_bare c.args.book _ h c.put_mark-p.ensures c.finish.ensures.wrote)
+    (c.finish.ensures.0 ∙ play_bare _ h c.requires, tells_bare c.args.book _ h c.put_mark-p.ensures c.finish.ensures.1)
 
 pub walk_spec : {M : Type 1} → statement M
 walk_spec =

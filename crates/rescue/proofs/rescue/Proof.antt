@@ -57,7 +57,7 @@ head : (c : tie.After-copy) → c.copy.new.1.0 ≡ placed 0 (take (first c) (sta
 head c =
     let k = c in
     let a = (start k).args in
-    head_is a.s.now a.out-1.now a.report-1.now (good k) c.if-out-s.false c.copy.ensures.value
+    head_is a.s.now a.out-1.now a.report-1.now (good k) c.if-out-s.false c.copy.ensures.1
 
 enough : (c : tie.Else-report-count) → length (report_of (start c.before.before.before).args.s.now) ≤ length (start c.before.before.before).args.report.now
 enough c =

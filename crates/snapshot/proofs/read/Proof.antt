@@ -39,7 +39,7 @@ returns-2 c = let d = c.before.before.before.before.before.before.before.before.
 
 -- the code's test
 test : (c : tie.After-sound-sound) → c.read_offers-o.result.c.ok && c.sound-sound.result ≡ c.read_offers-o.result.c.ok && book_test (stored (model c.before.before.before.before.before.before.before.before.before.before.before))
-test c = ap (λ t. c.read_offers-o.result.c.ok && t) (c.sound-sound.ensures.tested ∙ ap book_test (made-stored c.before.before.before.before.before.before.before.before.before.before.before))
+test c = ap (λ t. c.read_offers-o.result.c.ok && t) (c.sound-sound.ensures.0 ∙ ap book_test (made-stored c.before.before.before.before.before.before.before.before.before.before.before))
 
 returns-3 : tie.Need-returns-then-not-c-sound
 returns-3 c =

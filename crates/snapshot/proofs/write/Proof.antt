@@ -12,11 +12,11 @@ use Rattle.snapshot.proofs.write.Tie as tie
 
 -- past the first test the book is sound
 tested : (c : tie.Else-not-sound) → book_test c.args.book ≡ true
-tested c = sym c.sound.ensures.tested ∙ not-false _ c.if-not-sound.false-raw
+tested c = sym c.sound.ensures.0 ∙ not-false _ c.if-not-sound.false-raw
 
 returns : tie.Need-returns-then-not-sound
 returns c = record {
-  is = write_unsound _ _ (sym c.sound.ensures.tested ∙ not-true _ c.if-not-sound.true-raw);
+  is = write_unsound _ _ (sym c.sound.ensures.0 ∙ not-true _ c.if-not-sound.true-raw);
   fits = λ z. let y : ◌≡◌ {A = ℕ} 15 0 = z in absurd (omega (arith, y));
   shelved = λ z. let y : ◌≡◌ {A = ℕ} 15 0 = z in absurd (omega (arith, y));
   room = λ h z. let y : ◌≡◌ {A = ℕ} 15 14 = z in omega (arith, y);
@@ -34,7 +34,7 @@ returns-3 : tie.Need-returns
 returns-3 c = record {
   is = write_whole _ _ (tested c.before.before.before.before.before.before.before.before.before) c.put_book-dry.ensures c.if-dry.false c.put_book-wet.ensures;
   fits = λ z. c.put_book-wet.ensures.fits;
-  shelved = λ z. c.sound.ensures.shelved (not-false _ c.if-not-sound.false-raw);
+  shelved = λ z. c.sound.ensures.1 (not-false _ c.if-not-sound.false-raw);
   room = λ h z. let y : ◌≡◌ {A = ℕ} 0 14 = z in omega (arith, y);
 }
 

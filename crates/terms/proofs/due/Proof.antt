@@ -56,8 +56,8 @@ returns-5 c =
     (off _ (ne_eqb _ 5 c.if-status-eq-DEFAULTED.false)
     (off _ (le-ltb _ _ c.if-now-first.false)
     (ap (λ (d : Due). (d.number, d.owed)) c.due_of-d.ensures
-    ∙ ap (λ (x : ℕ). Sums.due_of-d (installments_of s.args.kept s.args.s) x c.magnitude.result) (c.elapsed-n.ensures ∙ rw c.seconds.ensures)
-    ∙ ap (Sums.due_of-d (installments_of s.args.kept s.args.s) _) (repaid-is c.before))))))
+    ∙ ap (λ (x : ℕ). Sums.due_of (installments_of s.args.kept s.args.s) x c.magnitude.result) (c.elapsed-n.ensures ∙ rw c.seconds.ensures)
+    ∙ ap (Sums.due_of (installments_of s.args.kept s.args.s) _) (repaid-is c.before))))))
 
 pub due_spec : {M : Type 1} → statement M
 due_spec =

@@ -23,7 +23,7 @@ abbrev owed : tie.Start → List ℕ → ℕ × ℕ
 owed s l = Sums.due_of l s.args.elapsed s.args.repaid
 
 in_range : (s : tie.Start) → ScheduleIn s.args.s
-in_range s = made_in_lem s.args.kept s.args.s s.requires.s_value
+in_range s = made_in_lem s.args.kept s.args.s s.requires.0
 
 -- its list, where the terms are kept and where not
 by-terms : (s : tie.Start) (b : Bool) (l : List ℕ) → s.args.kept ≡ b → l ≡ cond b (kept_installments s.args.s) (even s.args.s.count (magnitude_of s.args.s.installment)) → due_as (owed s l) ≡ due_as (owed s (installments_of s.args.kept s.args.s))
@@ -38,12 +38,12 @@ returns c =
     let s = c.before.before.before.before in
     c.even_due.ensures
     ∙ ap (λ (x : ℕ). due_if (even_ok s.args.s.count x s.args.elapsed s.args.repaid) (owed s (even s.args.s.count x))) (stored c.before.before)
-    ∙ sym (answers (even_ok_lem s.args.s (in_range s) s.args.elapsed s.args.repaid s.requires.elapsed_le_count.0 s.requires.elapsed_le_count.1) refl)
+    ∙ sym (answers (even_ok_lem s.args.s (in_range s) s.args.elapsed s.args.repaid s.requires.1.0 s.requires.1.1) refl)
     ∙ by-terms s _ _ (not-true s.args.kept c.if-not-kept.true-raw) refl
 
 -- past the test its terms are kept
 terms-kept : (c : tie.Else-not-kept) → KeptIn c.args.s
-terms-kept c = kept_terms c.args.s c.args.kept (not-false c.args.kept c.if-not-kept.false-raw) c.requires.s_value
+terms-kept c = kept_terms c.args.s c.args.kept (not-false c.args.kept c.if-not-kept.false-raw) c.requires.0
 
 amount-is : (c : tie.After-magnitude-amount) → c.magnitude-amount.result ≡ magnitude_of c.args.s.amount
 amount-is c = simp (back c.args.s.amount c.struct_told-2-1.given.1.1.1.1.0.1) at c.magnitude-amount.ensures
@@ -54,7 +54,7 @@ returns-2 c =
     let s = c.before.before.before.before.before.before.before in
     c.falling_due.ensures
     ∙ ap (λ (x : ℕ). due_if (falling_ok x s.args.s.rate s.args.s.count s.args.elapsed s.args.repaid) (owed s (falling x s.args.s.rate s.args.s.count))) (amount-is c.before.before)
-    ∙ sym (answers (falling_ok_lem s.args.s (in_range s) s.args.elapsed s.args.repaid s.requires.elapsed_le_count.0 s.requires.elapsed_le_count.1 (terms-kept c.before.before.before.before)) refl)
+    ∙ sym (answers (falling_ok_lem s.args.s (in_range s) s.args.elapsed s.args.repaid s.requires.1.0 s.requires.1.1 (terms-kept c.before.before.before.before)) refl)
     ∙ by-terms s _ _ (not-false s.args.kept c.if-not-kept.false-raw) (on _ (eq-eqb _ 1 c.if-kind-eq-FALLING.true) refl)
 
 total-is : (c : tie.After-total-total) → c.total-total.result ≡ total_of (magnitude_of c.args.s.amount) c.args.s.rate
@@ -72,7 +72,7 @@ returns-3 c =
     c.flat_due.ensures
     ∙ ap (λ (x : ℕ). due_if (flat_ok s.args.s.count x c.total-total.result s.args.elapsed s.args.repaid) (owed s (flat s.args.s.count x c.total-total.result))) (stored c.before.before.before.before.before.before)
     ∙ ap (λ (x : ℕ). due_if (flat_ok s.args.s.count (magnitude_of s.args.s.installment) x s.args.elapsed s.args.repaid) (owed s (flat s.args.s.count (magnitude_of s.args.s.installment) x))) (total-is c.before)
-    ∙ sym (answers (flat_ok_lem s.args.s (in_range s) s.args.elapsed s.args.repaid s.requires.elapsed_le_count.0 s.requires.elapsed_le_count.1 k n) refl)
+    ∙ sym (answers (flat_ok_lem s.args.s (in_range s) s.args.elapsed s.args.repaid s.requires.1.0 s.requires.1.1 k n) refl)
     ∙ by-terms s _ _ (not-false s.args.kept c.if-not-kept.false-raw) (off _ n refl)
 
 pub due_of_spec : {M : Type 1} → statement M

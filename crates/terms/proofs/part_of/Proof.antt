@@ -7,11 +7,11 @@ use Rattle.terms.proofs.part_of.Statement.{statement}
 use Rattle.terms.proofs.part_of.Tie as tie
 
 mul-result : tie.Need-overflow_mul-result
-mul-result c = record { fits = omega (arith, product_le c.args.amount c.args.rate c.args.count c.requires.amount_bound c.requires.rate_bound.0) }
+mul-result c = record { fits = omega (arith, product_le c.args.amount c.args.rate c.args.count c.requires.0 c.requires.1.0) }
 
 add-result : tie.Need-overflow_add-result
 unfolding part_of
-add-result c = record { fits = omega (arith, whole_le c.args.amount c.args.rate c.args.count c.requires.amount_bound c.requires.rate_bound.0) }
+add-result c = record { fits = omega (arith, whole_le c.args.amount c.args.rate c.args.count c.requires.0 c.requires.1.0) }
 
 returns : tie.Need-returns
 unfolding part_of

@@ -9,8 +9,8 @@ use Rattle.book.proofs.Book.sound.Tie as tie
 returns : tie.Need-returns
 unfolding book_test
 returns c =
-    let t = both_same (both_same (both_same (both_same c.sound-accounts_sound.ensures.tested c.sound-invoices_sound.ensures.tested) c.sound-offers_sound.ensures.tested) c.sound-totals_sound.ensures) c.sound-settings_sound.ensures in
-    (t, λ h. shelved_of c.args.self c.sound-accounts_sound.ensures.sized c.sound-invoices_sound.ensures.sized c.sound-offers_sound.ensures.whole (sym t ∙ h))
+    let t = both_same (both_same (both_same (both_same c.sound-accounts_sound.ensures.0 c.sound-invoices_sound.ensures.0) c.sound-offers_sound.ensures.0) c.sound-totals_sound.ensures) c.sound-settings_sound.ensures in
+    (t, λ h. shelved_of c.args.self c.sound-accounts_sound.ensures.1 c.sound-invoices_sound.ensures.1 c.sound-offers_sound.ensures.1 (sym t ∙ h))
 
 pub sound_spec : {M : Type 1} → statement M
 sound_spec =

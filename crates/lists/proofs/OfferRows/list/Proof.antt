@@ -19,7 +19,7 @@ returns-2 : tie.Need-returns-then-out-n
 returns-2 c =
     let a = c.args in
     goes_on told invalid_input _ _ _ (ap not (sym c.is_known.ensures) ∙ c.if-not-is_known.false-raw)
-    (refuses told buffer_short _ _ _ (lt-ltb (length a.out.now) (10 * length (listing a.w (offers_of a.self))) (omega (arith, c.count_of-n.ensures.counted, c.if-out-n.true))))
+    (refuses told buffer_short _ _ _ (lt-ltb (length a.out.now) (10 * length (listing a.w (offers_of a.self))) (omega (arith, c.count_of-n.ensures.0, c.if-out-n.true))))
 
 write-requires : tie.Need-write-requires
 write-requires c κs = search rules
@@ -31,7 +31,7 @@ both {n} {n'} {l} {l'} p q = cc
 returns-3 : tie.Need-returns
 returns-3 c =
     let a = c.args in
-    let n = c.count_of-n.ensures.counted in
+    let n = c.count_of-n.ensures.0 in
     goes_on told invalid_input _ _ _ (ap not (sym c.is_known.ensures) ∙ c.if-not-is_known.false-raw)
     (goes_on told buffer_short _ _ _ (le-ltb (length a.out.now) (10 * length (listing a.w (offers_of a.self))) (omega (arith, n, c.if-out-n.false)))
     (does told _ _ (both n c.write.ensures)))

@@ -15,7 +15,7 @@ valid c = ap not (sym c.terms_valid.ensures)
 held : (c : tie.After-holds_amount-held) → holds_amount c.args.edition && not c.args.paper.here ≡ c.holds_amount-held.result && not c.args.paper.here
 held c = rw c.holds_amount-held.ensures
 
-covered : (c : tie.After-covers-covered) → holds_amount c.args.edition && not (Invoice.covers-covered c.args.paper.row c.args.t) ≡ c.holds_amount-held.result && not c.covers-covered.result
+covered : (c : tie.After-covers-covered) → holds_amount c.args.edition && not (Invoice.covers c.args.paper.row c.args.t) ≡ c.holds_amount-held.result && not c.covers-covered.result
 covered c = rw (c.holds_amount-held.ensures, c.covers-covered.ensures)
 
 returns : tie.Need-returns-then-lender

@@ -12,7 +12,7 @@ use Rattle.offer.proofs.SeenDeal.counter_refusal.Tie as tie
 valid : (c : tie.After-terms_valid) → not (terms_ok c.args.t) ≡ not c.terms_valid.result
 valid c = ap not (sym c.terms_valid.ensures)
 
-covered : (c : tie.After-covers-covered) → holds_amount c.args.edition && not (Invoice.covers-covered c.args.paper.row c.args.t) ≡ c.holds_amount-held.result && not c.covers-covered.result
+covered : (c : tie.After-covers-covered) → holds_amount c.args.edition && not (Invoice.covers c.args.paper.row c.args.t) ≡ c.holds_amount-held.result && not c.covers-covered.result
 covered c = rw (c.holds_amount-held.ensures, c.covers-covered.ensures)
 
 returns : tie.Need-returns-then-originator

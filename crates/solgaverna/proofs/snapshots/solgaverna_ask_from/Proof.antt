@@ -12,13 +12,13 @@ goes-on-requires : tie.Need-goes_on-gone_on-requires
 goes-on-requires c κs = read_sound _ c.read-loaded.ensures (not-false _ c.if-not-fault.false-raw)
 
 returns-2 : tie.Need-returns-then-not-ended
-returns-2 c = let a = c.args in read a.from.now a.out.now _ c.read-loaded.ensures (not-false _ c.if-not-fault.false-raw) (malformed a.out.now _ c.goes_on-gone_on.ensures.replayed (not-true _ c.if-not-ended.true-raw) c.refused-then-not-ended.ensures)
+returns-2 c = let a = c.args in read a.from.now a.out.now _ c.read-loaded.ensures (not-false _ c.if-not-fault.false-raw) (malformed a.out.now _ c.goes_on-gone_on.ensures.0 (not-true _ c.if-not-ended.true-raw) c.refused-then-not-ended.ensures)
 
 answers-sound-requires : tie.Need-answers_sound-r-requires
 answers-sound-requires c κs = search rules
 
 returns-3 : tie.Need-returns
-returns-3 c = let a = c.args in read a.from.now a.out.now _ c.read-loaded.ensures (not-false _ c.if-not-fault.false-raw) (whole a.out.now _ c.goes_on-gone_on.ensures.replayed (not-false _ c.if-not-ended.false-raw) (sizes c.sized.ensures c.answers_sound-r.ensures))
+returns-3 c = let a = c.args in read a.from.now a.out.now _ c.read-loaded.ensures (not-false _ c.if-not-fault.false-raw) (whole a.out.now _ c.goes_on-gone_on.ensures.0 (not-false _ c.if-not-ended.false-raw) (sizes c.sized.ensures c.answers_sound-r.ensures))
 
 pub solgaverna_ask_from_spec : {M : Type 1} → statement M
 solgaverna_ask_from_spec = tie.close (tie.spec (λ c κs. search rules) (λ c κs. search rules) returns goes-on-requires (λ c κs. search rules) returns-2 answers-sound-requires (λ c κs. search rules) (λ c. search rules) returns-3)
