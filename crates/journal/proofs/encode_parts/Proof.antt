@@ -36,18 +36,18 @@ room : (c : tie.Else-out-at-2) → (start c.before.before).args.at + (3 + 11 * c
 room c = omega (arith, c.if-out-at-2.false, c.if-out-at.false)
 
 -- the buffer past the head, and past the fields
-head-put : (c : tie.After-put_head) → c.put_head.new.0 ≡ placed (start c.before.before.before.before).args.at (head_of (start c.before.before.before.before).args.tag (11 * c.fields-row.result.0)) (start c.before.before.before.before).args.out.now
+head-put : (c : tie.After-put_head) → c.put_head.new.out ≡ placed (start c.before.before.before.before).args.at (head_of (start c.before.before.before.before).args.tag (11 * c.fields-row.result.0)) (start c.before.before.before.before).args.out.now
 unfolding head_of bytes_of
 head-put c = let d = c.before.before.before.before in c.put_head.ensures ∙ laid_in (start d).args.at _ (start d).args.out.now (omega (arith, room c.before.before))
 
-head-kept : (c : tie.After-put_head) → length c.put_head.new.0 ≡ length (start c.before.before.before.before).args.out.now
+head-kept : (c : tie.After-put_head) → length c.put_head.new.out ≡ length (start c.before.before.before.before).args.out.now
 unfolding head_of bytes_of
 head-kept c = let d = c.before.before.before.before in ap length (head-put c) ∙ length-placed (start d).args.at _ (start d).args.out.now (omega (arith, room c.before.before))
 
 fits : (c : tie.After-put_fields) → (start c.before.before.before.before.before.before.before.before).args.at + length (whole c.before.before.before.before.before.before.before.before) ≤ length (start c.before.before.before.before.before.before.before.before).args.out.now
 fits c = omega (arith, size_is c.before.before.before.before.before.before.before.before, room c.before.before.before.before.before.before)
 
-all-put : (c : tie.After-put_fields) → c.put_fields.new.0 ≡ placed (start c.before.before.before.before.before.before.before.before).args.at (whole c.before.before.before.before.before.before.before.before) (start c.before.before.before.before.before.before.before.before).args.out.now
+all-put : (c : tie.After-put_fields) → c.put_fields.new.out ≡ placed (start c.before.before.before.before.before.before.before.before).args.at (whole c.before.before.before.before.before.before.before.before) (start c.before.before.before.before.before.before.before.before).args.out.now
 all-put c =
     let h = c.before.before.before.before in
     let d = h.before.before.before.before in

@@ -53,7 +53,7 @@ copy-requires : tie.Need-copy-requires
 copy-requires c κs = let k = c in let o = good k in omega (arith, o, long k, c.if-out-s.false)
 
 -- the header's bytes
-head : (c : tie.After-copy) → c.copy.new.1.0 ≡ placed 0 (take (first c) (start c).args.s.now) (start c).args.out.now
+head : (c : tie.After-copy) → c.copy.new.to ≡ placed 0 (take (first c) (start c).args.s.now) (start c).args.out.now
 head c =
     let k = c in
     let a = (start k).args in

@@ -21,7 +21,7 @@ decreases-loop s p n tags v₀ i₀ q₀ v i q = n - i
 
 -- the array has the n tags
 all : (s : tie.Start invariant-loop decreases-loop) → length (take s.args.n s.args.tags) ≡ s.args.n
-all s = length-take-le s.args.n s.args.tags (omega (arith, s.requires.0, s.well-formed.1.1.1.0.1))
+all s = length-take-le s.args.n s.args.tags (omega (arith, s.requires.0, s.well_formed.1.1.1.0.1))
 
 -- the tag at hand, in a turn of the loop
 here : (c : tie.In-loop-i invariant-loop decreases-loop) → c.loop-i.i < length (take c.args.n c.args.tags)

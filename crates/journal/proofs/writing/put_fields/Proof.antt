@@ -21,7 +21,7 @@ decreases-loop out₀ p n tags values i₀ q₀ out i q = n - i
 
 -- the array has the n tags, and the buffer keeps its length
 has : (s : tie.Start invariant-loop decreases-loop) → s.args.n ≤ length s.args.tags
-has s = omega (arith, s.requires, s.well-formed.1.1.1.0.1.0)
+has s = omega (arith, s.requires, s.well_formed.1.1.1.0.1.0)
 
 kept : (c : tie.At-loop-i invariant-loop decreases-loop) → length c.loop-i.out ≡ length c.args.out.now
 kept c =
