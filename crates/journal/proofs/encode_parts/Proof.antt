@@ -52,9 +52,9 @@ all-put c =
     let h = c.before.before.before.before in
     let d = h.before.before.before.before in
     let a = (start d).args in
-    ◌∙◌ {b = stored a.out-1.now a.at a.tag a.values d.fields-row.result}
+    ◌∙◌ {b = stored a.out.now a.at a.tag a.values d.fields-row.result}
     (rw (head-put h) at c.put_fields.ensures)
-    (parts_placed a.edition a.tag a.values a.out-1.now a.at d.fields-row.ensures (room h.before.before))
+    (parts_placed a.edition a.tag a.values a.out.now a.at d.fields-row.ensures (room h.before.before))
 
 returns : tie.Need-returns-then-out-at
 returns c = let d = c.before in short (start d).args.at (whole d) (start d).args.out.now (omega (arith, size_is d, c.if-out-at.true))

@@ -26,11 +26,10 @@ bits_is z e h = e ∙ ap bits_of (back z h)
 returns-14 : tie.Need-returns-in-ScheduleRepayment
 unfolding parts_of parts_in padded
 returns-14 c =
-    let d = c in
-    let g = d.c-in-ScheduleRepayment-1.given.0 in
-    let e = d.args.edition in
-    let l = g.0 ∷ g.1.0 ∷ g.1.1.0 ∷ g.1.1.1.0 ∷ g.1.1.1.1.0 ∷ g.1.1.1.1.1.0 ∷ [] in
-    rw (c.also.ensures, c.keeps_terms.ensures) (ap (λ (x : List ℕ). (0x38, x)) (padded_also (keeps_terms e) l g.1.1.1.1.1.1.0 (omega arith)) ∙ of e d.in-ScheduleRepayment.is)
+    let g = c.in-ScheduleRepayment in
+    let e = c.args.edition in
+    let l = g.now ∷ g.caller ∷ g.id ∷ g.count ∷ g.code ∷ g.first ∷ [] in
+    rw (c.also.ensures, c.keeps_terms.ensures) (ap (λ (x : List ℕ). (0x38, x)) (padded_also (keeps_terms e) l g.kind (omega arith)) ∙ of e g.is)
 
 pub split_spec : {M : Type 1} → statement M
 unfolding parts_of parts_in padded
