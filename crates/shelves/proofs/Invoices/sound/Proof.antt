@@ -20,7 +20,7 @@ loop-again : tie.Need-loop-i-preserved invariant-loop decreases-loop
 loop-again c =
     let i = c.loop-i.i in
     let count = c.args.self.count in
-    check_turn c.loop-i.invariant c.loop-i-test.true (c.fits2.ensures ∙ sym (by_use_lem count i _ _))
+    check_turn c.loop-i.invariant c.loop-i-test.true (c.fits-fits.ensures ∙ sym (by_use_lem count i _ _))
 
 returns : tie.Need-returns invariant-loop decreases-loop
 unfolding invoices_test

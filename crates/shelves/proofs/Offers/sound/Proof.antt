@@ -44,8 +44,8 @@ loop-again c =
     let row_is = join_at deal_of _ _ _ (even start) i (omega (arith, rows_long start)) no_deal _ _ _ in
     let negotiation-is = any-default self.negotiations i _ no_negotiation (omega (arith, negotiations_long start)) in
     let below = c.loop-i-test.true in (
-      check_turn c.loop-i.invariant.0 below (c.fits2.ensures.0 ∙ sym (ap (λ r. cond (ltb i self.count) (deal_sound start.args.edition r) (deal_zero r)) row_is) ∙ sym (by_use_lem self.count i _ _)),
-      below_on c.loop-i.invariant.1 (subst (λ n. Whole round_slots n) negotiation-is c.fits2.ensures.1),
+      check_turn c.loop-i.invariant.0 below (c.fits-fits.ensures.0 ∙ sym (ap (λ r. cond (ltb i self.count) (deal_sound start.args.edition r) (deal_zero r)) row_is) ∙ sym (by_use_lem self.count i _ _)),
+      below_on c.loop-i.invariant.1 (subst (λ n. Whole round_slots n) negotiation-is c.fits-fits.ensures.1),
     )
 
 returns : tie.Need-returns invariant-loop decreases-loop

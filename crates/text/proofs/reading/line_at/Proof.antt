@@ -104,7 +104,7 @@ returns-4 c =
     let s = w.before.before.before.before in
     let n = length (word_of (tag w)) in
     let x = d.numbers_at-x.result in
-    let v : x.values ≡ padded (there-is d).values-1 = ap (λ (y : Numbers). y.values) (read d) in
+    let v : x.values ≡ padded (there-is d).values = ap (λ (y : Numbers). y.values) (read d) in
     let e : x.next + 1 ≡ s.args.at + (n + (there-is d).size + 1) = omega (arith, ap (λ (y : Numbers). y.next) (read d)) in
     let z = lined _ _ _ _ w.if-tag-eq0.false (ap (λ (y : Numbers). y.ok) (sym (read d)) ∙ not-false _ b.if-not-x.false) (last b ∙ c.if-byte-ne10.false) ∙ here w in
     rw (v, e) (ap line_for z)
