@@ -22,11 +22,11 @@ room : (c : tie.After-encode_parts-e) → length (whole c) ≤ length zeros
 room c = record_room c.args.edition c.args.tag c.args.numbers
 
 put : (c : tie.After-encode_parts-e) {n : ℕ} → c.encode_parts-e.result ≡ Bytes n
-    → (n ≤ length c.encode_parts-e.new.out) × (take n c.encode_parts-e.new.out ≡ whole c)
+    → (n ≤ length c.encode_parts-e.new.1.1.1.0) × (take n c.encode_parts-e.new.1.1.1.0 ≡ whole c)
 put c e = taken (whole c) zeros (room c) c.encode_parts-e.ensures.1 (count-is (whole c) zeros (room c) c.encode_parts-e.ensures.0 e)
 
 returns : tie.Need-returns-in_default
-returns c = let d = c.before.before in absurd (not_short (whole d) zeros (room d) d.encode_parts-e.ensures.0 c.in_default.is)
+returns c = let d = c.before.before in absurd (not_short (whole c.before.before) zeros (room c.before.before) d.encode_parts-e.ensures.0 c.in_default.is)
 
 returns-2 : tie.Need-returns
 returns-2 c = retext c.put.ensures (put c.before.before.before.before.before.before.before c.in-Bytes.is).1
