@@ -2,7 +2,7 @@
 use Rattle.std.specs.Prelude.{◌≡◌, true, List, [], ◌∷◌}
 use Rattle.std.proofs.Common.{ap, ◌∙◌}
 use Rattle.refusal.specs.ChoiceLaws.{pick_on}
-use Rattle.refusal.specs.Rule.{answered}
+use Rattle.refusal.specs.Rule.{after, answered}
 use Rattle.shelves.specs.Sized.{Sized}
 use Rattle.shelves.specs.Accounts.{stored_accounts, accounts_test}
 use Rattle.shelves.specs.Invoices.{stored_invoices, invoices_test}
@@ -62,8 +62,8 @@ sound_kept b c y e =
 -- ── Any commands from a fresh book ────────────────────────────────
 pub played_sound : {m : Model} → ModelSound m → (cs : List Command) → ModelSound (played m cs)
 unfolding played
-played_sound s [] = s
-played_sound s (c ∷ cs) = played_sound (stays_sound s c) cs
+played_sound {m = m} s [] = s
+played_sound {m = m} s (c ∷ cs) = played_sound {m = after m (commanded m c)} (stays_sound s c) cs
 
 -- so refusal 15 never occurs: each command is answered by its rule
 pub never_unsound : {m : Model} → ModelSound m → (cs : List Command) (c : Command)

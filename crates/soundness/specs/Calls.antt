@@ -58,5 +58,5 @@ one_call {m} s c =
 -- from a sound book they leave what the rules leave of its model
 pub called_played : {m : Model} → ModelSound m → (cs : List Command) → called (stored m) cs ≡ stored (played m cs)
 unfolding called played
-called_played s [] = refl
-called_played {m} s (c ∷ cs) = ap (λ b. called b cs) (one_call s c) ∙ called_played (stays_sound s c) cs
+called_played {m = m} s [] = refl
+called_played {m = m} s (c ∷ cs) = ap (λ b. called b cs) (one_call s c) ∙ called_played {m = after m (commanded m c)} (stays_sound s c) cs
