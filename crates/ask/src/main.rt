@@ -1,6 +1,7 @@
 // Replays the journal that its argument names, from a fresh book or on a snapshot's, and answers the questions on standard input, each line
 // as it comes.
 #![tactic(auto)]
+
 ghost use Rattle.std.specs.Prelude.{◌≡◌, true, ℕ, ◌≤◌, length};
 ghost use Rattle.text.specs.declared.Answer.TheVariants.{Done};
 ghost use Rattle.book.specs.Stored.{book_test, Shelved};

@@ -1,5 +1,6 @@
 // Reads a journal of at most 32,768 bytes from standard input and writes its listing, from a fresh book or from a snapshot's.
 #![tactic(auto)]
+
 ghost use Rattle.std.specs.Prelude.{◌≡◌, true, false, ◌≤◌, length};
 ghost use Rattle.book.specs.Stored.{model_of, book_test};
 ghost use Rattle.replay.specs.Text.{listing_on, listing_of};

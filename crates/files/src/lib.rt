@@ -1,6 +1,7 @@
 // What the programs share: words that they were started with, files read and written whole, what went wrong on standard error, and the
 // status of one that failed.
 #![tactic(auto)]
+
 ghost use Rattle.std.specs.Prelude.{◌≡◌, ◌≤◌, length};
 ghost use Rattle.io.specs.Counts.{IsPrefixLen};
 
@@ -192,7 +193,11 @@ fn unmade(path: &[u8], name: &[u8], error: Error) {
 
 // A new file of that name, or a complaint.
 fn make<R: Files>(rt: &R, path: &[u8], name: &str) -> Option<R::File> {
-    match OpenOptions::new().write(true).create_new(true).open(rt, name) {
+    match OpenOptions::new()
+        .write(true)
+        .create_new(true)
+        .open(rt, name)
+    {
         Ok(file) => Some(file),
         Err(e) => {
             unmade(path, name.as_bytes(), e);

@@ -1,5 +1,6 @@
 // A snapshot from a file, with a complaint where it is none.
 #![tactic(auto)]
+
 ghost use Rattle.std.specs.Prelude.{◌≡◌, true};
 ghost use Rattle.book.specs.Stored.{book_test};
 

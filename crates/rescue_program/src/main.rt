@@ -1,5 +1,6 @@
 // Writes a clean journal from a damaged one, and says what was dropped and what was left.
 #![tactic(auto)]
+
 use rescue::Rescued;
 use std::env::Env;
 use std::io::Error;

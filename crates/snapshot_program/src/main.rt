@@ -1,5 +1,6 @@
 // Replays a journal from a fresh book of its edition, or on a snapshot's, and writes the snapshot of what it leaves.
 #![tactic(auto)]
+
 ghost use Rattle.std.specs.Prelude.{◌≡◌};
 ghost use Rattle.refusal.specs.Choice.{pick};
 ghost use Rattle.replay.specs.Replay.{replay_of, outcome_of, replayed_from};
