@@ -1,27 +1,32 @@
 // Replays the journal that its argument names, from a fresh book or on a snapshot's, and answers the questions on standard input, each line
 // as it comes.
 #![tactic(auto)]
+
 ghost use Rattle.std.specs.Prelude.{◌≡◌, true, ℕ, ◌≤◌, length};
 ghost use Rattle.text.specs.declared.Answer.TheVariants.{Done};
 ghost use Rattle.book.specs.Stored.{book_test, Shelved};
 
 use book::Book;
-use files::{failed, say};
+use files::say;
 use journal::Opened;
 use loading::Given;
+use std::env::Env;
+use std::io::Read;
+use std::process::ExitCode;
+use std::rt::Files;
 use text::Answer;
 
 // A question's line never has so many bytes.
 const LINE: usize = 1024;
 
-fn usage() {
+fn usage() -> bool {
     say(
         b"usage: ./run ask JOURNAL < QUESTIONS
        ./run ask --from SNAPSHOT JOURNAL < QUESTIONS
        ./run ask --help
 ",
     );
-    failed();
+    false
 }
 
 fn help() {
@@ -55,13 +60,14 @@ negotiation's status and outcome: 0 none, 1 Open, 2 Closed, 3 Accepted, 4 Expire
     );
 }
 
-// What was read of standard input and not yet answered, the number of the next line, and whether to go on.
+// What was read of standard input and not yet answered, the number of the next line, whether to go on, and whether all went well so far.
 #[derive(Clone, Copy)]
 struct Session {
     waiting: [u8; 1024],
     size: usize,
     lines: u64,
     goes_on: bool,
+    well: bool,
 }
 
 fn within(n: usize) -> usize
@@ -73,11 +79,21 @@ fn within(n: usize) -> usize
     LINE
 }
 
+// Where the first end of a line stands, or the length where there is none.
+fn find_end(s: &[u8]) -> usize
+    ensures { result ≤ length s.now }
+{
+    match s.iter().position(|byte| *byte == b'\n') {
+        Some(at) => at,
+        None => s.len(),
+    }
+}
+
 // The length of the first line with its end, 0 where there is no end.
 fn line_end(s: &[u8]) -> usize
     ensures { result ≤ length s.now }
 {
-    let end = bytes::scan::find(s, 0, s.len(), b'\n');
+    let end = find_end(s);
     if end < s.len() {
         return end + 1;
     }
@@ -103,16 +119,24 @@ fn rest(waiting: [u8; 1024], n: usize) -> [u8; 1024] {
     left
 }
 
+// An answer on standard output, or a complaint.
+fn write(rt: &impl Print, words: &[u8]) -> bool {
+    match rt.write_all(words) {
+        Ok(()) => true,
+        Err(e) => {
+            files::broken(b"standard output", e);
+            false
+        }
+    }
+}
+
 // One line answered on standard output. A line that is no question ends the session.
-fn show(r: Answer, out: &[u8], line: &[u8], number: u64) -> bool
+fn show(rt: &impl Print, r: Answer, out: &[u8], line: &[u8], number: u64) -> bool
     requires { (k : ℕ) → r ≡ Done k → k ≤ length out.now }
 {
     match r {
         Answer::Done(k) => {
-            if io::write_all(1, &out[..k]) {
-                return true;
-            }
-            os::fail(b"standard output");
+            return write(rt, &out[..k]);
         }
         Answer::Malformed(_) => {
             no_question(line, number);
@@ -121,13 +145,12 @@ fn show(r: Answer, out: &[u8], line: &[u8], number: u64) -> bool
             say(b"the answer has more than 16,384 bytes\n");
         }
     }
-    failed();
     false
 }
 
 fn no_question(line: &[u8], number: u64) {
     say(b"line ");
-    io::print_decimal(libc::STDERR_FILENO, number);
+    files::say_number(number);
     say(b" is no question (./run ask --help lists them): \"");
     say_start(line);
     say(b"\"\n");
@@ -135,7 +158,7 @@ fn no_question(line: &[u8], number: u64) {
 
 // At most the first 64 bytes of a line, without its end.
 fn say_start(line: &[u8]) {
-    let end = bytes::scan::find(line, 0, line.len(), b'\n');
+    let end = find_end(line);
     if end < 64 {
         say(&line[..end]);
         return;
@@ -144,32 +167,40 @@ fn say_start(line: &[u8]) {
     say(b"..");
 }
 
-fn answer(book: Book, line: &[u8], number: u64) -> bool
+fn answer(rt: &impl Print, book: Book, line: &[u8], number: u64) -> bool
     requires shelved { Shelved book }
     requires tested { book_test book ≡ true }
 {
     let mut out: [u8; 16384] = [0; 16384];
     let r = asking::answers_sound(book, line, &mut out);
-    show(r, &out, line, number)
+    show(rt, r, &out, line, number)
 }
 
-// What waits with more behind it, and how many bytes came.
+// What waits with more behind it, how many bytes came, and whether that went well.
 #[derive(Clone, Copy)]
 struct Filled {
     waiting: [u8; 1024],
     came: usize,
+    well: bool,
 }
 
-fn fill(mut waiting: [u8; 1024], size: usize) -> Filled {
+fn fill(rt: &impl Input, mut waiting: [u8; 1024], size: usize) -> Filled {
     let from = within(size);
-    let got = libc::read(0, &mut waiting[from..]);
-    if got < 0 {
-        os::fail(b"standard input");
-        failed();
+    match rt.reader().read(&mut waiting[from..]) {
+        Ok(came) => Filled {
+            waiting,
+            came,
+            well: true,
+        },
+        Err(e) => {
+            files::broken(b"standard input", e);
+            Filled {
+                waiting,
+                came: 0,
+                well: false,
+            }
+        }
     }
-    let room = [0u8; 1024];
-    let came = io::count(got, &room);
-    Filled { waiting, came }
 }
 
 fn ended(mut waiting: [u8; 1024], size: usize) -> [u8; 1024] {
@@ -180,10 +211,10 @@ fn ended(mut waiting: [u8; 1024], size: usize) -> [u8; 1024] {
 }
 
 // More of standard input. What stands there at its end without the end of a line is a line too.
-fn read_more(s: Session) -> Session {
+fn read_more(rt: &impl Input, s: Session) -> Session {
     let size = within(s.size);
     let waiting = s.waiting;
-    let m = fill(waiting, size);
+    let m = fill(rt, waiting, size);
     let came = within(m.came);
     let filled = m.waiting;
     if came > 0 {
@@ -192,6 +223,7 @@ fn read_more(s: Session) -> Session {
             size: size + came,
             lines: s.lines,
             goes_on: true,
+            well: s.well,
         };
     }
     let last = ended(filled, size);
@@ -200,6 +232,7 @@ fn read_more(s: Session) -> Session {
         size: size + 1,
         lines: s.lines,
         goes_on: size > 0,
+        well: s.well && m.well,
     }
 }
 
@@ -216,12 +249,12 @@ fn first_line(waiting: [u8; 1024], size: usize) -> usize {
     LINE
 }
 
-fn answer_first(book: Book, waiting: [u8; 1024], end: usize, number: u64) -> bool
+fn answer_first(rt: &impl Print, book: Book, waiting: [u8; 1024], end: usize, number: u64) -> bool
     requires shelved { Shelved book }
     requires tested { book_test book ≡ true }
 {
     let n = within(end);
-    answer(book, &waiting[..n], number)
+    answer(rt, book, &waiting[..n], number)
 }
 
 fn less(size: usize, end: usize) -> usize {
@@ -232,27 +265,28 @@ fn less(size: usize, end: usize) -> usize {
 }
 
 // The first line that waits is answered, or more is read.
-fn turn(book: Book, s: Session) -> Session
+fn turn(rt: &(impl Input + Print), book: Book, s: Session) -> Session
     requires shelved { Shelved book }
     requires tested { book_test book ≡ true }
 {
     let waiting = s.waiting;
     let end = first_line(waiting, s.size);
     if end == 0 {
-        return read_more(s);
+        return read_more(rt, s);
     }
-    let goes_on = answer_first(book, waiting, end, s.lines);
+    let answered = answer_first(rt, book, waiting, end, s.lines);
     let left = rest(waiting, end);
     Session {
         waiting: left,
         size: less(s.size, end),
         lines: counted(s.lines),
-        goes_on,
+        goes_on: answered,
+        well: s.well && answered,
     }
 }
 
-// Questions until the input ends, or a line is none. The loop counts down from a number that no run uses up.
-fn serve(book: Book)
+// Questions until the input ends, or a line is none; whether all went well. The loop counts down from a number that no run uses up.
+fn serve(rt: &(impl Input + Print), book: Book) -> bool
     requires shelved { Shelved book }
     requires tested { book_test book ≡ true }
 {
@@ -261,12 +295,14 @@ fn serve(book: Book)
         size: 0,
         lines: 1,
         goes_on: true,
+        well: true,
     };
     let mut turns = u64::MAX;
     while turns > 0 && s.goes_on {
-        s = turn(book, s);
+        s = turn(rt, book, s);
         turns -= 1;
     }
+    s.well
 }
 
 fn warn(answered: usize, at: usize) {
@@ -277,19 +313,19 @@ fn warn(answered: usize, at: usize) {
         return;
     }
     say(b"warning: record ");
-    io::print_decimal(libc::STDERR_FILENO, counted(answered as u64));
+    files::say_number(counted(answered as u64));
     say(b" at offset ");
-    io::print_decimal(libc::STDERR_FILENO, at as u64);
+    files::say_number(at as u64);
     say(b" is malformed (13); answers are from the book before it\n");
 }
 
-fn answer_from(journal: &[u8]) {
+fn answer_from(rt: &(impl Input + Print), journal: &[u8]) -> bool {
     let outcome = replay::replay(journal);
     let book = outcome.book;
     if outcome.number != 0 {
         warn(outcome.count, outcome.at);
     }
-    serve(book);
+    serve(rt, book)
 }
 
 // A journal of another edition leaves the snapshot's book as it is.
@@ -311,7 +347,7 @@ fn warn_from(journal: &[u8], answered: usize, at: usize) {
 }
 
 // The same on a sound book.
-fn answer_on(book: Book, journal: &[u8])
+fn answer_on(rt: &(impl Input + Print), book: Book, journal: &[u8]) -> bool
     requires { book_test book ≡ true }
 {
     let outcome = replay::replay_from(book, journal);
@@ -319,72 +355,69 @@ fn answer_on(book: Book, journal: &[u8])
     if outcome.number != 0 {
         warn_from(journal, outcome.count, outcome.at);
     }
-    serve(left);
+    serve(rt, left)
 }
 
 // The journal of a file, up to its limit, on the given book or on a fresh one.
-fn read_journal(start: Given, path: &[u8])
+fn read_journal(rt: &(impl Files + Input + Print), start: Given, path: &[u8]) -> bool
     requires { book_test start.book ≡ true }
 {
-    let fd = files::open(path);
-    if fd < 0 {
-        return;
-    }
+    let Some(mut file) = files::open(rt, path) else {
+        return false;
+    };
     let mut journal: [u8; 32768] = [0; 32768];
-    let n = io::read_full(fd, &mut journal);
-    if !files::ends(fd, path, b"more than 32,768 bytes (14)") {
-        return;
+    let n = files::read_full(&mut file, &mut journal);
+    if !files::ends(file, path, b"more than 32,768 bytes (14)") {
+        return false;
     }
     let book = start.book;
     if start.here {
-        answer_on(book, &journal[..n]);
-        return;
+        return answer_on(rt, book, &journal[..n]);
     }
-    answer_from(&journal[..n]);
+    answer_from(rt, &journal[..n])
 }
 
 // The journal that a word names.
-fn run(start: Given, place: usize)
+fn run(rt: &(impl Env + Files + Input + Print), start: Given, place: usize) -> bool
     requires { book_test start.book ≡ true }
 {
     let mut word = io::buffer();
-    let size = os::arg(place, &mut word);
+    let size = files::word(rt, place, &mut word);
     if size == 0 {
-        usage();
-        return;
+        return usage();
     }
-    read_journal(start, &word[..size]);
+    read_journal(rt, start, &word[..size])
 }
 
-fn run_from() {
+fn run_from(rt: &(impl Env + Files + Input + Print)) -> bool {
     let mut word = io::buffer();
-    let size = os::arg(2, &mut word);
+    let size = files::word(rt, 2, &mut word);
     if size == 0 {
-        usage();
-        return;
+        return usage();
     }
-    let start = loading::load(&word[..size]);
-    if start.here {
-        run(start, 3);
-    }
+    let start = loading::load(rt, &word[..size]);
+    start.here && run(rt, start, 3)
 }
 
-fn main() {
+// What the words ask for, and whether it went well.
+fn obey(rt: &(impl Env + Files + Input + Print)) -> bool {
     let mut word = io::buffer();
-    let size = os::arg(1, &mut word);
-    let count = os::arg_count();
+    let size = files::word(rt, 1, &mut word);
+    let count = files::word_count(rt);
     if files::asks_help(&word[..size]) & (count == 2) {
         help();
-        return;
+        return true;
     }
     let from = check::same(&word[..size], b"--from");
     if from & (count == 4) {
-        run_from();
-        return;
+        return run_from(rt);
     }
     if from | (count != 2) {
-        usage();
-        return;
+        return usage();
     }
-    run(loading::none(), 1);
+    run(rt, loading::none(), 1)
+}
+
+fn main(rt: HostRuntime) -> ExitCode {
+    files::status(obey(&rt))
 }

@@ -1,5 +1,6 @@
 // Bytes put at the head of a buffer.
 #![tactic(auto)]
+
 ghost use Rattle.std.specs.Prelude.{◌≡◌, ◌≤◌, ◌++◌, length, drop};
 
 // Puts the bytes at the head of the buffer, and leaves what is behind them.

@@ -1,5 +1,6 @@
 // Reads a journal of at most 32,768 bytes from standard input and writes its listing, from a fresh book or from a snapshot's.
 #![tactic(auto)]
+
 ghost use Rattle.std.specs.Prelude.{◌≡◌, true, false, ◌≤◌, length};
 ghost use Rattle.book.specs.Stored.{model_of, book_test};
 ghost use Rattle.replay.specs.Text.{listing_on, listing_of};
@@ -7,12 +8,15 @@ ghost use Rattle.sheet.specs.Shown.{shown_in};
 
 use book::Book;
 use replay::Listed;
+use std::env::Env;
+use std::process::ExitCode;
+use std::rt::Files;
 
-fn usage() {
+fn usage() -> bool {
     files::say(
         b"usage: ./run desk < JOURNAL\n       ./run desk --from SNAPSHOT < JOURNAL\n       ./run desk --help\n",
     );
-    files::failed();
+    false
 }
 
 fn help() {
@@ -94,21 +98,21 @@ fn show_from(fd: i32, book: Book, s: &[u8])
     io::write_all(1, &out[..k]);
 }
 
-// The listing of standard input from a snapshot's book.
-fn run_from() {
+// The listing of standard input from a snapshot's book; whether there is that book.
+fn run_from(rt: &(impl Env + Files)) -> bool {
     let mut word = io::buffer();
-    let size = os::arg(2, &mut word);
+    let size = files::word(rt, 2, &mut word);
     if size == 0 {
-        usage();
-        return;
+        return usage();
     }
-    let start = loading::load(&word[..size]);
+    let start = loading::load(rt, &word[..size]);
     let book = start.book;
     if start.here {
         let mut journal: [u8; 32768] = [0; 32768];
         let n = io::read_full(0, &mut journal);
         show_from(0, book, &journal[..n]);
     }
+    start.here
 }
 
 fn run() {
@@ -117,21 +121,25 @@ fn run() {
     show(0, &journal[..n]);
 }
 
-fn main() {
-    let count = os::arg_count();
+// What the words ask for, and whether it went well.
+fn obey(rt: &(impl Env + Files)) -> bool {
+    let count = files::word_count(rt);
     if count < 2 {
         run();
-        return;
+        return true;
     }
     let mut word = io::buffer();
-    let size = os::arg(1, &mut word);
+    let size = files::word(rt, 1, &mut word);
     if files::asks_help(&word[..size]) {
         help();
-        return;
+        return true;
     }
     if check::same(&word[..size], b"--from") & (count == 3) {
-        run_from();
-        return;
+        return run_from(rt);
     }
-    usage();
+    usage()
+}
+
+fn main(rt: HostRuntime) -> ExitCode {
+    files::status(obey(&rt))
 }

@@ -1,9 +1,11 @@
 // A snapshot from a file, with a complaint where it is none.
 #![tactic(auto)]
+
 ghost use Rattle.std.specs.Prelude.{◌≡◌, true};
 ghost use Rattle.book.specs.Stored.{book_test};
 
 use book::Book;
+use std::rt::Files;
 
 // Whether there is a book to start from, and that book; a fresh one where there is none.
 #[derive(Clone, Copy)]
@@ -31,7 +33,6 @@ fn refused(path: &[u8], number: u64, at: usize) {
     files::say(b" (");
     files::say_number(number);
     files::say(b"); make the snapshot anew from its journals\n");
-    files::failed();
 }
 
 // The book that bytes are a snapshot of, or a complaint that names their file.
@@ -50,17 +51,16 @@ fn read(path: &[u8], s: &[u8]) -> Given
 }
 
 // The book of a file, or a complaint. No snapshot has more than 81,920 bytes.
-pub fn load(path: &[u8]) -> Given
+pub fn load(rt: &impl Files, path: &[u8]) -> Given
     ensures { book_test result.book ≡ true }
 {
-    let fd = files::open(path);
-    if fd < 0 {
+    let Some(mut file) = files::open(rt, path) else {
         return none();
-    }
+    };
     let mut bytes: [u8; 81920] = [0; 81920];
-    let n = io::read_full(fd, &mut bytes);
+    let n = files::read_full(&mut file, &mut bytes);
     if !files::ends(
-        fd,
+        file,
         path,
         b"more than 81,920 bytes; no snapshot is so long (13)",
     ) {

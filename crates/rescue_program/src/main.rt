@@ -1,14 +1,19 @@
 // Writes a clean journal from a damaged one, and says what was dropped and what was left.
 #![tactic(auto)]
-use rescue::Rescued;
 
-fn usage() {
+use rescue::Rescued;
+use std::env::Env;
+use std::io::Error;
+use std::process::ExitCode;
+use std::rt::Files;
+
+fn usage() -> bool {
     files::say(
         b"usage: ./run rescue IN OUT
        ./run rescue --help
 ",
     );
-    files::failed();
+    false
 }
 
 fn help() {
@@ -24,40 +29,38 @@ and the status is 1; OUT stays as it was unless only the report could not be wri
     );
 }
 
-// A line of the report, and whether it could be written.
-fn tell(word: &[u8], n: u64) -> bool {
-    io::write_all(1, word);
-    io::print_decimal(1, n);
-    io::write_all(1, b"\n")
+// A line of the report.
+fn tell(rt: &impl Print, word: &str, n: u64) -> std::io::Result<()> {
+    println!(rt; "{word} {n}")
 }
 
-// The offset of each dropped record, then how many bytes are left; and whether all of it could be written.
-fn report_all(report: &[u64], left: usize) -> bool {
-    let mut i: usize = 0;
-    while i < report.len() {
-        if !tell(b"dropped ", report[i]) {
-            return false;
-        }
-        i += 1;
+// The offset of each dropped record, then how many bytes are left.
+fn report_all(rt: &impl Print, report: &[u64], left: usize) -> std::io::Result<()> {
+    for at in report {
+        tell(rt, "dropped", *at)?;
     }
     if left == 0 {
-        return true;
+        return Ok(());
     }
-    tell(b"left ", left as u64)
+    tell(rt, "left", left as u64)
 }
 
-fn unreported(path: &[u8]) {
-    os::fail(b"standard output");
+fn unreported(path: &[u8], error: Error) {
+    files::broken(b"standard output", error);
     files::complain(path, b"it is written; its report is not");
 }
 
 // The clean journal into its file, and the report where that went well.
-fn put(path: &[u8], clean: &[u8], report: &[u64], left: usize) {
-    if !files::replace(path, clean) {
-        return;
+fn put(rt: &(impl Files + Print), path: &[u8], clean: &[u8], report: &[u64], left: usize) -> bool {
+    if !files::replace(rt, path, clean) {
+        return false;
     }
-    if !report_all(report, left) {
-        unreported(path);
+    match report_all(rt, report, left) {
+        Ok(()) => true,
+        Err(e) => {
+            unreported(path, e);
+            false
+        }
     }
 }
 
@@ -70,62 +73,67 @@ fn bad_header(path: &[u8]) {
 }
 
 // A journal of at most 65,536 bytes has at most 21,843 outer fields, so that every offset has its place.
-fn save(path: &[u8], s: &[u8], out: &[u8]) {
+fn save(rt: &(impl Files + Print), path: &[u8], s: &[u8], out: &[u8]) -> bool {
     let mut clean: [u8; 65536] = io::large_buffer();
     let mut report: [u64; 21843] = [0; 21843];
     let r = rescue::rescue(s, &mut clean, &mut report);
     match r {
         Rescued::Clean(size, dropped, left) => {
-            put(out, &clean[..size], &report[..dropped], left);
+            put(rt, out, &clean[..size], &report[..dropped], left)
         }
         Rescued::Malformed => {
             bad_header(path);
+            false
         }
         Rescued::Short => {
             files::complain(path, b"it is too long (14); nothing was written");
+            false
         }
     }
 }
 
 // The journal of a file, up to its limit.
-fn read_journal(path: &[u8], out: &[u8]) {
-    let fd = files::open(path);
-    if fd < 0 {
-        return;
-    }
+fn read_journal(rt: &(impl Files + Print), path: &[u8], out: &[u8]) -> bool {
+    let Some(mut file) = files::open(rt, path) else {
+        return false;
+    };
     let mut bytes: [u8; 65536] = io::large_buffer();
-    let n = io::read_full(fd, &mut bytes);
-    if files::ends(
-        fd,
+    let n = files::read_full(&mut file, &mut bytes);
+    if !files::ends(
+        file,
         path,
         b"more than 65,536 bytes (14); nothing was written",
     ) {
-        save(path, &bytes[..n], out);
+        return false;
     }
+    save(rt, path, &bytes[..n], out)
 }
 
-fn run() {
+fn run(rt: &(impl Env + Files + Print)) -> bool {
     let mut path = io::buffer();
-    let n = os::arg(1, &mut path);
+    let n = files::word(rt, 1, &mut path);
     let mut out = io::buffer();
-    let k = os::arg(2, &mut out);
+    let k = files::word(rt, 2, &mut out);
     if (n == 0) | (k == 0) {
-        usage();
-        return;
+        return usage();
     }
-    read_journal(&path[..n], &out[..k]);
+    read_journal(rt, &path[..n], &out[..k])
 }
 
-fn main() {
+// What the words ask for, and whether it went well.
+fn obey(rt: &(impl Env + Files + Print)) -> bool {
     let mut word = io::buffer();
-    let size = os::arg(1, &mut word);
+    let size = files::word(rt, 1, &mut word);
     if files::asks_help(&word[..size]) {
         help();
-        return;
+        return true;
     }
-    if os::arg_count() != 3 {
-        usage();
-        return;
+    if files::word_count(rt) != 3 {
+        return usage();
     }
-    run();
+    run(rt)
+}
+
+fn main(rt: HostRuntime) -> ExitCode {
+    files::status(obey(&rt))
 }

@@ -1,5 +1,6 @@
 // Replays a journal from a fresh book of its edition, or on a snapshot's, and writes the snapshot of what it leaves.
 #![tactic(auto)]
+
 ghost use Rattle.std.specs.Prelude.{◌≡◌};
 ghost use Rattle.refusal.specs.Choice.{pick};
 ghost use Rattle.replay.specs.Replay.{replay_of, outcome_of, replayed_from};
@@ -8,15 +9,18 @@ use book::Book;
 use journal::Opened;
 use loading::Given;
 use replay::Outcome;
+use std::env::Env;
+use std::process::ExitCode;
+use std::rt::Files;
 
-fn usage() {
+fn usage() -> bool {
     files::say(
         b"usage: ./run snapshot JOURNAL OUT
        ./run snapshot --from SNAPSHOT JOURNAL OUT
        ./run snapshot --help
 ",
     );
-    files::failed();
+    false
 }
 
 fn help() {
@@ -97,7 +101,6 @@ fn bad_start(path: &[u8], s: &[u8], own: u32) {
 
 // Why a journal was not replayed to its end.
 fn stopped(path: &[u8], s: &[u8], own: u32, r: Stop) {
-    files::failed();
     if r.number == refusal::BOOK_UNSOUND {
         files::say(path);
         files::say(b": the book before it is not sound (15); nothing was written\n");
@@ -116,23 +119,22 @@ fn unwritten(path: &[u8], number: u64) {
     files::say(b": the book has no snapshot of at most 81,920 bytes (");
     files::say_number(number);
     files::say(b"); nothing was written\n");
-    files::failed();
 }
 
-// Writes the snapshot of a book into a file.
-fn save(path: &[u8], book: Book) {
+// Writes the snapshot of a book into a file, or says why not.
+fn save(rt: &impl Files, path: &[u8], book: Book) -> bool {
     let mut out: [u8; 81920] = [0; 81920];
     let w = snapshot::write(book, &mut out);
     let n = w.size;
     if w.number != 0 {
         unwritten(path, w.number);
-        return;
+        return false;
     }
-    files::replace(path, &out[..n]);
+    files::replace(rt, path, &out[..n])
 }
 
 // Writes the snapshot of what a journal leaves, or says why there is none.
-fn keep(start: Given, journal: &[u8], s: &[u8], out: &[u8]) {
+fn keep(rt: &impl Files, start: Given, journal: &[u8], s: &[u8], out: &[u8]) -> bool {
     let before = start.book.settings;
     let r = replayed(start, s);
     if r.number != 0 {
@@ -142,75 +144,74 @@ fn keep(start: Given, journal: &[u8], s: &[u8], out: &[u8]) {
             at: r.at,
         };
         stopped(journal, s, before.edition, stop);
-        return;
+        return false;
     }
     let book = r.book;
-    save(out, book);
+    save(rt, out, book)
 }
 
 // The journal of a file, up to its limit.
-fn read_journal(start: Given, journal: &[u8], out: &[u8]) {
-    let fd = files::open(journal);
-    if fd < 0 {
-        return;
-    }
+fn read_journal(rt: &impl Files, start: Given, journal: &[u8], out: &[u8]) -> bool {
+    let Some(mut file) = files::open(rt, journal) else {
+        return false;
+    };
     let mut bytes: [u8; 32768] = [0; 32768];
-    let n = io::read_full(fd, &mut bytes);
-    if files::ends(
-        fd,
+    let n = files::read_full(&mut file, &mut bytes);
+    if !files::ends(
+        file,
         journal,
         b"more than 32,768 bytes (14); nothing was written",
     ) {
-        keep(start, journal, &bytes[..n], out);
+        return false;
     }
+    keep(rt, start, journal, &bytes[..n], out)
 }
 
 // The journal and the file to write, as two words name them.
-fn run(start: Given, first: usize, second: usize) {
+fn run(rt: &(impl Env + Files), start: Given, first: usize, second: usize) -> bool {
     let mut journal = io::buffer();
-    let n = os::arg(first, &mut journal);
+    let n = files::word(rt, first, &mut journal);
     let mut out = io::buffer();
-    let k = os::arg(second, &mut out);
+    let k = files::word(rt, second, &mut out);
     if (n == 0) | (k == 0) {
-        usage();
-        return;
+        return usage();
     }
     if check::same(&journal[..n], &out[..k]) {
         files::complain(&out[..k], b"is the journal itself; nothing was written");
-        return;
+        return false;
     }
-    read_journal(start, &journal[..n], &out[..k]);
+    read_journal(rt, start, &journal[..n], &out[..k])
 }
 
-fn run_from() {
+fn run_from(rt: &(impl Env + Files)) -> bool {
     let mut word = io::buffer();
-    let size = os::arg(2, &mut word);
+    let size = files::word(rt, 2, &mut word);
     if size == 0 {
-        usage();
-        return;
+        return usage();
     }
-    let start = loading::load(&word[..size]);
-    if start.here {
-        run(start, 3, 4);
-    }
+    let start = loading::load(rt, &word[..size]);
+    start.here && run(rt, start, 3, 4)
 }
 
-fn main() {
+// What the words ask for, and whether it went well.
+fn obey(rt: &(impl Env + Files)) -> bool {
     let mut word = io::buffer();
-    let size = os::arg(1, &mut word);
-    let count = os::arg_count();
+    let size = files::word(rt, 1, &mut word);
+    let count = files::word_count(rt);
     if files::asks_help(&word[..size]) {
         help();
-        return;
+        return true;
     }
     let from = check::same(&word[..size], b"--from");
     if from & (count == 5) {
-        run_from();
-        return;
+        return run_from(rt);
     }
     if from | (count != 3) {
-        usage();
-        return;
+        return usage();
     }
-    run(loading::none(), 1, 2);
+    run(rt, loading::none(), 1, 2)
+}
+
+fn main(rt: HostRuntime) -> ExitCode {
+    files::status(obey(&rt))
 }
