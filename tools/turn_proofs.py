@@ -37,8 +37,11 @@ class Names:
             if arm:
                 group, _, items = arm
                 for field, step, path in items:
-                    if path:
-                        self.arms[(plain(step), tuple(path))] = f"{group}.{field}"
+                    self.arms.setdefault((plain(step), tuple(path)), f"{group}.{field}")
+                    if step == "match" and not path:
+                        key = re.search(r"(keys\d+|rest)$", self.root(of, at))
+                        if key:
+                            self.arms[("match", (key[0],))] = f"{group}.{field}.{key[0]}"
         self.needs = {}
         for old, new in of["needs"]:
             self.needs[plain(old)] = new
@@ -50,6 +53,17 @@ class Names:
             for word in ("invariant-", "decreases-"):
                 self.places[plain(word + a)] = word + b
         self.missed = set()
+
+    @staticmethod
+    def root(of, at):
+        """The old name of the place in which the arm of a place begins."""
+        index = {it[0]: i for i, it in enumerate(of["places"])}
+        while not of["places"][at][0].startswith("At-match-"):
+            up = index.get(of["places"][at][1])
+            if up is None or not of["arms"][up] or of["arms"][up][0] != of["arms"][at][0]:
+                break
+            at = up
+        return of["places"][at][0]
 
     def tied(self, name):
         if name.startswith("Need-"):
@@ -78,9 +92,9 @@ class Names:
                 out.append(s)
                 i += 1
                 continue
-            if rest and rest[0] == "given":
-                for n in range(len(rest), 1, -1):
-                    if (key, tuple(rest[:n])) in self.arms:
+            if rest and (rest[0] == "given" or (key == "match" and re.match(r"keys\d+$|rest$", rest[0]))):
+                for n in range(len(rest), -1, -1):
+                    if (n or key != "match") and (key, tuple(rest[:n])) in self.arms:
                         out += self.arms[(key, tuple(rest[:n]))].split(".")
                         i += 1 + n
                         break
@@ -366,6 +380,9 @@ def renamed(block, names):
         for old, new in names.of["args"]:
             a, b = (it.replace(" ", "") for it in (old, new))
             line = re.sub(re.escape(a) + r"(?![\w'-])", b, line)
+            if a.startswith(".args."):
+                # of what holds the arguments
+                line = re.sub(r"(?<=[\w)'])" + re.escape(a[5:]) + r"(?![\w'-])", b[5:], line)
         line = re.sub(r"(?<=[\w)'])\.fits(?=\.)", ".ranges", line)
         out.append(line)
     return "\n".join(out)

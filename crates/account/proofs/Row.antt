@@ -1,4 +1,4 @@
--- What the walks by hand share: machine values of the amounts that are passed on and of a purse, with the flag of a posting and without. Assumes `Logic`.
+-- Machine values of the amounts that are passed on and of a purse, with the flag of a posting and without. Assumes `Logic`.
 use mathlib.Core.Path.{refl}
 use mathlib.Core.Bool.{Bool}
 use Prim.Native.Nat.{◌<◌, ◌^◌}

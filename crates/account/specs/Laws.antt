@@ -55,7 +55,7 @@ pub record Ranges (r : Account) : Type 0 where
   pub balance_in : in_total r.purse.balance ≡ true
   pub allowance_in : in_total r.purse.allowance ≡ true
   pub offered_in : in_total r.purse.offered ≡ true
-  pub accepted_in_lem : in_total r.purse.accepted ≡ true
+  pub accepted_in : in_total r.purse.accepted ≡ true
   pub pending_in : leb r.pending count_limit ≡ true
   pub repaid_in : leb r.repaid count_limit ≡ true
 
@@ -67,11 +67,11 @@ sound_ranges {r} e =
     let c = both _ _ d.0 in
     let b = both _ _ c.0 in
     let a = both _ _ b.0 in
-    record { balance_in = a.0; allowance_in = a.1; offered_in = b.1; accepted_in_lem = c.1; pending_in = d.1; repaid_in = f.1 }
+    record { balance_in = a.0; allowance_in = a.1; offered_in = b.1; accepted_in = c.1; pending_in = d.1; repaid_in = f.1 }
 
 pub ranges_sound : {r : Account} → Ranges r → account_sound r ≡ true
 unfolding account_sound purse_sound
-ranges_sound {r} s = rw (s.balance_in, s.allowance_in, s.offered_in, s.accepted_in_lem, s.pending_in, s.repaid_in)
+ranges_sound {r} s = rw (s.balance_in, s.allowance_in, s.offered_in, s.accepted_in, s.pending_in, s.repaid_in)
 
 -- how code answers that does f to the purse where a test allows it
 pub moves_purse : {ok t : Bool} {p : Purse} (r : Account) (n : Refusal) (f : Purse → Purse) → ok ≡ t → (ok ≡ true → p ≡ f r.purse)

@@ -1,5 +1,6 @@
 // An account's row and what each command does to it. A refusal gives its number and the row as it was.
 #![tactic(auto)]
+
 ghost use Rattle.std.specs.Prelude.{cond, ◌≡◌, ◌-ℤ◌};
 ghost use Rattle.table.specs.Spots.{at_spot};
 ghost use Rattle.account.specs.Seen.{seen_account, put_account};

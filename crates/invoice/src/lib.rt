@@ -1,5 +1,6 @@
 // An invoice's row: who put it up, for how much, and where it stands.
 #![tactic(auto)]
+
 ghost use Rattle.std.specs.Prelude.{cond, ◌≡◌};
 ghost use Rattle.table.specs.Spots.{at_spot};
 ghost use Rattle.invoice.specs.Seen.{seen_invoice, put_invoice};

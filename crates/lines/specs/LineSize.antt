@@ -35,7 +35,7 @@ unfolding account_line
 account_most id r h e =
     let k = sound_ranges e in
     let ns : List ℕ = id ∷ magnitude_of r.purse.balance ∷ magnitude_of r.purse.allowance ∷ magnitude_of r.purse.offered ∷ magnitude_of r.purse.accepted ∷ [] in
-    let s : Small ns = (h, (total_small r.purse.balance k.balance_in, (total_small r.purse.allowance k.allowance_in, (total_small r.purse.offered k.offered_in, (total_small r.purse.accepted k.accepted_in_lem, tt))))) in
+    let s : Small ns = (h, (total_small r.purse.balance k.balance_in, (total_small r.purse.allowance k.allowance_in, (total_small r.purse.offered k.offered_in, (total_small r.purse.accepted k.accepted_in, tt))))) in
     rw (length-append account_word) (omega (arith, numbers_most ns s))
 
 pub accounts_most : (t : Table Account) → Small (keys t) → All (λ r. account_sound r ≡ true) t → length (account_lines t) ≤ 113 * length t

@@ -1,5 +1,6 @@
 // The two accounts that a command sees. Where both are one row, what is put in one place is put in the other too.
 #![tactic(auto)]
+
 ghost use Rattle.std.specs.Prelude.{◌≡◌, ℕ, true, false};
 ghost use Rattle.refusal.specs.Rule.{answered};
 ghost use Rattle.table.specs.Tables.{Table};

@@ -8,7 +8,7 @@ serve-requires : tie.Need-serve-requires
 serve-requires c κs =
     let start = c.before.before.before.before.before in
     let book = start.args.book in
-    let y = typed book _ start.well-formed.0 in
+    let y = typed book _ start.well_formed.0 in
     let e = c.before.before.before.replay-from.ensures in
     (from_shelved book y start.requires _ _ e, from_sound book y start.requires _ _ e)
 

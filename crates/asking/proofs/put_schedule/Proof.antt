@@ -10,7 +10,7 @@ returns : tie.Need-returns-then-words-eq0
 returns c = retext c.put.ensures (schedule_none_lem c.args.words c.if-words-eq0.true)
 
 returns-2 : tie.Need-returns
-returns-2 c = retext c.put_reply.ensures (schedule_some c.args.words c.if-words-eq0.false (omega (arith, length-drop 2 c.args.words, c.well-formed.1.1.1.0.1)))
+returns-2 c = retext c.put_reply.ensures (schedule_some c.args.words c.if-words-eq0.false (omega (arith, length-drop 2 c.args.words, c.well_formed.1.1.1.0.1)))
 
 pub put_schedule_spec : {M : Type 1} → statement M
 put_schedule_spec =

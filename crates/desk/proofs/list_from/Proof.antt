@@ -15,7 +15,7 @@ returns c =
     let start = c.before.before.before.before.before.before.before.before.before in
     let book = start.args.book in
     let t = start.requires.1 in
-    let d = bounded book _ start.well-formed.0 t in
+    let d = bounded book _ start.well_formed.0 t in
     let l = c.before.before.before.before.before.listing-from in
     let k = ap (λ (d : Listed). (listing_says d).1) (sym c.before.r.given.1 ∙ never_short book start.args.s.now start.args.out.now d t start.requires.0.0 start.requires.0.1 l.ensures.0) in
     ((k, l.ensures.1 ∙ shown book _ _ t), omega (arith, k, from_room book start.args.s.now d start.requires.0.0))
@@ -25,7 +25,7 @@ returns-2 c =
     let start = c.before.before.before.before.before.before.before in
     let book = start.args.book in
     let t = start.requires.1 in
-    let done = never_short book start.args.s.now start.args.out.now {x = c.before.before.before.listing-from.result} (bounded book _ start.well-formed.0 t) t start.requires.0.0 start.requires.0.1 c.before.before.before.listing-from.ensures.0 in
+    let done = never_short book start.args.s.now start.args.out.now {x = c.before.before.before.listing-from.result} (bounded book _ start.well_formed.0 t) t start.requires.0.0 start.requires.0.1 c.before.before.before.listing-from.ensures.0 in
     ⊎_elim (λ (z : ◌≡◌ {A = ℕ} 0 1). absurd (omega arith)) (λ (z : ◌≡◌ {A = ℕ} 0 2). absurd (omega arith)) (rw done at c.match.keys2)
 
 pub list-from-spec : {M : Type 1} → statement M

@@ -36,25 +36,25 @@ room : (c : tie.Else-out-at-2) → (start c.before.before).args.at + (3 + 11 * c
 room c = omega (arith, c.if-out-at-2.false, c.if-out-at.false)
 
 -- the buffer past the head, and past the fields
-head-put : (c : tie.After-put_head) → c.put_head.new.0 ≡ placed (start c.before.before.before.before).args.at (head_of (start c.before.before.before.before).args.tag (11 * c.fields-row.result.0)) (start c.before.before.before.before).args.out.now
+head-put : (c : tie.After-put_head) → c.put_head.new.out ≡ placed (start c.before.before.before.before).args.at (head_of (start c.before.before.before.before).args.tag (11 * c.fields-row.result.0)) (start c.before.before.before.before).args.out.now
 unfolding head_of bytes_of
 head-put c = let d = c.before.before.before.before in c.put_head.ensures ∙ laid_in (start d).args.at _ (start d).args.out.now (omega (arith, room c.before.before))
 
-head-kept : (c : tie.After-put_head) → length c.put_head.new.0 ≡ length (start c.before.before.before.before).args.out.now
+head-kept : (c : tie.After-put_head) → length c.put_head.new.out ≡ length (start c.before.before.before.before).args.out.now
 unfolding head_of bytes_of
 head-kept c = let d = c.before.before.before.before in ap length (head-put c) ∙ length-placed (start d).args.at _ (start d).args.out.now (omega (arith, room c.before.before))
 
 fits : (c : tie.After-put_fields) → (start c.before.before.before.before.before.before.before.before).args.at + length (whole c.before.before.before.before.before.before.before.before) ≤ length (start c.before.before.before.before.before.before.before.before).args.out.now
 fits c = omega (arith, size_is c.before.before.before.before.before.before.before.before, room c.before.before.before.before.before.before)
 
-all-put : (c : tie.After-put_fields) → c.put_fields.new.0 ≡ placed (start c.before.before.before.before.before.before.before.before).args.at (whole c.before.before.before.before.before.before.before.before) (start c.before.before.before.before.before.before.before.before).args.out.now
+all-put : (c : tie.After-put_fields) → c.put_fields.new.out ≡ placed (start c.before.before.before.before.before.before.before.before).args.at (whole c.before.before.before.before.before.before.before.before) (start c.before.before.before.before.before.before.before.before).args.out.now
 all-put c =
     let h = c.before.before.before.before in
     let d = h.before.before.before.before in
     let a = (start d).args in
-    ◌∙◌ {b = stored a.out-1.now a.at a.tag a.values d.fields-row.result}
+    ◌∙◌ {b = stored a.out.now a.at a.tag a.values d.fields-row.result}
     (rw (head-put h) at c.put_fields.ensures)
-    (parts_placed a.edition a.tag a.values a.out-1.now a.at d.fields-row.ensures (room h.before.before))
+    (parts_placed a.edition a.tag a.values a.out.now a.at d.fields-row.ensures (room h.before.before))
 
 returns : tie.Need-returns-then-out-at
 returns c = let d = c.before in short (start d).args.at (whole d) (start d).args.out.now (omega (arith, size_is d, c.if-out-at.true))

@@ -24,58 +24,58 @@ value k s m v e w q = by_sure s.args.code s.args.id s.args.time m k v e w q
 
 returns : tie.Need-returns-in-1
 unfolding read_of read_in pick
-returns c m s = by_code c.args.code c.args.id c.args.time m 1 (deal_read c.args.id c.args.deal) c.in-1.keys1 c.offer_words.ensures (ap (λ (d : SeenDeal). deal_read c.args.id d) s.deal_seen)
+returns c m s = by_code c.args.code c.args.id c.args.time m 1 (deal_read c.args.id c.args.deal) c.in-1.is c.offer_words.ensures (ap (λ (d : SeenDeal). deal_read c.args.id d) s.deal_seen)
 
 returns-2 : tie.Need-returns-in-2
 unfolding read_of read_in pick
-returns-2 c m s = value 2 c.before.before m (purse_order c.args.account.row) c.in-1.keys2 c.account_words.ensures (ap (λ (a : SeenAccount). sure (purse_order a.row)) s.account_seen)
+returns-2 c m s = value 2 c.before.before m (purse_order c.args.account.row) c.in-2.is c.account_words.ensures (ap (λ (a : SeenAccount). sure (purse_order a.row)) s.account_seen)
 
 returns-3 : tie.Need-returns-in-3
 unfolding read_of read_in pick
-returns-3 c m s = value 3 c.before.before m (lender_order (lender_numbers c.args.account.row)) c.in-1.keys3 c.lender_words.ensures (ap (λ (a : SeenAccount). sure (lender_order (lender_numbers a.row))) s.account_seen)
+returns-3 c m s = value 3 c.before.before m (lender_order (lender_numbers c.args.account.row)) c.in-3.is c.lender_words.ensures (ap (λ (a : SeenAccount). sure (lender_order (lender_numbers a.row))) s.account_seen)
 
 returns-4 : tie.Need-returns-in-4
 unfolding read_of read_in pick
-returns-4 c m s = value 4 c.before.before m (schedule_values c.args.deal.row.schedule) c.in-1.keys4 c.schedule_words.ensures (ap (λ (d : SeenDeal). sure (schedule_values d.row.schedule)) s.deal_seen)
+returns-4 c m s = value 4 c.before.before m (schedule_values c.args.deal.row.schedule) c.in-4.is c.schedule_words.ensures (ap (λ (d : SeenDeal). sure (schedule_values d.row.schedule)) s.deal_seen)
 
 returns-5 : tie.Need-returns-in-5
 unfolding read_of read_in pick
-returns-5 c m s = value 5 c.before.before m (c.args.deal.row.negotiation.deadline ∷ []) c.in-1.keys5 c.deadline_words.ensures (ap (λ (d : SeenDeal). sure (d.row.negotiation.deadline ∷ [])) s.deal_seen)
+returns-5 c m s = value 5 c.before.before m (c.args.deal.row.negotiation.deadline ∷ []) c.in-5.is c.deadline_words.ensures (ap (λ (d : SeenDeal). sure (d.row.negotiation.deadline ∷ [])) s.deal_seen)
 
 returns-6 : tie.Need-returns-in-6
 unfolding read_of read_in pick
-returns-6 c m s = value 6 c.before.before m (standing c.args.deal c.args.time ∷ []) c.in-1.keys6 c.status_words.ensures (ap (λ (d : SeenDeal). sure (standing d c.args.time ∷ [])) s.deal_seen)
+returns-6 c m s = value 6 c.before.before m (standing c.args.deal c.args.time ∷ []) c.in-6.is c.status_words.ensures (ap (λ (d : SeenDeal). sure (standing d c.args.time ∷ [])) s.deal_seen)
 
 returns-7 : tie.Need-returns-in-7
 unfolding read_of read_in pick
-returns-7 c m s = value 7 c.before.before m (due_order (due_in c.args.settings.edition c.args.deal.row c.args.time)) c.in-1.keys7 c.due_words.ensures (ap (λ (d : SeenDeal). sure (due_order (due_in c.args.settings.edition d.row c.args.time))) s.deal_seen ∙ ap (λ (t : Settings). sure (due_order (due_in t.edition (offer_in m c.args.id).row c.args.time))) s.settings_seen)
+returns-7 c m s = value 7 c.before.before m (due_order (due_in c.args.settings.edition c.args.deal.row c.args.time)) c.in-7.is c.due_words.ensures (ap (λ (d : SeenDeal). sure (due_order (due_in c.args.settings.edition d.row c.args.time))) s.deal_seen ∙ ap (λ (t : Settings). sure (due_order (due_in t.edition (offer_in m c.args.id).row c.args.time))) s.settings_seen)
 
 returns-8 : tie.Need-returns-in-8
 unfolding read_of read_in pick
-returns-8 c m s = value 8 c.before.before m (c.args.count ∷ []) c.in-1.keys8 c.words_one.ensures (ap (λ (n : ℕ). sure (n ∷ [])) s.counted)
+returns-8 c m s = value 8 c.before.before m (c.args.count ∷ []) c.in-8.is c.words_one.ensures (ap (λ (n : ℕ). sure (n ∷ [])) s.counted)
 
 returns-9 : tie.Need-returns-in-9
 unfolding read_of read_in pick
-returns-9 c m s = value 9 c.before.before m (c.args.settings.window ∷ []) c.in-1.keys9 c.words_one-in-9.ensures (ap (λ (t : Settings). sure (t.window ∷ [])) s.settings_seen)
+returns-9 c m s = value 9 c.before.before m (c.args.settings.window ∷ []) c.in-9.is c.words_one-in-9.ensures (ap (λ (t : Settings). sure (t.window ∷ [])) s.settings_seen)
 
 returns-10 : tie.Need-returns-in-10
 unfolding read_of read_in pick
-returns-10 c m s = value 10 c.before.before m (c.args.settings.seats ∷ []) c.in-1.keys10 c.words_one-in-10.ensures (ap (λ (t : Settings). sure (t.seats ∷ [])) s.settings_seen)
+returns-10 c m s = value 10 c.before.before m (c.args.settings.seats ∷ []) c.in-10.is c.words_one-in-10.ensures (ap (λ (t : Settings). sure (t.seats ∷ [])) s.settings_seen)
 
 returns-11 : tie.Need-returns-in-11
 unfolding read_of read_in pick
-returns-11 c m s = value 11 c.before.before m (c.args.settings.threshold ∷ []) c.in-1.keys11 c.words_one-in-11.ensures (ap (λ (t : Settings). sure (t.threshold ∷ [])) s.settings_seen)
+returns-11 c m s = value 11 c.before.before m (c.args.settings.threshold ∷ []) c.in-11.is c.words_one-in-11.ensures (ap (λ (t : Settings). sure (t.threshold ∷ [])) s.settings_seen)
 
 returns-12 : tie.Need-returns-in-12
 unfolding read_of read_in pick
-returns-12 c m s = value 12 c.before.before.before m (flag c.args.settings.paused ∷ []) c.in-1.keys12 (c.words_one-in-12.ensures ∙ ap (λ (n : ℕ). twelve (0, n ∷ [])) c.flag.ensures) (ap (λ (t : Settings). sure (flag t.paused ∷ [])) s.settings_seen)
+returns-12 c m s = value 12 c.before.before.before m (flag c.args.settings.paused ∷ []) c.in-12.is (c.words_one-in-12.ensures ∙ ap (λ (n : ℕ). twelve (0, n ∷ [])) c.flag.ensures) (ap (λ (t : Settings). sure (flag t.paused ∷ [])) s.settings_seen)
 
 returns-13 : tie.Need-returns-in-13
 unfolding read_of read_in pick
-returns-13 c m s = value 13 c.before.before m (totals_order (totals_numbers c.args.totals)) c.in-1.keys13 c.totals_words.ensures (ap (λ (t : Totals). sure (totals_order (totals_numbers t))) s.totals_seen)
+returns-13 c m s = value 13 c.before.before m (totals_order (totals_numbers c.args.totals)) c.in-13.is c.totals_words.ensures (ap (λ (t : Totals). sure (totals_order (totals_numbers t))) s.totals_seen)
 
 returns-14 : tie.Need-returns-in_default
-returns-14 c m s = by_none c.args.code c.args.id c.args.time m c.in-1.rest c.words_none.ensures
+returns-14 c m s = by_none c.args.code c.args.id c.args.time m c.in_default.in_default-own.rest c.words_none.ensures
 
 offer-words-requires : tie.Need-offer_words-requires
 offer-words-requires c κs = search rules

@@ -76,7 +76,7 @@ element-copy-out-account-row c = omega (arith, below-a c)
 mul-put : tie.Need-overflow_mul-i invariant-loop decreases-loop
 mul-put c =
     let s = c in
-    omega (arith, reply_room (c.loop-i.invariant []) s.requires.1 c.loop-i-test.true, reply_length (c.loop-i.invariant []) s.requires.1, s.well-formed.1.1.0.0)
+    omega (arith, reply_room (c.loop-i.invariant []) s.requires.1 c.loop-i-test.true, reply_length (c.loop-i.invariant []) s.requires.1, s.well_formed.1.1.0.0)
 
 put-requires : tie.Need-put-requires invariant-loop decreases-loop
 put-requires c κs =
@@ -87,7 +87,7 @@ put-requires c κs =
     )
 
 add-i : tie.Need-overflow_add-i invariant-loop decreases-loop
-add-i c = omega (arith, c.loop-i-test.true, c.well-formed.1.0.0)
+add-i c = omega (arith, c.loop-i-test.true, c.well_formed.1.0.0)
 
 loop-less : tie.Need-loop-i-smaller invariant-loop decreases-loop
 loop-less c = omega (arith, c.loop-i-test.true)

@@ -14,7 +14,7 @@ returns c = let e = sym c.sound.ensures.0 ∙ not-true c.sound.result c.if-not-s
 list-requires : tie.Need-list-requires
 list-requires c κs =
     let t = not-false c.sound.result c.if-not-sound.false-raw in
-    (c.sound.ensures.1 t, bounded c.args.book _ c.well-formed.0 (sym c.sound.ensures.0 ∙ t))
+    (c.sound.ensures.1 t, bounded c.args.book _ c.well_formed.0 (sym c.sound.ensures.0 ∙ t))
 
 returns-2 : tie.Need-returns
 unfolding listed_from shown_from

@@ -8,7 +8,7 @@ use Rattle.rescue.specs.Room.{takes}
 use Rattle.rescue_program.proofs.save.Statement.{statement}
 use Rattle.rescue_program.proofs.save.Tie as tie
 
-room : (c : tie.After-known-told) → (c.before.r.given.0.0 ≤ length c.before.before.before.before.before.rescue.new.1.0) × (c.before.r.given.0.1.0 ≤ length c.before.before.before.before.before.rescue.new.1.1.0)
+room : (c : tie.After-known-told) → (c.before.r.given.0.0 ≤ length c.before.before.before.before.before.rescue.new.out) × (c.before.r.given.0.1.0 ≤ length c.before.before.before.before.before.rescue.new.report)
 room c = let r = c.before.before.before.before.before.rescue in takes _ _ _ (sym (ap said c.before.r.given.1) ∙ r.ensures.0) r.ensures.1
 
 pub save-spec : {M : Type 1} → statement M

@@ -22,7 +22,7 @@ room : (c : tie.After-encode_parts-e) → length (whole c) ≤ length zeros
 room c = record_room c.args.edition c.args.tag c.args.numbers
 
 put : (c : tie.After-encode_parts-e) {n : ℕ} → c.encode_parts-e.result ≡ Bytes n
-    → (n ≤ length c.encode_parts-e.new.1.1.1.0) × (take n c.encode_parts-e.new.1.1.1.0 ≡ whole c)
+    → (n ≤ length c.encode_parts-e.new.out) × (take n c.encode_parts-e.new.out ≡ whole c)
 put c e = taken (whole c) zeros (room c) c.encode_parts-e.ensures.1 (count-is (whole c) zeros (room c) c.encode_parts-e.ensures.0 e)
 
 returns : tie.Need-returns-in_default

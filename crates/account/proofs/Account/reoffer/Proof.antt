@@ -18,7 +18,7 @@ moved c = simp (back c.args.old.amount (search rules), back c.args.new.amount (s
 returns : tie.Need-returns
 returns c =
     let a = c.args in
-    let m = moved c.before in
+    let m = moved c.before.before in
     let ok = ap (λ (z : MovedPurse). z.ok) m in
     c.repursed.ensures
     ∙ moves_purse a.self out_of_range (reoffers (a.new.amount -ℤ a.old.amount)) (ok ∙ move_tells _ _ refl)

@@ -36,7 +36,7 @@ loop-again c =
     let e = asked u l.i h a.w in
     ⊎_elim
     (λ x. rw (x.7, x.8) (retext (next l.invariant x.4.ensures)
-    (ap (λ (z : List ℕ). spread offer_line (pick_from (taking a.w) 0 (take l.i (offers_of a.t4))) ++ z) (ap (λ (o : OfferNumbers). row_of (in_order o)) x.2.ensures ∙ ap offer_line (sym (entry u l.i h)))
+    (ap (λ (z : List ℕ). spread offer_line (pick_from (taking a.w) 0 (take l.i (offers_of a.rows))) ++ z) (ap (λ (o : OfferNumbers). row_of (in_order o)) x.2.ensures ∙ ap offer_line (sym (entry u l.i h)))
     ∙ sym (taken offer_line (taking a.w) _ l.i rows.none (inside u l.i h) (e _ _ c.takes.ensures x.0.taken)))))
     (λ x. rw (x.1, x.2) (retext l.invariant (sym (left_out offer_line (taking a.w) _ l.i rows.none (inside u l.i h) (e _ _ c.takes.ensures x.0.left)))))
     c.if-takes.branch

@@ -20,7 +20,7 @@ returns c =
     let k : 2 + c.told-n.result - 2 ≡ pick (ltb n 10) n 10 = omega (arith, c.told-n.ensures) in
     retext c.put_row.ensures
     (ap (λ (m : ℕ). row_of (get_or words 0 0 ∷ take m (drop 2 words))) k
-    ∙ ap (λ (l : List ℕ). row_of (get_or words 0 0 ∷ l)) (take_told (drop 2 words) n (omega (arith, length-drop 2 words, c.well-formed.1.1.1.0.1))))
+    ∙ ap (λ (l : List ℕ). row_of (get_or words 0 0 ∷ l)) (take_told (drop 2 words) n (omega (arith, length-drop 2 words, c.well_formed.1.1.1.0.1))))
 
 add-end : tie.Need-overflow_add-end
 add-end c = omega (arith, c.told-n.ensures, told_few (get_or c.args.words 1 0))

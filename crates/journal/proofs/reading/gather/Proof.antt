@@ -21,7 +21,7 @@ decreases-loop s p n tags v₀ i₀ q₀ v i q = n - i
 
 -- the array has the n tags
 all : (s : tie.Start invariant-loop decreases-loop) → length (take s.args.n s.args.tags) ≡ s.args.n
-all s = length-take-le s.args.n s.args.tags (omega (arith, s.requires.0, s.well-formed.1.1.1.0.1))
+all s = length-take-le s.args.n s.args.tags (omega (arith, s.requires.0, s.well_formed.1.1.1.0.1))
 
 -- the tag at hand, in a turn of the loop
 here : (c : tie.In-loop-i invariant-loop decreases-loop) → c.loop-i.i < length (take c.args.n c.args.tags)
@@ -43,14 +43,14 @@ returns c =
     let d = c.before.before in
     let l = d.loop-i in
     let a = d.args in
-    stop d (field_other (get_or a.t4 l.i 0) l.q a.s.now (sym c.begins.ensures ∙ not-true _ c.if-not-begins.true-raw))
+    stop d (field_other (get_or a.tags l.i 0) l.q a.s.now (sym c.begins.ensures ∙ not-true _ c.if-not-begins.true-raw))
 
 returns-2 : tie.Need-returns-then-top-x invariant-loop decreases-loop
 returns-2 c =
     let d = c.before.before.before.before.before in
     let l = d.loop-i in
     let a = d.args in
-    stop d (field_high (get_or a.t4 l.i 0) l.q a.s.now (rw (← c.top.ensures, ← c.number-x.ensures) c.if-top-x.true))
+    stop d (field_high (get_or a.tags l.i 0) l.q a.s.now (rw (← c.top.ensures, ← c.number-x.ensures) c.if-top-x.true))
 
 -- the place of the number is one of the array
 low : (c : tie.After-place invariant-loop decreases-loop) → c.place.result < 32
@@ -61,13 +61,13 @@ loop-again c =
     let d = c.before.before.before.before.before.before in
     let l = d.loop-i in
     let a = d.args in
-    let f = get_or a.t4 l.i 0 in
+    let f = get_or a.tags l.i 0 in
     let h : number_at 8 (drop (l.q + 3) a.s.now) ≤ top_of f = rw (← c.top.ensures, ← c.number-x.ensures) c.if-top-x.false in
     let e : field_in f (drop l.q a.s.now) ≡ true = field_in_lem f l.q a.s.now (sym c.begins.ensures ∙ not-false _ c.if-not-begins.false-raw) h in (
       omega arith,
       (
         omega (arith, l.invariant),
-        rw (c.place.ensures, c.number-x.ensures) (going_on (take a.n a.t4) a.s.now a.p l.i l.q f (here d) (tag_is d) e l.invariant.1.1),
+        rw (c.place.ensures, c.number-x.ensures) (going_on (take a.n a.tags) a.s.now a.p l.i l.q f (here d) (tag_is d) e l.invariant.1.1),
       ),
     )
 

@@ -21,15 +21,15 @@ decreases-loop out₀ p n tags values i₀ q₀ out i q = n - i
 
 -- the array has the n tags, and the buffer keeps its length
 has : (s : tie.Start invariant-loop decreases-loop) → s.args.n ≤ length s.args.tags
-has s = omega (arith, s.requires, s.well-formed.1.1.1.0.1.0)
+has s = omega (arith, s.requires, s.well_formed.1.1.1.0.1.0)
 
 kept : (c : tie.At-loop-i invariant-loop decreases-loop) → length c.loop-i.out ≡ length c.args.out.now
 kept c =
     let s = c.before.before in
     let a = s.args in
     let i = c.loop-i.i in
-    let e : length (fields_out (take i a.t4) a.t5) ≡ 11 * i = length_fields (take i a.t4) a.t5 ∙ ap (λ (k : ℕ). 11 * k) (length-take-le i a.t4 (omega (arith, has s, c.loop-i.invariant))) in
-    ap length c.loop-i.invariant.1.1 ∙ length-placed a.p (fields_out (take i a.t4) a.t5) a.out.now (omega (arith, s.requires, c.loop-i.invariant))
+    let e : length (fields_out (take i a.tags) a.values) ≡ 11 * i = length_fields (take i a.tags) a.values ∙ ap (λ (k : ℕ). 11 * k) (length-take-le i a.tags (omega (arith, has s, c.loop-i.invariant))) in
+    ap length c.loop-i.invariant.1.1 ∙ length-placed a.p (fields_out (take i a.tags) a.values) a.out.now (omega (arith, s.requires, c.loop-i.invariant))
 
 loop-holds : tie.Need-loop-i-init invariant-loop decreases-loop
 unfolding fields_out
@@ -41,13 +41,13 @@ loop-again c =
     let l = d.loop-i in
     let s = d.before.before in
     let a = s.args in
-    let w = field_of (get_or a.t4 l.i 0) (bytes_of 8 (get_or a.t5 l.i 0)) in
+    let w = field_of (get_or a.tags l.i 0) (bytes_of 8 (get_or a.values l.i 0)) in
     let t : l.i < a.n = c.loop-i-test.true in
-    let room : l.q + length w ≤ length l.out = omega (arith, length_field (get_or a.t4 l.i 0) (get_or a.t5 l.i 0), kept d, s.requires, l.invariant) in (
+    let room : l.q + length w ≤ length l.out = omega (arith, length_field (get_or a.tags l.i 0) (get_or a.values l.i 0), kept d, s.requires, l.invariant) in (
       omega arith,
       (
         omega (arith, l.invariant),
-        c.put_field.ensures ∙ laid_in l.q w l.out room ∙ rw (l.invariant.1.0, l.invariant.1.1) (fields_turn a.t4 a.t5 a.out.now a.p l.i (omega (arith, has s)) (omega (arith, s.requires))),
+        c.put_field.ensures ∙ laid_in l.q w l.out room ∙ rw (l.invariant.1.0, l.invariant.1.1) (fields_turn a.tags a.values a.out.now a.p l.i (omega (arith, has s)) (omega (arith, s.requires))),
       ),
     )
 

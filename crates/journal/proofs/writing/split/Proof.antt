@@ -26,14 +26,13 @@ bits_is z e h = e ∙ ap bits_of (back z h)
 returns-14 : tie.Need-returns-in-ScheduleRepayment
 unfolding parts_of parts_in padded
 returns-14 c =
-    let d = c in
-    let g = d.c-in-ScheduleRepayment-1.given.0 in
-    let e = d.args.edition in
-    let l = g.0 ∷ g.1.0 ∷ g.1.1.0 ∷ g.1.1.1.0 ∷ g.1.1.1.1.0 ∷ g.1.1.1.1.1.0 ∷ [] in
-    rw (c.also.ensures, c.keeps_terms.ensures) (ap (λ (x : List ℕ). (0x38, x)) (padded_also (keeps_terms e) l g.1.1.1.1.1.1.0 (omega arith)) ∙ of e d.in-ScheduleRepayment.is)
+    let g = c.in-ScheduleRepayment in
+    let e = c.args.edition in
+    let l = g.now ∷ g.caller ∷ g.id ∷ g.count ∷ g.code ∷ g.first ∷ [] in
+    rw (c.also.ensures, c.keeps_terms.ensures) (ap (λ (x : List ℕ). (0x38, x)) (padded_also (keeps_terms e) l g.kind (omega arith)) ∙ of e g.is)
 
 pub split_spec : {M : Type 1} → statement M
 unfolding parts_of parts_in padded
 split_spec =
     tie.close
-    (tie.spec (λ c. search rules) (λ c. search rules) (λ c κs. search rules) (λ c. search rules) (λ c κs. search rules) (λ c. search rules) (λ c κs. search rules) (λ c. search rules) (λ c κs. search rules) (λ c. search rules) (λ c. search rules) (λ c κs. search rules) (λ c. search rules) (λ c. search rules) (λ c. search rules) (λ c. search rules) (λ c. search rules) (λ c κs. search rules) (λ c. search rules) (λ c. search rules) (λ c. search rules) (λ c κs. search rules) (λ c. search rules) (λ c. search rules) (λ c. search rules) (λ c. search rules) (λ c. search rules) (λ c. search rules) (λ c κs. search rules) (λ c κs. search rules) (λ c. search rules) (λ c. search rules) (λ c. search rules) (λ c κs. search rules) (λ c. search rules) (λ c. search rules) (λ c. search rules) (λ c κs. search rules) (λ c κs. search rules) (λ c. search rules) (λ c. search rules) (λ c. search rules) (λ c. search rules) (λ c. search rules) (λ c. search rules) (λ c. search rules) (λ c. search rules) (λ c. of c.args.edition c.in-OpenAccount.is) (λ c. rw (bits_is c.in-Deposit.amount c.bits.ensures c.known_told-in-Deposit-1.given.1.1.0.1) (of c.args.edition c.in-Deposit.is)) (λ c. rw (bits_is c.in-Payout.amount c.bits-in-Payout.ensures c.known_told-in-Payout-1.given.1.1.0.1) (of c.args.edition c.in-Payout.is)) (λ c. rw (bits_is c.in-Approve.amount c.bits-in-Approve.ensures c.known_told-in-Approve-1.given.1.1.0.1) (of c.args.edition c.in-Approve.is)) (λ c. rw (bits_is c.in-RegisterInvoice.amount c.bits-in-RegisterInvoice.ensures c.known_told-in-RegisterInvoice-1.given.1.1.1.0.1) (of c.args.edition c.in-RegisterInvoice.is)) (λ c. of c.args.edition c.in-CancelInvoice.is) (λ c. rw (bits_is c.in-CreateOffer.terms.amount c.bits-in-CreateOffer.ensures c.struct_told-1.given.0.1) (of c.args.edition c.in-CreateOffer.is)) (λ c. of c.args.edition c.in-WithdrawOffer.is) (λ c. of c.args.edition c.in-AcceptOffer.is) (λ c. of c.args.edition c.in-RejectOffer.is) (λ c. rw (bits_is c.in-AmendOffer.terms.amount c.bits-in-AmendOffer.ensures c.struct_told-in-AmendOffer-1.given.0.1) (of c.args.edition c.in-AmendOffer.is)) (λ c. rw (bits_is c.in-CounterOffer.terms.amount c.bits-in-CounterOffer.ensures c.struct_told-in-CounterOffer-1.given.0.1) (of c.args.edition c.in-CounterOffer.is)) (λ c. of c.args.edition c.in-CloseNegotiation.is) returns-14 (λ c. of c.args.edition c.in-UpdateStatus.is) (λ c. rw (bits_is c.in-UpdateRepaid.amount c.bits-in-UpdateRepaid.ensures c.known_told-in-UpdateRepaid-1.given.1.1.1.0.1) (of c.args.edition c.in-UpdateRepaid.is)) (λ c. of c.args.edition c.in-UpdateLenderRepaid.is) (λ c. rw (bits_is c.in-UpdateTotalsRepaid.amount c.bits-in-UpdateTotalsRepaid.ensures c.known_told-in-UpdateTotalsRepaid-1.given.1.1.0.1, bits_is c.in-UpdateTotalsRepaid.fee c.bits-in-UpdateTotalsRepaid-2.ensures c.known_told-in-UpdateTotalsRepaid-1.given.1.1.1.0.1) (of c.args.edition c.in-UpdateTotalsRepaid.is)) (λ c. of c.args.edition c.in-Pause.is) (λ c. of c.args.edition c.in-Unpause.is) (λ c. of c.args.edition c.in-SetWindow.is) (λ c. of c.args.edition c.in-SetRepaymentAccount.is) (λ c. of c.args.edition c.in-SetBlacklisted.is) (λ c. of c.args.edition c.in-SetSeats.is))
+    (tie.spec (λ c. search rules) (λ c. search rules) (λ c κs. search rules) (λ c. search rules) (λ c κs. search rules) (λ c. search rules) (λ c κs. search rules) (λ c. search rules) (λ c κs. search rules) (λ c. search rules) (λ c. search rules) (λ c κs. search rules) (λ c. search rules) (λ c. search rules) (λ c. search rules) (λ c. search rules) (λ c. search rules) (λ c κs. search rules) (λ c. search rules) (λ c. search rules) (λ c. search rules) (λ c κs. search rules) (λ c. search rules) (λ c. search rules) (λ c. search rules) (λ c. search rules) (λ c. search rules) (λ c. search rules) (λ c κs. search rules) (λ c κs. search rules) (λ c. search rules) (λ c. search rules) (λ c. search rules) (λ c κs. search rules) (λ c. search rules) (λ c. search rules) (λ c. search rules) (λ c κs. search rules) (λ c κs. search rules) (λ c. search rules) (λ c. search rules) (λ c. search rules) (λ c. search rules) (λ c. search rules) (λ c. search rules) (λ c. search rules) (λ c. search rules) (λ c. of c.args.edition c.in-OpenAccount.is) (λ c. rw (bits_is c.in-Deposit.amount c.bits.ensures c.in-Deposit.known_told-in-Deposit-1-own.given.1.1.0.1) (of c.args.edition c.in-Deposit.is)) (λ c. rw (bits_is c.in-Payout.amount c.bits-in-Payout.ensures c.in-Payout.known_told-in-Payout-1-own.given.1.1.0.1) (of c.args.edition c.in-Payout.is)) (λ c. rw (bits_is c.in-Approve.amount c.bits-in-Approve.ensures c.in-Approve.known_told-in-Approve-1-own.given.1.1.0.1) (of c.args.edition c.in-Approve.is)) (λ c. rw (bits_is c.in-RegisterInvoice.amount c.bits-in-RegisterInvoice.ensures c.in-RegisterInvoice.known_told-in-RegisterInvoice-1-own.given.1.1.1.0.1) (of c.args.edition c.in-RegisterInvoice.is)) (λ c. of c.args.edition c.in-CancelInvoice.is) (λ c. rw (bits_is c.in-CreateOffer.terms.amount c.bits-in-CreateOffer.ensures c.struct_told-1.given.0.1) (of c.args.edition c.in-CreateOffer.is)) (λ c. of c.args.edition c.in-WithdrawOffer.is) (λ c. of c.args.edition c.in-AcceptOffer.is) (λ c. of c.args.edition c.in-RejectOffer.is) (λ c. rw (bits_is c.in-AmendOffer.terms.amount c.bits-in-AmendOffer.ensures c.struct_told-in-AmendOffer-1.given.0.1) (of c.args.edition c.in-AmendOffer.is)) (λ c. rw (bits_is c.in-CounterOffer.terms.amount c.bits-in-CounterOffer.ensures c.struct_told-in-CounterOffer-1.given.0.1) (of c.args.edition c.in-CounterOffer.is)) (λ c. of c.args.edition c.in-CloseNegotiation.is) returns-14 (λ c. of c.args.edition c.in-UpdateStatus.is) (λ c. rw (bits_is c.in-UpdateRepaid.amount c.bits-in-UpdateRepaid.ensures c.in-UpdateRepaid.known_told-in-UpdateRepaid-1-own.given.1.1.1.0.1) (of c.args.edition c.in-UpdateRepaid.is)) (λ c. of c.args.edition c.in-UpdateLenderRepaid.is) (λ c. rw (bits_is c.in-UpdateTotalsRepaid.amount c.bits-in-UpdateTotalsRepaid.ensures c.in-UpdateTotalsRepaid.known_told-in-UpdateTotalsRepaid-1-own.given.1.1.0.1, bits_is c.in-UpdateTotalsRepaid.fee c.bits-in-UpdateTotalsRepaid-2.ensures c.in-UpdateTotalsRepaid.known_told-in-UpdateTotalsRepaid-1-own.given.1.1.1.0.1) (of c.args.edition c.in-UpdateTotalsRepaid.is)) (λ c. of c.args.edition c.in-Pause.is) (λ c. of c.args.edition c.in-Unpause.is) (λ c. of c.args.edition c.in-SetWindow.is) (λ c. of c.args.edition c.in-SetRepaymentAccount.is) (λ c. of c.args.edition c.in-SetBlacklisted.is) (λ c. of c.args.edition c.in-SetSeats.is))

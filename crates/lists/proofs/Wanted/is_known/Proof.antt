@@ -27,7 +27,7 @@ unfolding known
 returns c = sym (ap known c.in-Status.is)
 
 returns-2 : tie.Need-returns-in_default
-returns-2 c = others c.args.self c.in-Status.keys2
+returns-2 c = others c.args.self c.in_default.in_default-own.keys2
 
 pub is_known_spec : {M : Type 1} → statement M
 is_known_spec = tie.close (tie.spec (λ c. search rules) returns returns-2)

@@ -19,11 +19,11 @@ loop-again : tie.Need-loop-i-preserved invariant-loop decreases-loop
 loop-again c =
     let i = c.loop-i.i in
     let count = c.args.self.len in
-    check_turn c.loop-i.invariant c.loop-i-test.true (c.fits2.ensures ∙ sym (by_use_lem count i _ _))
+    check_turn c.loop-i.invariant c.loop-i-test.true (c.fits-fits.ensures ∙ sym (by_use_lem count i _ _))
 
 returns : tie.Need-returns invariant-loop decreases-loop
 unfolding negotiation_sound
-returns c = (rw (check_done c.loop-i.invariant c.loop-i-test.false), record { long = simp length-map at c.well-formed.0.1.1.0.1.0.1 })
+returns c = (rw (check_done c.loop-i.invariant c.loop-i-test.false), record { long = search rules })
 
 pub sound_spec : {M : Type 1} → statement M
 sound_spec =

@@ -20,7 +20,7 @@ loop-again c = check_turn c.loop-i.invariant c.loop-i-test.true c.zero-zero.ensu
 
 returns : tie.Need-returns invariant-loop decreases-loop
 unfolding negotiation_zero
-returns c = (ap (λ (b : Bool). ((b && eqb c.args.self.deadline 0) && eqb c.args.self.len 0) && eqb c.args.self.outcome 0) (check_done c.loop-i.invariant c.loop-i-test.false), record { long = simp length-map at c.well-formed.0.1.1.0.1.0.1 })
+returns c = (ap (λ (b : Bool). ((b && eqb c.args.self.deadline 0) && eqb c.args.self.len 0) && eqb c.args.self.outcome 0) (check_done c.loop-i.invariant c.loop-i-test.false), record { long = search rules })
 
 pub zero_spec : {M : Type 1} → statement M
 zero_spec =

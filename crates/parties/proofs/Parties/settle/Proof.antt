@@ -16,10 +16,10 @@ use Rattle.parties.proofs.Parties.settle.Tie as tie
 
 -- what is seen at the two ids
 module _ (a b : ℕ) (u : Table Account) where
-  first-of : {p : Parties} → p ≡ parties_of a b u → p.first-1 ≡ seen_in u a
+  first-of : {p : Parties} → p ≡ parties_of a b u → p.first ≡ seen_in u a
   first-of e = ap (λ (z : Parties). z.first) e
 
-  second-of : {p : Parties} → p ≡ parties_of a b u → p.second-1 ≡ seen_in u b
+  second-of : {p : Parties} → p ≡ parties_of a b u → p.second ≡ seen_in u b
   second-of e = ap (λ (z : Parties). z.second) e
 
 module _ (c : tie.After-debit-p) (a b : ℕ) (u : Table Account) (e : c.args.self ≡ parties_of a b u) where

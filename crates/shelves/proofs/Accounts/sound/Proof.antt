@@ -26,7 +26,7 @@ returns : tie.Need-returns invariant-loop decreases-loop
 unfolding accounts_test
 returns c = (
   both_same c.ids_sound-ids.ensures (check_done c.loop-i.invariant c.loop-i-test.false),
-  record { ids_long = search rules; rows_long = simp length-map at c.well-formed.0.1.1.1.0.1.0.1 },
+  record { ids_long = search rules; rows_long = simp length-map at c.well_formed.0.1.1.1.0.1.0.1 },
 )
 
 pub sound_spec : {M : Type 1} → statement M

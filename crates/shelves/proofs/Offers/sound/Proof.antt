@@ -25,13 +25,13 @@ abbrev decreases-loop : tie.decreases-loop-i
 decreases-loop e self n t ok₀ i₀ ok i = 64 - i
 
 rows_long : (c : tie.Start invariant-loop decreases-loop) → length c.args.self.rows ≡ 64
-rows_long c = simp length-map at c.well-formed.0.1.1.1.0.1.0.1
+rows_long c = simp length-map at c.well_formed.0.1.1.1.0.1.0.1
 
 negotiations_long : (c : tie.Start invariant-loop decreases-loop) → length c.args.self.negotiations ≡ 64
-negotiations_long c = simp length-map at c.well-formed.0.1.1.1.1.0.1.0.1
+negotiations_long c = simp length-map at c.well_formed.0.1.1.1.1.0.1.0.1
 
 schedules_long : (c : tie.Start invariant-loop decreases-loop) → length c.args.self.schedules ≡ 64
-schedules_long c = simp length-map at c.well-formed.0.1.1.1.1.1.0.1.0.1
+schedules_long c = simp length-map at c.well_formed.0.1.1.1.1.1.0.1.0.1
 
 even : (c : tie.Start invariant-loop decreases-loop) → Level c.args.self.rows c.args.self.negotiations c.args.self.schedules
 even c = level _ _ _ (rows_long c) (negotiations_long c) (schedules_long c)

@@ -21,7 +21,7 @@ ids_long : (s : tie.Start invariant-loop decreases-loop) → length s.args.table
 ids_long s = search rules
 
 rows_long : (s : tie.Start invariant-loop decreases-loop) → length s.args.table.rows ≡ 64
-rows_long s = simp length-map at s.well-formed.1.1.1.0.1.1.1.0.1.0.1
+rows_long s = simp length-map at s.well_formed.1.1.1.0.1.1.1.0.1.0.1
 
 place : (c : tie.In-loop-i invariant-loop decreases-loop) → c.loop-i.i < 64
 place c = omega (arith, c.loop-i-test.true, c.requires)

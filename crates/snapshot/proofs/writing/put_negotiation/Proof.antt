@@ -11,7 +11,7 @@ use Rattle.snapshot.proofs.writing.put_negotiation.Tie as tie
 
 -- all places for rounds are there
 long : (s : tie.Start) → length s.args.row.rounds ≡ 16
-long s = simp length-map at s.well-formed.1.1.1.1.0.1.1.0.1.0.1
+long s = simp length-map at s.well_formed.1.1.1.1.0.1.1.0.1.0.1
 
 returns : tie.Need-returns
 unfolding negotiation

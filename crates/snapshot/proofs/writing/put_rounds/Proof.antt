@@ -18,7 +18,7 @@ decreases-loop out₀ ink e n list p₀ i₀ out p i = n - i
 
 -- the array has the n rounds
 has : (s : tie.Start invariant-loop decreases-loop) → s.args.n ≤ length s.args.list
-has s = omega (arith, s.requires, s.well-formed.1.1.1.1.1.0.1, limit_in_slots s.args.edition)
+has s = omega (arith, s.requires, s.well_formed.1.1.1.1.1.0.1, limit_in_slots s.args.edition)
 
 place : (c : tie.In-loop-i invariant-loop decreases-loop) → c.loop-i.i < 16
 place c = omega (arith, c.loop-i-test.true, c.requires, limit_in_slots c.args.edition)

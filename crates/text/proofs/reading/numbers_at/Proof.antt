@@ -22,7 +22,7 @@ decreases-loop s at n tags values₀ i₀ q₀ values i q = n - i
 
 -- the array has the n tags
 all : (s : tie.Start invariant-loop decreases-loop) → length (take s.args.n s.args.tags) ≡ s.args.n
-all s = length-take-le s.args.n s.args.tags (omega (arith, s.requires.1, s.well-formed.1.1.1.0.1))
+all s = length-take-le s.args.n s.args.tags (omega (arith, s.requires.1, s.well_formed.1.1.1.0.1))
 
 -- the number at hand
 hand : (c : tie.After-spaced-x invariant-loop decreases-loop) → spaced_in (get_or (take c.args.n c.args.tags) c.loop-i.i 0) (drop c.loop-i.invariant.1.0 (drop c.args.at c.args.s.now)) ≡ c.spaced-x.result

@@ -17,7 +17,7 @@ decreases-loop s at n name i₀ i = n - i
 
 -- the array has the n bytes
 all : (s : tie.Start invariant-loop decreases-loop) → length (take s.args.n s.args.name) ≡ s.args.n
-all s = length-take-le s.args.n s.args.name (omega (arith, s.requires.1, s.well-formed.1.1.1.0.1))
+all s = length-take-le s.args.n s.args.name (omega (arith, s.requires.1, s.well_formed.1.1.1.0.1))
 
 -- the bytes at hand, where the text has one
 left : (s : tie.Start invariant-loop decreases-loop) → length (drop s.args.at s.args.s.now) ≡ length s.args.s.now - s.args.at

@@ -16,7 +16,7 @@ decreases-loop out₀ ink n tags numbers p₀ i₀ out p i = n - i
 
 -- the array has the n tags
 all : (s : tie.Start invariant-loop decreases-loop) → length (take s.args.n s.args.tags) ≡ s.args.n
-all s = length-take-le s.args.n s.args.tags (omega (arith, s.requires, s.well-formed.1.1.1.1.0.1))
+all s = length-take-le s.args.n s.args.tags (omega (arith, s.requires, s.well_formed.1.1.1.1.0.1))
 
 loop-again : tie.Need-loop-i-preserved invariant-loop decreases-loop
 loop-again c =
