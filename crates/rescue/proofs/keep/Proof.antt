@@ -29,7 +29,7 @@ returns-2 c =
     let s = start e in
     let z : s.args.at + s.args.size - s.args.at ≡ s.args.size = omega arith in
     a_copy s.args.out.now s.args.p (w s) (not-false _ e.if-not-good.false-raw) (omega (arith, long s))
-    (placed_mid s.args.p (w s) s.args.out.now c.copy.new.to (omega (arith, long s, s.requires.1)) (rw (take-length (w s)) at (rw z at c.copy.ensures.1)))
+    (placed_mid s.args.p (w s) s.args.out.now c.copy.new.to (omega (arith, long s, s.requires.1)) (rw z at c.copy.ensures.1))
 
 pub keep_spec : {M : Type 1} → statement M
 keep_spec =

@@ -34,7 +34,7 @@ returns-2 c =
     let k = c.before in
     let o = good k in
     let a = (start k).args in
-    let w = short_out a.s.now a.out.now a.report-1.now o.good c.if-out-s.true in
+    let w = short_out a.s.now a.out.now a.report.now o.good c.if-out-s.true in
     (w.says, (w.clean, w.offsets))
 
 returns-3 : tie.Need-returns-then-report-count
@@ -42,44 +42,44 @@ returns-3 c =
     let k = c.before.before.before in
     let o = good k in
     let a = (start k).args in
-    let n = count-is a.s.now a.out.now a.report-1.now o c.if-out-s.false c.count.ensures in
-    let w = short_report a.s.now a.out.now a.report-1.now o.good c.if-out-s.false (omega (arith, n, c.if-report-count.true)) in
+    let n = count-is a.s.now a.out.now a.report.now o c.if-out-s.false c.count.ensures in
+    let w = short_report a.s.now a.out.now a.report.now o.good c.if-out-s.false (omega (arith, n, c.if-report-count.true)) in
     (w.says, (w.clean, w.offsets))
 
 copied : tie.Need-slice_bounds-copy-end
-copied c = let k = c in sym (long k)
+copied c = let k = c.before.before.before in sym (long k)
 
 copy-requires : tie.Need-copy-requires
-copy-requires c κs = let k = c in let o = good k in omega (arith, o, long k, c.if-out-s.false)
+copy-requires c κs = let k = c.before.before.before.before in let o = good k in omega (arith, o, long k, c.if-out-s.false)
 
 -- the header's bytes
-head : (c : tie.After-copy) → c.copy.new.to ≡ placed 0 (take (first c) (start c).args.s.now) (start c).args.out.now
+head : (c : tie.After-copy) → c.copy.new.to ≡ placed 0 (take (first c.before.before.before.before.before) (start c.before.before.before.before.before).args.s.now) (start c.before.before.before.before.before).args.out.now
 head c =
-    let k = c in
+    let k = c.before.before.before.before.before in
     let a = (start k).args in
-    head_is a.s.now a.out.now a.report-1.now (good k) c.if-out-s.false c.copy.ensures.1
+    head_is a.s.now a.out.now a.report.now (good k) c.if-out-s.false (rw (long k) at c.copy.ensures.1)
 
 enough : (c : tie.Else-report-count) → length (report_of (start c.before.before.before).args.s.now) ≤ length (start c.before.before.before).args.report.now
 enough c =
     let k = c.before.before.before in
     let a = (start k).args in
-    omega (arith, c.if-report-count.false, count-is a.s.now a.out.now a.report-1.now (good k) c.if-out-s.false c.count.ensures)
+    omega (arith, c.if-report-count.false, count-is a.s.now a.out.now a.report.now (good k) c.if-out-s.false c.count.ensures)
 
 sweep-requires : tie.Need-sweep-requires
 sweep-requires c κs =
     let y = c.before.before.before.before in
-    let k = y in
+    let k = y.before.before.before.before.before in
     let a = (start k).args in
-    let l = head_long a.s.now a.out.now a.report-1.now (good k) y.if-out-s.false (head y) in
+    let l = head_long a.s.now a.out.now a.report.now (good k) y.if-out-s.false (head y) in
     let o = good k in
     ((omega (arith, o), omega (arith, l, y.if-out-s.false)), omega (arith, y.if-report-count.false, y.count.ensures))
 
 returns-4 : tie.Need-returns
 returns-4 c =
     let y = c.before.before.before.before.before.before.before.before.before in
-    let k = y in
+    let k = y.before.before.before.before.before in
     let a = (start k).args in
-    let w = rescued a.s.now a.out.now a.report-1.now (good k) y.if-out-s.false (enough y.before.before.before) (head y) c.sweep.ensures in
+    let w = rescued a.s.now a.out.now a.report.now (good k) y.if-out-s.false (enough y.before.before) (head y) c.sweep.ensures in
     (w.says, (w.clean, w.offsets))
 
 pub rescue_spec : {M : Type 1} → statement M
