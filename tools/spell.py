@@ -107,7 +107,7 @@ def table():
         taken.setdefault(changed.get(name, name), []).append(name)
     for new, names in taken.items():
         if len(names) > 1:
-            names.sort(key=lambda it: not CAMEL.search(it))
+            names.sort(key=lambda it: (not CAMEL.search(it), "-" in it))
             for other in names[1:]:
                 changed[other] = new + "_lem"
     return changed

@@ -84,7 +84,7 @@ class Names:
             s = steps[i]
             key = plain(s)
             rest = steps[i + 1 :]
-            if s in ("before", "args", "ranges", "lifetimes", "well_formed", "now", "old", "new", "0", "1", "2", "3"):
+            if s in ("before", "args", "ranges", "lifetimes", "well_formed", "now", "old", "0", "1", "2", "3") or (i and s == "new"):
                 out.append(s)
                 i += 1
                 continue
@@ -146,7 +146,8 @@ class Graph:
 
     def old_up(self, i, n):
         for _ in range(n):
-            i = None if i is None else self.parent[i]
+            # an older graph had a few places more
+            i = i if i is None or self.parent[i] is None else self.parent[i]
         return i
 
     def depth(self, i, to):
@@ -252,6 +253,52 @@ def steps_back(body, env, graph):
         rest = rest[m.end() :]
 
 
+def by_type(body, env, helpers, graph):
+    """Where a lemma of the file takes a place, goes back as far as its type says."""
+    roots = {}
+    for m in re.finditer(rf"\blet ({WORD}) = ({WORD})((?:\.before)*) in\b", body):
+        base = roots.get(m[2], m[2] if m[2] in env else None)
+        if base:
+            roots[m[1]] = base
+    out, i = "", 0
+    names = "|".join(sorted((re.escape(h) for h in helpers), key=len, reverse=True))
+    if not names:
+        return body
+    call = re.compile(rf"(?<![^\s(\[,])({names})(?= )")
+    while True:
+        m = call.search(body, i)
+        if not m:
+            return out + body[i:]
+        out += body[i : m.end()]
+        i = m.end()
+        for place in helpers[m[1]]:
+            a = re.match(rf" ({WORD})((?:\.before)*)(?![\w'.-])", body[i:])
+            if not a:
+                break
+            base = roots.get(a[1], a[1] if a[1] in env else None)
+            if place is not None and base:
+                d = graph.depth(env[base], place)
+                if d is not None:
+                    out += " " + base + ".before" * d
+                    i += a.end()
+                    continue
+            out += a[0]
+            i += a.end()
+
+
+def helpers_of(text, graph):
+    found = {}
+    for block in blocks(text):
+        m = re.match(r"(?:(?:pub|abbrev|unfoldable) )*(" + WORD + r") :(.*?)\n(?=(?:unfolding .*\n)?" + r"\1(?= |$))", block + "\n", re.S) if not block.startswith(("use ", "--")) else None
+        if m:
+            places = [graph.of_type(it) for it in binders(m[2])]
+            while places and places[-1] is None:
+                places.pop()
+            if places and "tie.Need-" not in m[2]:
+                found[m[1]] = places
+    return found
+
+
 def blocks(text):
     """The declarations of a file: lines from one at the margin to the next signature."""
     found, now = [], []
@@ -265,6 +312,7 @@ def blocks(text):
 
 def walk_back(text, graph):
     out = []
+    helpers = helpers_of(text, graph)
     for block in blocks(text):
         m = re.match(r"(?:(?:pub|abbrev|unfoldable) )*(" + WORD + r") :(.*?)\n(?=(?:unfolding .*\n)?" + r"\1(?= |$))", block + "\n", re.S) if not block.startswith(("use ", "--")) else None
         if not m:
@@ -290,7 +338,7 @@ def walk_back(text, graph):
             i = graph.of_type(group[2])
             for p in group[1].split():
                 names[p] = i
-        head = (block + "\n")[: m.end()].replace(type_, steps_back(type_, names, graph), 1) + clause[0]
+        head = (block + "\n")[: m.end()].replace(type_, by_type(steps_back(type_, names, graph), {a: b for a, b in names.items() if b is not None}, helpers, graph), 1) + clause[0]
         at = rest.find("tie.spec")
         if at >= 0:
             inner = rest[at + len("tie.spec") :]
@@ -307,14 +355,14 @@ def walk_back(text, graph):
             for k, item in enumerate(goals):
                 lam = re.match(r"\(λ (" + WORD + r")((?: " + WORD + r")*)\. ?(.*)\)$", item, re.S)
                 if lam and len(goals) == len(graph.order):
-                    item = f"(λ {lam[1]}{lam[2]}. {steps_back(lam[3], {lam[1]: graph.order[k]}, graph)})"
+                    item = f"(λ {lam[1]}{lam[2]}. {by_type(steps_back(lam[3], {lam[1]: graph.order[k]}, graph), {lam[1]: graph.order[k]}, helpers, graph)})"
                 turned_goals.append(item)
             if len(goals) != len(graph.order):
                 MISMATCH.append((len(goals), len(graph.order)))
             rest = rest[: at + len("tie.spec")] + " " + " ".join(loops + turned_goals) + inner[end:]
             out.append(head + rest.rstrip("\n"))
             continue
-        out.append(head + steps_back(rest, env, graph).rstrip("\n") + ("\n" if block.endswith("\n") else ""))
+        out.append(head + by_type(steps_back(rest, env, graph), env, helpers, graph).rstrip("\n") + ("\n" if block.endswith("\n") else ""))
     return "\n".join(out)
 
 
@@ -338,6 +386,8 @@ def no_places(block):
     for m in re.finditer(rf"\blet ({WORD}) = {WORD}((?:\.{WORD})+) in\b", block):
         if any(it != "before" for it in m[2][1:].split(".")):
             found.add(m[1])
+    for m in re.finditer(rf"\blet ({WORD}) = \([^=]*?\)((?:\.{WORD})+) in\b", block):
+        found.add(m[1])
     for m in re.finditer(r"λ \((" + WORD + r") : [^λ]*?\)\.|λ (" + WORD + r"(?: " + WORD + r")*)\.", block):
         found.update({m[1]} if m[1] else set(m[2].split()) - ({"c"} if "tie.spec" in block else set()))
     m = re.match(r"(?:(?:pub|abbrev|unfoldable) )*(" + WORD + r") :(.*?)\n(?=(?:unfolding .*\n)?" + r"\1(?= |$))(?:unfolding .*\n)?\1((?: [^=\n]*?)?) =(?=\s)", block + "\n", re.S)
@@ -362,7 +412,7 @@ def renamed(block, names):
 
         def one(m):
             head, tail = m[1], m[2]
-            if head in apart or head[0].isupper():
+            if head in apart or head[0].isupper() or (head == ")" and not tail.startswith(".before")):
                 return m[0]
             if head == "tie":
                 first = tail[1:].split(".")
@@ -384,6 +434,9 @@ def renamed(block, names):
                 # of what holds the arguments
                 line = re.sub(r"(?<=[\w)'])" + re.escape(a[5:]) + r"(?![\w'-])", b[5:], line)
         line = re.sub(r"(?<=[\w)'])\.fits(?=\.)", ".ranges", line)
+        line = re.sub(r"(?<=[\w)'])\.(?:good|well-formed)(?=\.\d)", ".well_formed", line)
+        line = re.sub(r"simp length-map at (?:c|s)\.well_formed[.0-9]*", "search rules", line)
+        line = re.sub(r"(?<=[\w)'])\.pre(?![\w'-])", ".requires", line)
         out.append(line)
     return "\n".join(out)
 

@@ -1,5 +1,6 @@
 // The reader walks the caller's journal bytes where they are.
 #![tactic(auto)]
+
 ghost use Rattle.std.specs.Prelude.{◌≡◌};
 ghost use Rattle.journal.specs.Answers.{reading};
 ghost use Rattle.journal.specs.Format.{read_at};

@@ -14,7 +14,7 @@ use Rattle.sheet.specs.SheetLaws.{next, retext, none, kept}
 use Rattle.sheet.specs.Decimal.{space, newline}
 use Rattle.journal.specs.Table.{padded, sent}
 use Rattle.journal.specs.declared.writing.Parts.{Parts}
-use Rattle.text.specs.Names.{Name, commands, others, word_in_lem, word_of, is_command, spelt}
+use Rattle.text.specs.Names.{Name, commands, others, word_in, word_of, is_command, spelt}
 use Rattle.text.specs.Fields.{fields_for}
 use Rattle.text.specs.Line.{numeral_of, numerals_of, line_of}
 use Rattle.text.specs.declared.names.Spelling.{Spelling}
@@ -53,19 +53,19 @@ unfolding pick
 short_pick true v w h k = h
 short_pick false v w h k = k
 
-short_in : (ns : List Name) (t : ℕ) → all_short ns ≡ true → length (word_in_lem ns t) ≤ 18
-unfolding word_in_lem
+short_in : (ns : List Name) (t : ℕ) → all_short ns ≡ true → length (word_in ns t) ≤ 18
+unfolding word_in
 short_in [] t e = omega arith
 short_in (n ∷ ns) t e =
-    short_pick (eqb t n.tag) n.word (word_in_lem ns t) (leb-true (length n.word) 18 (and_left _ (all_short ns) e)) (short_in ns t (and_right (leb (length n.word) 18) _ e))
+    short_pick (eqb t n.tag) n.word (word_in ns t) (leb-true (length n.word) 18 (and_left _ (all_short ns) e)) (short_in ns t (and_right (leb (length n.word) 18) _ e))
 
 pub word_short : (t : ℕ) → length (word_of t) ≤ 18
 unfolding word_of
-word_short t = short_pick (is_command t) (word_in_lem commands t) (word_in_lem others t) (short_in commands t refl) (short_in others t refl)
+word_short t = short_pick (is_command t) (word_in commands t) (word_in others t) (short_in commands t refl) (short_in others t refl)
 
 -- the name in its array
-pub word_in : {r : Spelling} (w : List ℕ) → r ≡ spelt w → take r.0 r.1 ≡ w
-word_in w e = ap (λ (r : Spelling). take r.0 r.1) e ∙ take-append_seam w (replicate (18 - length w) 32)
+pub word_in_lem : {r : Spelling} (w : List ℕ) → r ≡ spelt w → take r.0 r.1 ≡ w
+word_in_lem w e = ap (λ (r : Spelling). take r.0 r.1) e ∙ take-append_seam w (replicate (18 - length w) 32)
 
 pub word_fits : {r : Spelling} (w : List ℕ) → r ≡ spelt w → r.0 ≤ length r.1
 word_fits w e = rw e (omega (arith, length-append w (replicate (18 - length w) 32)))

@@ -5,7 +5,7 @@ use Rattle.refusal.specs.Choice.{pick}
 use Rattle.wire.specs.FieldLaws.{and_left, and_right}
 use Rattle.sheet.specs.Decimal.{newline}
 use Rattle.journal.specs.HeldLaws.{Tops}
-use Rattle.text.specs.Names.{commands, word_in_lem, word_of}
+use Rattle.text.specs.Names.{commands, word_in, word_of}
 use Rattle.text.specs.NameLaws.{command_word}
 use Rattle.text.specs.Fields.{fields_for}
 use Rattle.text.specs.Line.{numerals_of, line_of}
@@ -18,7 +18,7 @@ use Rattle.text.specs.Trip.{Stands, Reads}
 
 -- a command's tag has a name, and its numbers are in range
 abbrev pub Good : ℕ → ℕ × List ℕ → Type 0
-Good e x = (0 < length (word_in_lem commands x.0)) × Tops (fields_for e x.0) x.1
+Good e x = (0 < length (word_in commands x.0)) × Tops (fields_for e x.0) x.1
 
 -- so has a line of any range of tags
 pub record Ranged (e from past : ℕ) (x : ℕ × List ℕ) : Type 0 where

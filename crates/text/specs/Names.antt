@@ -69,16 +69,16 @@ abbrev pub others : List Name
 others = name 0x10 (101 ∷ 100 ∷ 105 ∷ 116 ∷ 105 ∷ 111 ∷ 110 ∷ []) ∷ questions  -- edition
 
 -- the name of a tag, and none for a tag that the list has not
-unfoldable pub word_in_lem : List Name → ℕ → List ℕ
-word_in_lem [] t = []
-word_in_lem (n ∷ ns) t = pick (eqb t n.tag) n.word (word_in_lem ns t)
+unfoldable pub word_in : List Name → ℕ → List ℕ
+word_in [] t = []
+word_in (n ∷ ns) t = pick (eqb t n.tag) n.word (word_in ns t)
 
 -- the commands' tags lie above the edition's, and the questions' above them
 abbrev pub is_command : ℕ → Bool
 is_command t = leb 0x20 t && ltb t 0x60
 
 unfoldable pub word_of : ℕ → List ℕ
-word_of t = pick (is_command t) (word_in_lem commands t) (word_in_lem others t)
+word_of t = pick (is_command t) (word_in commands t) (word_in others t)
 
 -- in an array of eighteen, with spaces after it
 abbrev pub spelt : List ℕ → Spelling

@@ -4,7 +4,7 @@ use Rattle.std.proofs.Common.{sym, ◌∙◌, arith, eq-eqb, ne_eqb, eqb-true, l
 use Rattle.refusal.specs.Choice.{pick}
 use Rattle.refusal.specs.ChoiceLaws.{pick_on, pick_off}
 use Rattle.wire.specs.FieldLaws.{and_left, and_right}
-use Rattle.text.specs.Names.{Name, commands, questions, word_in_lem, word_of}
+use Rattle.text.specs.Names.{Name, commands, questions, word_in, word_of}
 use Rattle.text.specs.NameLaws.{all_pass, computed, command_word, question_word, is_command_lem}
 use Rattle.text.specs.Reading.{leads, is_named, tag_by, tag_in}
 
@@ -71,23 +71,23 @@ first_tag (suc n) k q z b h e = go (eqb k q) refl (first_tag n (k + 1) q z b h) 
 abbrev pub Found : ℕ → ℕ → ℕ → Type 0
 Found from past q = (z : List ℕ) → breaks (get_or z 0 0) ≡ true → tag_in from past (word_of q ++ z) ≡ q
 
-found : (from past : ℕ) (ns : List Name) (q : ℕ) → all_pass (is_first (past - from) from) ns ≡ true → word_of q ≡ word_in_lem ns q → 0 < length (word_in_lem ns q) → Found from past q
+found : (from past : ℕ) (ns : List Name) (q : ℕ) → all_pass (is_first (past - from) from) ns ≡ true → word_of q ≡ word_in ns q → 0 < length (word_in ns q) → Found from past q
 unfolding tag_in
 found from past ns q e w h z b = first_tag (past - from) from q z b (rw w h) (computed (is_first (past - from) from) ns q e h)
 
-pub command_found : (q : ℕ) → 0 < length (word_in_lem commands q) → Found 0x21 0x57 q
-unfolding is_first apart word_of word_in_lem pick
+pub command_found : (q : ℕ) → 0 < length (word_in commands q) → Found 0x21 0x57 q
+unfolding is_first apart word_of word_in pick
 command_found q h = found 0x21 0x57 commands q refl (command_word q (is_command_lem q h)) h
 
 -- the edition's name is told apart from each command's
 pub edition_found : Found 0x10 0x11 0x10
-unfolding is_first tag_in word_of word_in_lem pick
+unfolding is_first tag_in word_of word_in pick
 edition_found z b = first_tag 1 0x10 0x10 z b (omega arith) refl
 
-pub edition_not : (q : ℕ) (z : List ℕ) → 0 < length (word_in_lem commands q) → breaks (get_or z 0 0) ≡ true → tag_in 0x10 0x11 (word_of q ++ z) ≡ 0
-unfolding apart tag_in tag_by word_of word_in_lem pick
+pub edition_not : (q : ℕ) (z : List ℕ) → 0 < length (word_in commands q) → breaks (get_or z 0 0) ≡ true → tag_in 0x10 0x11 (word_of q ++ z) ≡ 0
+unfolding apart tag_in tag_by word_of word_in pick
 edition_not q z h b = pick_off _ _ (over 0x10 (word_of q) z b (computed (λ (k : ℕ). is_over 0x10 (word_of k)) commands q refl h))
 
-pub question_found : (q : ℕ) → 0 < length (word_in_lem questions q) → Found 0x61 0x80 q
-unfolding is_first apart word_of word_in_lem pick
+pub question_found : (q : ℕ) → 0 < length (word_in questions q) → Found 0x61 0x80 q
+unfolding is_first apart word_of word_in pick
 question_found q h = found 0x61 0x80 questions q refl (question_word q h) h

@@ -14,7 +14,7 @@ use Rattle.journal.specs.Faithful.{made_of}
 use Rattle.journal.specs.Canonical.{canonical}
 use Rattle.journal.specs.RoundTrip.{parts_back}
 use Rattle.journal.specs.ReadLaws.{at-end}
-use Rattle.text.specs.Names.{commands, word_in_lem}
+use Rattle.text.specs.Names.{commands, word_in}
 use Rattle.text.specs.NameLaws.{Each, ◌▸◌, each, is_command_lem}
 use Rattle.text.specs.FieldLaws.{command_fields}
 use Rattle.text.specs.Walk.{item}
@@ -25,8 +25,8 @@ use Rattle.text.specs.Trip.{Stands, Reads, Writes}
 use Rattle.text.specs.LineWay.{Good, parts_in, past_in, is_item}
 
 -- each command's tag has a name
-tag_word : (e : ℕ) (c : Command) → 0 < length (word_in_lem commands (parts_of e c).0)
-unfolding word_in_lem parts_of parts_with pick
+tag_word : (e : ℕ) (c : Command) → 0 < length (word_in commands (parts_of e c).0)
+unfolding word_in parts_of parts_with pick
 tag_word e (OpenAccount t c) = omega arith
 tag_word e (Deposit t c a) = omega arith
 tag_word e (Payout t c a) = omega arith
@@ -85,7 +85,7 @@ all_make e =
     ▸ (λ xs at next. (_, refl))
     ▸ tt
 
-makes : (e t : ℕ) → 0 < length (word_in_lem commands t) → Makes e t
+makes : (e t : ℕ) → 0 < length (word_in commands t) → Makes e t
 makes e t h = each (Makes e) commands t (all_make e) h
 
 -- ---- what stands in a journal

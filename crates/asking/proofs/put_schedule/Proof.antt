@@ -15,4 +15,4 @@ returns-2 c = retext c.put_reply.ensures (schedule_some c.args.words c.if-words-
 pub put_schedule_spec : {M : Type 1} → statement M
 put_schedule_spec =
     tie.close
-    (tie.spec (λ c. search rules) (λ c. search rules) (λ c κs. search rules) (λ c. search rules) returns (λ c κs. search rules) (λ c. search rules) returns-2)
+    (tie.spec (λ c. search rules) (λ c κs. search rules) (λ c. search rules) returns (λ c κs. search rules) (λ c. search rules) returns-2)

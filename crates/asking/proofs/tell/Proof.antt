@@ -38,7 +38,7 @@ line-had : (c : tie.Else-not-x invariant-loop decreases-loop) → Had (line_in 1
 line-had c = had _ c.line_at-x.ensures (not-false _ c.if-not-x.false)
 
 item-is : (c : tie.Else-not-x invariant-loop decreases-loop) → question_at (text_of c.before.before) (place c.before.before) ≡ item (line-had c).parts c.line_at-x.result.next
-item-is c = let d = c.before.before in at_line 1 0x61 0x80 (text_of d) (place d) d.loop-at-test.true ∙ (line-had c).is
+item-is c = let d = c.before.before in at_line 1 0x61 0x80 (text_of c.before.before) (place c.before.before) d.loop-at-test.true ∙ (line-had c).is
 
 ahead : (c : tie.Else-not-x invariant-loop decreases-loop) → (place c.before.before < c.line_at-x.result.next) × (c.line_at-x.result.next ≤ length (text_of c.before.before))
 ahead c = leads _ _ (onward 1 0x61 0x80 (text_of c.before.before)) (item-is c)
@@ -47,7 +47,7 @@ returns : tie.Need-returns-then-not-x invariant-loop decreases-loop
 returns c =
     let d = c.before.before in
     let l = d.loop-at in
-    let t = text_of d in
+    let t = text_of c.before.before in
     let e = at_line 1 0x61 0x80 t l.at d.loop-at-test.true in
     let g : d.line_at-x.result ≡ line_for (question_at t l.at) = rw e d.line_at-x.ensures in
     let f = had_not (length t) l.at (question_at t l.at) (onward 1 0x61 0x80 t l.at) d.loop-at-test.true g (not-true _ c.if-not-x.true) in
@@ -58,8 +58,8 @@ loop-again c =
     let b = c.before.before.before.before.before in
     let d = b.before.before in
     let l = d.loop-at in
-    let a = ahead b in
-    (a.1, (omega (arith, a.0, l.invariant.1.0), goes_on (onward 1 0x61 0x80 (text_of d)) l.invariant.1.1 (item-is b) (retext c.put_answer-pen.ensures (question_is _ (line-had b)))))
+    let a = ahead c.before.before.before.before.before in
+    (a.1, (omega (arith, a.0, l.invariant.1.0), goes_on (onward 1 0x61 0x80 (text_of c.before.before.before.before.before.before.before)) l.invariant.1.1 (item-is c.before.before.before.before.before) (retext c.put_answer-pen.ensures (question_is _ (line-had c.before.before.before.before.before)))))
 
 returns-2 : tie.Need-returns invariant-loop decreases-loop
 returns-2 c =

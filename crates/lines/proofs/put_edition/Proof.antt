@@ -11,4 +11,4 @@ returns c = next c.put-past.ensures c.put_numbers.ensures
 pub put_edition_spec : {M : Type 1} → statement M
 put_edition_spec =
     tie.close
-    (tie.spec (λ c. search rules) (λ c κs. search rules) (λ c. search rules) (λ c κs. search rules) (λ c. search rules) returns)
+    (tie.spec (λ c κs. search rules) (λ c. search rules) (λ c κs. search rules) (λ c. search rules) returns)

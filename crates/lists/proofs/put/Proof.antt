@@ -20,7 +20,7 @@ abbrev St : Type 0
 St = tie.Start invariant-loop decreases-loop
 
 kept : (s : St) (j : ℕ) → j ≤ length s.args.numbers.now → length (paste s.args.out.now s.args.at s.args.numbers.now j) ≡ length s.args.out.now
-kept s j h = length-paste s.args.out.now s.args.at s.args.numbers.now j (omega (arith, s.pre)) (omega arith)
+kept s j h = length-paste s.args.out.now s.args.at s.args.numbers.now j (omega (arith, s.requires)) (omega arith)
 
 loop-holds : tie.Need-loop-j-init invariant-loop decreases-loop
 loop-holds c = (omega arith, paste-zero c.args.out.now c.args.at c.args.numbers.now)

@@ -14,7 +14,7 @@ returns : tie.Need-returns-then-not-sound
 returns c = refuses reply book_unsound _ _ _ (ap not (sym c.sound.ensures.0) ∙ c.if-not-sound.true-raw)
 
 see-requires : tie.Need-see-seen-requires
-see-requires c κs = (c.sound.ensures.1 (not-false c.sound.result c.if-not-sound.false-raw)).offers-1
+see-requires c κs = (c.sound.ensures.1 (not-false c.sound.result c.if-not-sound.false-raw)).offers
 
 returns-2 : tie.Need-returns-then-not-seen
 returns-2 c = goes_on reply book_unsound _ _ _ (ap not (sym c.sound.ensures.0) ∙ c.if-not-sound.false-raw)

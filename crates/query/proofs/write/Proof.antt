@@ -32,14 +32,14 @@ abbrev id_at : St → ℕ → ℕ
 id_at s i = get_or s.args.questions.now (3 * i + 1) 0
 
 below-o : (c : tie.After-spot_by-offer_spot invariant-loop decreases-loop) → c.spot_by-offer_spot.result.at < 64
-below-o c = spot_below c.requires.0.offers.shelf (omega arith) (Id (id_at c c.loop-i.i)) c.spot_by-offer_spot.ensures
+below-o c = spot_below c.requires.0.offers.shelf (omega arith) (Id (id_at c.before.before.before.before.before.before.before.before.before.before.before.before.before.before c.loop-i.i)) c.spot_by-offer_spot.ensures
 
 below-a : (c : tie.After-spot_by-account_spot invariant-loop decreases-loop) → c.spot_by-account_spot.result.at < 64
-below-a c = spot_below c.requires.0.accounts (omega arith) (Id (id_at c c.loop-i.i)) c.spot_by-account_spot.ensures
+below-a c = spot_below c.requires.0.accounts (omega arith) (Id (id_at c.before.before.before.before.before.before.before.before.before.before.before.before.before.before.before.before.before.before.before.before.before c.loop-i.i)) c.spot_by-account_spot.ensures
 
-shown : (c : tie.After-at-account invariant-loop decreases-loop) (k : Table Invoice) → Shows (model_by c.args.book.accounts k c.args.book.offers c.args.book.totals c.args.book.settings) (id_at c c.loop-i.i) c.at-deal.result c.at-account.result c.args.book.totals c.args.book.settings c.args.book.offers.count
+shown : (c : tie.After-at-account invariant-loop decreases-loop) (k : Table Invoice) → Shows (model_by c.args.book.accounts k c.args.book.offers c.args.book.totals c.args.book.settings) (id_at c.before.before.before.before.before.before.before.before.before.before.before.before.before.before.before.before.before.before.before.before.before.before.before c.loop-i.i) c.at-deal.result c.at-account.result c.args.book.totals c.args.book.settings c.args.book.offers.count
 shown c k =
-    let s = c in
+    let s = c.before.before.before.before.before.before.before.before.before.before.before.before.before.before.before.before.before.before.before.before.before.before.before in
     let key = Id (id_at s c.loop-i.i) in
     record {
       deal_seen = c.at-deal.ensures ∙ ap seen_deal (sym (deal_read_lem s.requires.0.offers _ _ _ key c.spot_by-offer_spot.ensures));
@@ -75,7 +75,7 @@ element-copy-out-account-row c = omega (arith, below-a c)
 
 mul-put : tie.Need-overflow_mul-i invariant-loop decreases-loop
 mul-put c =
-    let s = c in
+    let s = c.before.before.before.before.before.before.before.before.before.before.before.before.before.before.before.before.before.before.before.before.before.before.before.before.before in
     omega (arith, reply_room (c.loop-i.invariant []) s.requires.1 c.loop-i-test.true, reply_length (c.loop-i.invariant []) s.requires.1, s.well_formed.1.1.0.0)
 
 put-requires : tie.Need-put-requires invariant-loop decreases-loop
@@ -94,7 +94,7 @@ loop-less c = omega (arith, c.loop-i-test.true)
 
 loop-again : tie.Need-loop-i-preserved invariant-loop decreases-loop
 loop-again c k =
-    let s = c in
+    let s = c.before.before.before.before.before.before.before.before.before.before.before.before.before.before.before.before.before.before.before.before.before.before.before.before.before.before.before.before.before in
     reply_on (c.loop-i.invariant k) s.requires.1 c.loop-i-test.true (c.answer-words.ensures _ (shown c.before.before.before.before.before.before k)) c.put.ensures
 
 same_length : tie.Need-shape_of-out invariant-loop decreases-loop

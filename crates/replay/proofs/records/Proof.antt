@@ -64,49 +64,49 @@ more : (c : tie.After-names-names invariant-loop2 decreases-loop2 invariant-loop
 more c = omega (arith, c.loop-c.invariant.plays.stand.few, ahead _ _ _ (record-read c))
 
 below-o : (c : tie.After-spot_by-po invariant-loop2 decreases-loop2 invariant-loop decreases-loop) → c.spot_by-po.result.at < 64
-below-o c = spot_below (shelved c.before.before.before.before).offers-1.shelf (omega arith) c.names-names.result.offer c.spot_by-po.ensures
+below-o c = spot_below (shelved c.before.before.before).offers.shelf (omega arith) c.names-names.result.offer c.spot_by-po.ensures
 
 seen-o : (c : tie.Joined-po invariant-loop2 decreases-loop2 invariant-loop decreases-loop) → seen_as c.spot_by-po.result.here c.if-po.deal ≡ offer_by (model_of (book_by c.loop-c.accounts c.loop-c.invoices c.loop-c.offers c.loop-c.totals c.loop-c.settings)) c.names-names.result.offer
-seen-o c = ⊎_elim (λ t. deal_here (shelved c.before.before.before.before.before.before).offers-1 _ _ _ c.names-names.result.offer c.spot_by-po.ensures t.0.taken t.4) (λ l. deal_away (shelved c.before.before.before.before.before.before).offers-1 no_deal.offer-1 no_deal.negotiation no_deal.schedule c.names-names.result.offer c.spot_by-po.ensures l.0.left (l.1 ∙ c.none-deal.ensures)) c.if-po.branch
+seen-o c = ⊎_elim (λ t. deal_here (shelved c.before.before.before.before.before).offers _ _ _ c.names-names.result.offer c.spot_by-po.ensures t.0.taken t.4) (λ l. deal_away (shelved c.before.before.before.before.before).offers no_deal.offer-1 no_deal.negotiation no_deal.schedule c.names-names.result.offer c.spot_by-po.ensures l.0.left (l.1 ∙ c.none-deal.ensures)) c.if-po.branch
 
 below-i : (c : tie.After-spot_by-pi invariant-loop2 decreases-loop2 invariant-loop decreases-loop) → c.spot_by-pi.result.at < 64
-below-i c = spot_below (shelved c).invoices-1 (omega arith) c.key-key.result c.spot_by-pi.ensures
+below-i c = spot_below (shelved c.before.before.before.before.before.before.before.before.before).invoices (omega arith) c.key-key.result c.spot_by-pi.ensures
 
 seen-i : (c : tie.After-at-seen invariant-loop2 decreases-loop2 invariant-loop decreases-loop) → c.at-seen.result ≡ invoice_by (model_of (book_by c.loop-c.accounts c.loop-c.invoices c.loop-c.offers c.loop-c.totals c.loop-c.settings)) c.key-key.result
-seen-i c = c.at-seen.ensures ∙ ap seen_invoice (sym (spot_found (shelved c).invoices-1 (omega arith) c.key-key.result c.spot_by-pi.ensures))
+seen-i c = c.at-seen.ensures ∙ ap seen_invoice (sym (spot_found (shelved c.before.before.before.before.before.before.before.before.before.before.before).invoices (omega arith) c.key-key.result c.spot_by-pi.ensures))
 
 below-a : (c : tie.After-spot_by-pa invariant-loop2 decreases-loop2 invariant-loop decreases-loop) → c.spot_by-pa.result.at < 64
-below-a c = spot_below (shelved c).accounts-1 (omega arith) c.names-names.result.first c.spot_by-pa.ensures
+below-a c = spot_below (shelved c.before.before.before.before.before.before.before.before.before.before.before.before.before.before.before).accounts (omega arith) c.names-names.result.first c.spot_by-pa.ensures
 
 seen-a : (c : tie.After-at-sa invariant-loop2 decreases-loop2 invariant-loop decreases-loop) → c.at-sa.result ≡ account_by (model_of (book_by c.loop-c.accounts c.loop-c.invoices c.loop-c.offers c.loop-c.totals c.loop-c.settings)) c.names-names.result.first
-seen-a c = c.at-sa.ensures ∙ ap seen_account (sym (spot_found (shelved c).accounts-1 (omega arith) c.names-names.result.first c.spot_by-pa.ensures))
+seen-a c = c.at-sa.ensures ∙ ap seen_account (sym (spot_found (shelved c.before.before.before.before.before.before.before.before.before.before.before.before.before.before.before.before.before).accounts (omega arith) c.names-names.result.first c.spot_by-pa.ensures))
 
 below-b : (c : tie.After-spot_by-pb invariant-loop2 decreases-loop2 invariant-loop decreases-loop) → c.spot_by-pb.result.at < 64
-below-b c = spot_below (shelved c.before.before.before.before.before.before.before.before.before.before.before.before.before.before.before.before.before.before.before.before.before.before).accounts-1 (omega arith) c.key-kb.result c.spot_by-pb.ensures
+below-b c = spot_below (shelved c.before.before.before.before.before.before.before.before.before.before.before.before.before.before.before.before.before.before.before.before).accounts (omega arith) c.key-kb.result c.spot_by-pb.ensures
 
 seen_b : (c : tie.After-at-sb invariant-loop2 decreases-loop2 invariant-loop decreases-loop) → c.at-sb.result ≡ account_by (model_of (book_by c.loop-c.accounts c.loop-c.invoices c.loop-c.offers c.loop-c.totals c.loop-c.settings)) c.key-kb.result
-seen_b c = c.at-sb.ensures ∙ ap seen_account (sym (spot_found (shelved c.before.before.before.before.before.before.before.before.before.before.before.before.before.before.before.before.before.before.before.before.before.before.before.before).accounts-1 (omega arith) c.key-kb.result c.spot_by-pb.ensures))
+seen_b c = c.at-sb.ensures ∙ ap seen_account (sym (spot_found (shelved c.before.before.before.before.before.before.before.before.before.before.before.before.before.before.before.before.before.before.before.before.before.before).accounts (omega arith) c.key-kb.result c.spot_by-pb.ensures))
 
 step : (c : tie.After-turn-turn invariant-loop2 decreases-loop2 invariant-loop decreases-loop) → Turned (book_by c.loop-c.accounts c.loop-c.invoices c.loop-c.offers c.loop-c.totals c.loop-c.settings) c.in-Command.c (keys_by c.names-names.result.first c.key-kb.result c.key-key.result c.names-names.result.offer) c.turn-turn.result
-step c = turned (shelved c.before.before.before.before.before.before.before.before.before.before.before.before.before.before.before.before.before.before.before.before.before.before.before.before.before.before) (fetched c.names-names.ensures (seen-o c.before.before.before.before.before.before.before.before.before.before.before.before.before.before.before.before.before.before.before.before.before.before) c.key-key.ensures (seen-i c.before.before.before.before.before.before.before.before.before.before.before.before.before.before.before) c.key-kb.ensures (seen-a c.before.before.before.before.before.before.before.before) (seen_b c.before.before) c.same-one.ensures) (counts_by_lem (shelved c.before.before.before.before.before.before.before.before.before.before.before.before.before.before.before.before.before.before.before.before.before.before.before.before.before.before)) c.turn-turn.ensures
+step c = turned (shelved c.before.before.before.before.before.before.before.before.before.before.before.before.before.before.before.before.before.before.before.before.before.before.before.before) (fetched c.names-names.ensures (seen-o c.before.before.before.before.before.before.before.before.before.before.before.before.before.before.before.before.before.before.before) c.key-key.ensures (seen-i c.before.before.before.before.before.before.before.before.before.before.before.before.before) c.key-kb.ensures (seen-a c.before.before.before.before.before.before.before) (seen_b c.before.before) c.same-one.ensures) (counts_by_lem (shelved c.before.before.before.before.before.before.before.before.before.before.before.before.before.before.before.before.before.before.before.before.before.before.before.before)) c.turn-turn.ensures
 
-left-a : (c : tie.After-turn-turn invariant-loop2 decreases-loop2 invariant-loop decreases-loop) → Left 64 account_row (accounts_of c.loop-c.accounts) (next (step c)).accounts-1 c.names-names.result.first c.key-kb.result c.spot_by-pa.result.here c.turn-turn.result.near.parties.first.here c.turn-turn.result.near.parties.first.row c.turn-turn.result.near.parties.second.row
-left-a c = accounts_left (step c) (was_by _ _ (spot_found (shelved c.before.before.before.before.before.before.before.before.before.before.before.before.before.before.before.before.before.before.before.before.before.before.before.before.before.before).accounts-1 (omega arith) c.names-names.result.first c.spot_by-pa.ensures))
+left-a : (c : tie.After-turn-turn invariant-loop2 decreases-loop2 invariant-loop decreases-loop) → Left 64 account_row (accounts_of c.loop-c.accounts) (next (step c)).accounts c.names-names.result.first c.key-kb.result c.spot_by-pa.result.here c.turn-turn.result.near.parties.first.here c.turn-turn.result.near.parties.first.row c.turn-turn.result.near.parties.second.row
+left-a c = accounts_left (step c) (was_by _ _ (spot_found (shelved c.before.before.before.before.before.before.before.before.before.before.before.before.before.before.before.before.before.before.before.before.before.before.before.before).accounts (omega arith) c.names-names.result.first c.spot_by-pa.ensures))
 
-left-i : (c : tie.After-turn-turn invariant-loop2 decreases-loop2 invariant-loop decreases-loop) → Left 64 invoice_row (invoices_of c.loop-c.invoices) (next (step c)).invoices-1 c.key-key.result c.key-key.result c.spot_by-pi.result.here c.turn-turn.result.near.paper.here c.turn-turn.result.near.paper.row c.turn-turn.result.near.paper.row
-left-i c = invoices_left (step c) (was_by _ _ (spot_found (shelved c.before.before.before.before.before.before.before.before.before.before.before.before.before.before.before.before.before.before.before.before.before.before.before.before.before.before).invoices-1 (omega arith) c.key-key.result c.spot_by-pi.ensures))
+left-i : (c : tie.After-turn-turn invariant-loop2 decreases-loop2 invariant-loop decreases-loop) → Left 64 invoice_row (invoices_of c.loop-c.invoices) (next (step c)).invoices c.key-key.result c.key-key.result c.spot_by-pi.result.here c.turn-turn.result.near.paper.here c.turn-turn.result.near.paper.row c.turn-turn.result.near.paper.row
+left-i c = invoices_left (step c) (was_by _ _ (spot_found (shelved c.before.before.before.before.before.before.before.before.before.before.before.before.before.before.before.before.before.before.before.before.before.before.before.before).invoices (omega arith) c.key-key.result c.spot_by-pi.ensures))
 
-left-o : (c : tie.After-turn-turn invariant-loop2 decreases-loop2 invariant-loop decreases-loop) → Left 64 deal_row (deals_of c.loop-c.offers) (next (step c)).offers-1 c.names-names.result.offer c.names-names.result.offer c.spot_by-po.result.here c.turn-turn.result.near.deal.here c.turn-turn.result.near.deal.row c.turn-turn.result.near.deal.row
-left-o c = offers_left (step c) (was_by _ _ (deal_read_lem (shelved c.before.before.before.before.before.before.before.before.before.before.before.before.before.before.before.before.before.before.before.before.before.before.before.before.before.before).offers-1 no_deal.offer-1 no_deal.negotiation no_deal.schedule c.names-names.result.offer c.spot_by-po.ensures))
+left-o : (c : tie.After-turn-turn invariant-loop2 decreases-loop2 invariant-loop decreases-loop) → Left 64 deal_row (deals_of c.loop-c.offers) (next (step c)).offers c.names-names.result.offer c.names-names.result.offer c.spot_by-po.result.here c.turn-turn.result.near.deal.here c.turn-turn.result.near.deal.row c.turn-turn.result.near.deal.row
+left-o c = offers_left (step c) (was_by _ _ (deal_read_lem (shelved c.before.before.before.before.before.before.before.before.before.before.before.before.before.before.before.before.before.before.before.before.before.before.before.before).offers no_deal.offer-1 no_deal.negotiation no_deal.schedule c.names-names.result.offer c.spot_by-po.ensures))
 
 wrote-a : (c : tie.After-over-ma invariant-loop2 decreases-loop2 invariant-loop decreases-loop) → as_accounts c.loop-c.accounts.ids (set (set c.loop-c.accounts.rows c.spot_by-pb.result.at c.over-mb.result) c.spot_by-pa.result.at c.over-ma.result) c.loop-c.accounts.count ≡ stored_accounts (put_by (put_by (accounts_of c.loop-c.accounts) c.key-kb.result c.turn-turn.result.near.parties.second.row) c.names-names.result.first c.turn-turn.result.near.parties.first.row)
-wrote-a c = accounts_wrote (shelved c.before.before.before.before.before.before.before.before.before.before.before.before.before.before.before.before.before.before.before.before.before.before.before.before.before.before.before.before.before.before.before.before.before.before.before.before.before).accounts-1 c.names-names.result.first c.key-kb.result c.spot_by-pa.ensures c.spot_by-pb.ensures c.turn-turn.result.near.parties.first.row c.turn-turn.result.near.parties.second.row c.over-mb.ensures c.over-ma.ensures
+wrote-a c = accounts_wrote (shelved c.before.before.before.before.before.before.before.before.before.before.before.before.before.before.before.before.before.before.before.before.before.before.before.before.before.before.before.before.before.before.before.before.before.before.before).accounts c.names-names.result.first c.key-kb.result c.spot_by-pa.ensures c.spot_by-pb.ensures c.turn-turn.result.near.parties.first.row c.turn-turn.result.near.parties.second.row c.over-mb.ensures c.over-ma.ensures
 
 wrote-i : (c : tie.After-over-mi invariant-loop2 decreases-loop2 invariant-loop decreases-loop) → as_invoices c.loop-c.invoices.ids (set c.loop-c.invoices.rows c.spot_by-pi.result.at c.over-mi.result) c.loop-c.invoices.count ≡ stored_invoices (put_by (put_by (invoices_of c.loop-c.invoices) c.key-key.result c.turn-turn.result.near.paper.row) c.key-key.result c.turn-turn.result.near.paper.row)
-wrote-i c = once stored_invoices (invoices_of c.loop-c.invoices) c.key-key.result c.turn-turn.result.near.paper.row (invoice_wrote (shelved c.before.before.before.before.before.before.before.before.before.before.before.before.before.before.before.before.before.before.before.before.before.before.before.before.before.before.before.before.before.before.before.before.before.before.before.before.before.before.before).invoices-1 c.key-key.result c.spot_by-pi.ensures c.turn-turn.result.near.paper.row c.over-mi.ensures)
+wrote-i c = once stored_invoices (invoices_of c.loop-c.invoices) c.key-key.result c.turn-turn.result.near.paper.row (invoice_wrote (shelved c.before.before.before.before.before.before.before.before.before.before.before.before.before.before.before.before.before.before.before.before.before.before.before.before.before.before.before.before.before.before.before.before.before.before.before.before.before).invoices c.key-key.result c.spot_by-pi.ensures c.turn-turn.result.near.paper.row c.over-mi.ensures)
 
 wrote-o : (c : tie.Joined-po-2 invariant-loop2 decreases-loop2 invariant-loop decreases-loop) → c.if-po-2.offers ≡ stored_deals (put_by (put_by (deals_of c.loop-c.offers) c.names-names.result.offer c.turn-turn.result.near.deal.row) c.names-names.result.offer c.turn-turn.result.near.deal.row)
-wrote-o c = once stored_deals (deals_of c.loop-c.offers) c.names-names.result.offer c.turn-turn.result.near.deal.row (⊎_elim (λ t. t.4 ∙ deal_there (shelved c.before.before.before.before.before.before.before.before.before.before.before.before.before.before.before.before.before.before.before.before.before.before.before.before.before.before.before.before.before.before.before.before.before.before.before.before.before.before.before.before).offers-1 no_deal.offer-1 no_deal.negotiation no_deal.schedule c.names-names.result.offer c.spot_by-po.ensures c.turn-turn.result.near.deal.row t.0.taken) (λ l. l.1 ∙ deal_gone (shelved c.before.before.before.before.before.before.before.before.before.before.before.before.before.before.before.before.before.before.before.before.before.before.before.before.before.before.before.before.before.before.before.before.before.before.before.before.before.before.before.before).offers-1 no_deal.offer-1 no_deal.negotiation no_deal.schedule c.names-names.result.offer c.spot_by-po.ensures c.turn-turn.result.near.deal.row l.0.left) c.if-po-2.branch)
+wrote-o c = once stored_deals (deals_of c.loop-c.offers) c.names-names.result.offer c.turn-turn.result.near.deal.row (⊎_elim (λ t. t.4 ∙ deal_there (shelved c.before.before.before.before.before.before.before.before.before.before.before.before.before.before.before.before.before.before.before.before.before.before.before.before.before.before.before.before.before.before.before.before.before.before.before.before.before.before).offers no_deal.offer-1 no_deal.negotiation no_deal.schedule c.names-names.result.offer c.spot_by-po.ensures c.turn-turn.result.near.deal.row t.0.taken) (λ l. l.1 ∙ deal_gone (shelved c.before.before.before.before.before.before.before.before.before.before.before.before.before.before.before.before.before.before.before.before.before.before.before.before.before.before.before.before.before.before.before.before.before.before.before.before.before.before).offers no_deal.offer-1 no_deal.negotiation no_deal.schedule c.names-names.result.offer c.spot_by-po.ensures c.turn-turn.result.near.deal.row l.0.left) c.if-po-2.branch)
 
 ids-o : (c : tie.Joined-po-2 invariant-loop2 decreases-loop2 invariant-loop decreases-loop) → c.if-po-2.offers.ids ≡ c.loop-c.offers.ids
 ids-o c = ⊎_elim (λ t. ap (λ z. z.ids) t.4) (λ l. ap (λ z. z.ids) l.1) c.if-po-2.branch
@@ -114,10 +114,10 @@ ids-o c = ⊎_elim (λ t. ap (λ z. z.ids) t.4) (λ l. ap (λ z. z.ids) l.1) c.i
 count-o : (c : tie.Joined-po-2 invariant-loop2 decreases-loop2 invariant-loop decreases-loop) → c.if-po-2.offers.count ≡ c.loop-c.offers.count
 count-o c = ⊎_elim (λ t. ap (λ z. z.count) t.4) (λ l. ap (λ z. z.count) l.1) c.if-po-2.branch
 
-stored-a : (c : tie.Joined-pa-turn invariant-loop2 decreases-loop2 invariant-loop decreases-loop) → c.if-pa-turn.accounts ≡ stored_accounts (next (step c.before.before.before.before.before.before.before.before.before.before.before.before.before.before.before.before.before)).accounts-1
+stored-a : (c : tie.Joined-pa-turn invariant-loop2 decreases-loop2 invariant-loop decreases-loop) → c.if-pa-turn.accounts ≡ stored_accounts (next (step c.before.before.before.before.before.before.before.before.before.before.before.before.before.before.before.before.before)).accounts
 stored-a c = ⊎_elim (λ x. grows accounts_keeping account_row (λ r. refl) (left-a c.before.before.before.before.before.before.before.before.before.before.before.before.before.before.before.before.before) (wrote-a c.before.before.before.before.before.before) x.0.taken (x.3 ∙ (simp x.1.ensures at x.2.ensures) (room accounts_keeping account_row (λ r. refl) (left-a c.before.before.before.before.before.before.before.before.before.before.before.before.before.before.before.before.before) (wrote-a c.before.before.before.before.before.before) x.0.taken))) (λ x. x.1 ∙ stays accounts_keeping account_row (λ r. refl) (left-a c.before.before.before.before.before.before.before.before.before.before.before.before.before.before.before.before.before) (wrote-a c.before.before.before.before.before.before) x.0.left) c.if-pa-turn.branch
 
-stored-i : (c : tie.Joined-pi-turn invariant-loop2 decreases-loop2 invariant-loop decreases-loop) → c.if-pi-turn.invoices ≡ stored_invoices (next (step c.before.before.before.before.before.before.before.before.before.before.before.before.before.before.before.before.before.before.before.before)).invoices-1
+stored-i : (c : tie.Joined-pi-turn invariant-loop2 decreases-loop2 invariant-loop decreases-loop) → c.if-pi-turn.invoices ≡ stored_invoices (next (step c.before.before.before.before.before.before.before.before.before.before.before.before.before.before.before.before.before.before.before.before)).invoices
 stored-i c = ⊎_elim (λ x. grows invoices_keeping invoice_row (λ r. refl) (left-i c.before.before.before.before.before.before.before.before.before.before.before.before.before.before.before.before.before.before.before.before) (wrote-i c.before.before.before.before.before.before.before) x.0.taken (x.3 ∙ (simp x.1.ensures at x.2.ensures) (room invoices_keeping invoice_row (λ r. refl) (left-i c.before.before.before.before.before.before.before.before.before.before.before.before.before.before.before.before.before.before.before.before) (wrote-i c.before.before.before.before.before.before.before) x.0.taken))) (λ x. x.1 ∙ stays invoices_keeping invoice_row (λ r. refl) (left-i c.before.before.before.before.before.before.before.before.before.before.before.before.before.before.before.before.before.before.before.before) (wrote-i c.before.before.before.before.before.before.before) x.0.left) c.if-pi-turn.branch
 
 few-o : (c : tie.Then-po-turn invariant-loop2 decreases-loop2 invariant-loop decreases-loop) → c.if-po-2.offers.count < 64
@@ -126,7 +126,7 @@ few-o c = room_count (good deals_keeping deal_row (λ r. refl) (left-o c.before.
 slot-o : (c : tie.Then-po-turn invariant-loop2 decreases-loop2 invariant-loop decreases-loop) → find_in (take c.if-po-2.offers.count c.if-po-2.offers.ids) (id_of c.names-names.result.offer) ≡ Absent c.spot_by-po.result.slot
 slot-o c = ap (λ n. find_in (take n c.if-po-2.offers.ids) (id_of c.names-names.result.offer)) (count-o c.before.before.before.before.before.before.before.before.before) ∙ ap (λ l. find_in (take c.loop-c.offers.count l) (id_of c.names-names.result.offer)) (ids-o c.before.before.before.before.before.before.before.before.before) ∙ spot_slot _ c.names-names.result.offer c.spot_by-po.ensures (named deals_keeping deal_row (λ r. refl) (left-o c.before.before.before.before.before.before.before.before.before.before.before.before.before.before.before.before.before.before.before.before.before.before.before) (wrote-o c.before.before.before.before.before.before.before.before.before) c.if-po-turn.true) (came_new _ _ c.if-po-turn.true)
 
-stored-o : (c : tie.Joined-po-turn invariant-loop2 decreases-loop2 invariant-loop decreases-loop) → c.if-po-turn.offers ≡ stored_deals (next (step c.before.before.before.before.before.before.before.before.before.before.before.before.before.before.before.before.before.before.before.before.before.before.before)).offers-1
+stored-o : (c : tie.Joined-po-turn invariant-loop2 decreases-loop2 invariant-loop decreases-loop) → c.if-po-turn.offers ≡ stored_deals (next (step c.before.before.before.before.before.before.before.before.before.before.before.before.before.before.before.before.before.before.before.before.before.before.before)).offers
 stored-o c = ⊎_elim (λ x. grows deals_keeping deal_row (λ r. refl) (left-o c.before.before.before.before.before.before.before.before.before.before.before.before.before.before.before.before.before.before.before.before.before.before.before) (wrote-o c.before.before.before.before.before.before.before.before.before) x.0.taken (x.7 ∙ deal_let_in x.1.inv (good deals_keeping deal_row (λ r. refl) (left-o c.before.before.before.before.before.before.before.before.before.before.before.before.before.before.before.before.before.before.before.before.before.before.before) (wrote-o c.before.before.before.before.before.before.before.before.before)) x.6.result c.turn-turn.result.near.deal.row (few-o (record { before = c.before; if5 = x.0 })) (rw x.6.ensures (slot-o (record { before = c.before; if5 = x.0 }))) (omega (arith, x.2.left)) ∙ ap (λ z. stored_deals (insert (deals_of c.if-po-2.offers) z c.turn-turn.result.near.deal.row)) x.6.ensures)) (λ x. x.1 ∙ stays deals_keeping deal_row (λ r. refl) (left-o c.before.before.before.before.before.before.before.before.before.before.before.before.before.before.before.before.before.before.before.before.before.before.before) (wrote-o c.before.before.before.before.before.before.before.before.before) x.0.left) c.if-po-turn.branch
 
 loop-holds : tie.Need-loop-c-init invariant-loop2 decreases-loop2 invariant-loop decreases-loop
@@ -214,7 +214,7 @@ turn-requires : tie.Need-turn-turn-requires invariant-loop2 decreases-loop2 inva
 turn-requires c κs = search rules
 
 add-put-answer : tie.Need-overflow_add-k invariant-loop2 decreases-loop2 invariant-loop decreases-loop
-add-put-answer c = more c.before.before.before.before.before.before.before.before.before.before.before.before.before.before.before.before.before.before.before.before.before.before.before.before.before.before.before
+add-put-answer c = more c.before.before.before.before.before.before.before.before.before.before.before.before.before.before.before.before.before.before.before.before.before.before.before.before.before
 
 put-answer-requires : tie.Need-put_answer-pen-requires invariant-loop2 decreases-loop2 invariant-loop decreases-loop
 put-answer-requires c κs = search rules
@@ -229,46 +229,46 @@ element-set-from-mb : tie.Need-bounds-accounts-ib-in-Command invariant-loop2 dec
 element-set-from-mb c = omega (arith, below-b c.before.before.before.before.before.before.before.before.before.before.before.before)
 
 mul-old : tie.Need-offset_bounds-accounts-ia-in-Command invariant-loop2 decreases-loop2 invariant-loop decreases-loop
-mul-old c = omega (arith, below-a c.before.before.before.before.before.before.before.before.before.before.before.before.before.before.before.before.before.before)
+mul-old c = omega (arith, below-a c.before.before.before.before.before.before.before.before.before.before.before.before.before.before.before.before.before)
 
 element-copy-out-old : tie.Need-bounds-accounts-ia-in-Command invariant-loop2 decreases-loop2 invariant-loop decreases-loop
-element-copy-out-old c = omega (arith, below-a c.before.before.before.before.before.before.before.before.before.before.before.before.before.before.before.before.before.before)
+element-copy-out-old c = omega (arith, below-a c.before.before.before.before.before.before.before.before.before.before.before.before.before.before.before.before.before)
 
 over-requires-2 : tie.Need-over-ma-requires invariant-loop2 decreases-loop2 invariant-loop decreases-loop
 over-requires-2 c κs = search rules
 
 mul-ma : tie.Need-offset_bounds-accounts-ia-in-Command-2 invariant-loop2 decreases-loop2 invariant-loop decreases-loop
-mul-ma c = omega (arith, below-a c.before.before.before.before.before.before.before.before.before.before.before.before.before.before.before.before.before.before.before.before.before)
+mul-ma c = omega (arith, below-a c.before.before.before.before.before.before.before.before.before.before.before.before.before.before.before.before.before.before.before.before)
 
 element-set-from-ma : tie.Need-bounds-accounts-ia-in-Command-2 invariant-loop2 decreases-loop2 invariant-loop decreases-loop
-element-set-from-ma c = omega (arith, below-a c.before.before.before.before.before.before.before.before.before.before.before.before.before.before.before.before.before.before.before.before.before)
+element-set-from-ma c = omega (arith, below-a c.before.before.before.before.before.before.before.before.before.before.before.before.before.before.before.before.before.before.before.before)
 
 over-requires-3 : tie.Need-over-mi-requires invariant-loop2 decreases-loop2 invariant-loop decreases-loop
 over-requires-3 c κs = search rules
 
 mul-mi : tie.Need-offset_bounds-invoices-ii-in-Command invariant-loop2 decreases-loop2 invariant-loop decreases-loop
-mul-mi c = omega (arith, below-i c.before.before.before.before.before.before.before.before.before.before.before.before.before.before.before.before.before.before.before.before.before.before.before.before.before.before.before.before.before.before)
+mul-mi c = omega (arith, below-i c.before.before.before.before.before.before.before.before.before.before.before.before.before.before.before.before.before.before.before.before.before.before.before.before.before.before.before.before)
 
 element-set-from-mi : tie.Need-bounds-invoices-ii-in-Command invariant-loop2 decreases-loop2 invariant-loop decreases-loop
-element-set-from-mi c = omega (arith, below-i c.before.before.before.before.before.before.before.before.before.before.before.before.before.before.before.before.before.before.before.before.before.before.before.before.before.before.before.before.before.before)
+element-set-from-mi c = omega (arith, below-i c.before.before.before.before.before.before.before.before.before.before.before.before.before.before.before.before.before.before.before.before.before.before.before.before.before.before.before.before)
 
 mul-offer : tie.Need-offset_bounds-offers-io-then-po-2-2 invariant-loop2 decreases-loop2 invariant-loop decreases-loop
-mul-offer c = omega (arith, below-o c.before.before.before.before.before.before.before.before.before.before.before.before.before.before.before.before.before.before.before.before.before.before.before.before.before.before.before.before.before.before.before.before.before.before.before.before.before.before.before.before.before)
+mul-offer c = omega (arith, below-o c.before.before.before.before.before.before.before.before.before.before.before.before.before.before.before.before.before.before.before.before.before.before.before.before.before.before.before.before.before.before.before.before.before.before.before.before.before.before)
 
 element-set-from-offer : tie.Need-bounds-offers-io-then-po-2-2 invariant-loop2 decreases-loop2 invariant-loop decreases-loop
-element-set-from-offer c = omega (arith, below-o c.before.before.before.before.before.before.before.before.before.before.before.before.before.before.before.before.before.before.before.before.before.before.before.before.before.before.before.before.before.before.before.before.before.before.before.before.before.before.before.before.before)
+element-set-from-offer c = omega (arith, below-o c.before.before.before.before.before.before.before.before.before.before.before.before.before.before.before.before.before.before.before.before.before.before.before.before.before.before.before.before.before.before.before.before.before.before.before.before.before.before)
 
 mul-talk : tie.Need-offset_bounds-offers-io-then-po-2-3 invariant-loop2 decreases-loop2 invariant-loop decreases-loop
-mul-talk c = omega (arith, below-o c.before.before.before.before.before.before.before.before.before.before.before.before.before.before.before.before.before.before.before.before.before.before.before.before.before.before.before.before.before.before.before.before.before.before.before.before.before.before.before.before.before)
+mul-talk c = omega (arith, below-o c.before.before.before.before.before.before.before.before.before.before.before.before.before.before.before.before.before.before.before.before.before.before.before.before.before.before.before.before.before.before.before.before.before.before.before.before.before.before)
 
 element-set-from-talk : tie.Need-bounds-offers-io-then-po-2-3 invariant-loop2 decreases-loop2 invariant-loop decreases-loop
-element-set-from-talk c = omega (arith, below-o c.before.before.before.before.before.before.before.before.before.before.before.before.before.before.before.before.before.before.before.before.before.before.before.before.before.before.before.before.before.before.before.before.before.before.before.before.before.before.before.before.before)
+element-set-from-talk c = omega (arith, below-o c.before.before.before.before.before.before.before.before.before.before.before.before.before.before.before.before.before.before.before.before.before.before.before.before.before.before.before.before.before.before.before.before.before.before.before.before.before.before)
 
 mul-plan : tie.Need-offset_bounds-offers-io-then-po-2-4 invariant-loop2 decreases-loop2 invariant-loop decreases-loop
-mul-plan c = omega (arith, below-o c.before.before.before.before.before.before.before.before.before.before.before.before.before.before.before.before.before.before.before.before.before.before.before.before.before.before.before.before.before.before.before.before.before.before.before.before.before.before.before.before.before)
+mul-plan c = omega (arith, below-o c.before.before.before.before.before.before.before.before.before.before.before.before.before.before.before.before.before.before.before.before.before.before.before.before.before.before.before.before.before.before.before.before.before.before.before.before.before.before)
 
 element-set-from-plan : tie.Need-bounds-offers-io-then-po-2-4 invariant-loop2 decreases-loop2 invariant-loop decreases-loop
-element-set-from-plan c = omega (arith, below-o c.before.before.before.before.before.before.before.before.before.before.before.before.before.before.before.before.before.before.before.before.before.before.before.before.before.before.before.before.before.before.before.before.before.before.before.before.before.before.before.before.before)
+element-set-from-plan c = omega (arith, below-o c.before.before.before.before.before.before.before.before.before.before.before.before.before.before.before.before.before.before.before.before.before.before.before.before.before.before.before.before.before.before.before.before.before.before.before.before.before.before)
 
 id-requires : tie.Need-id-requires invariant-loop2 decreases-loop2 invariant-loop decreases-loop
 id-requires c κs = search rules
@@ -373,13 +373,13 @@ add-offers : tie.Need-overflow_add-offers invariant-loop2 decreases-loop2 invari
 add-offers c = omega (arith, few-o c.before.before.before.before.before.before)
 
 add-k : tie.Need-overflow_add-k-in-Command invariant-loop2 decreases-loop2 invariant-loop decreases-loop
-add-k c = more c.before.before.before.before.before.before.before.before.before.before.before.before.before.before.before.before.before.before.before.before.before.before.before.before.before.before.before.before.before.before.before.before.before.before.before.before.before.before.before.before.before.before.before.before.before.before.before.before.before
+add-k c = more c.before.before.before.before.before.before.before.before.before.before.before.before.before.before.before.before.before.before.before.before.before.before.before.before.before.before.before.before.before.before.before.before.before.before.before.before.before.before.before.before.before.before.before.before.before.before.before
 
 loop-less : tie.Need-loop-c-smaller invariant-loop2 decreases-loop2 invariant-loop decreases-loop
-loop-less c = omega (arith, ahead _ _ _ (record-read c.before.before.before.before.before.before.before.before.before.before.before.before.before.before.before.before.before.before.before.before.before.before.before.before.before.before.before.before.before.before.before.before.before.before.before.before.before.before.before.before.before.before.before.before.before.before.before.before.before))
+loop-less c = omega (arith, ahead _ _ _ (record-read c.before.before.before.before.before.before.before.before.before.before.before.before.before.before.before.before.before.before.before.before.before.before.before.before.before.before.before.before.before.before.before.before.before.before.before.before.before.before.before.before.before.before.before.before.before.before.before))
 
 loop-again : tie.Need-loop-c-preserved invariant-loop2 decreases-loop2 invariant-loop decreases-loop
-loop-again c = going_on c.loop-c.invariant (record-read c.before.before.before.before.before.before.before.before.before.before.before.before.before.before.before.before.before.before.before.before.before.before.before.before.before.before.before.before.before.before.before.before.before.before.before.before.before.before.before.before.before.before.before.before.before.before.before.before.before) (stepped (shelved c.before.before.before.before.before.before.before.before.before.before.before.before.before.before.before.before.before.before.before.before.before.before.before.before.before.before.before.before.before.before.before.before.before.before.before.before.before.before.before.before.before.before.before.before.before.before.before.before.before) (steps (step c.before.before.before.before.before.before.before.before.before.before.before.before.before.before.before.before.before.before.before.before.before.before.before) (stored-a c.before.before.before.before.before.before) (stored-i c.before.before.before) (stored-o c))) c.put_answer-pen.ensures
+loop-again c = going_on c.loop-c.invariant (record-read c.before.before.before.before.before.before.before.before.before.before.before.before.before.before.before.before.before.before.before.before.before.before.before.before.before.before.before.before.before.before.before.before.before.before.before.before.before.before.before.before.before.before.before.before.before.before.before) (stepped (shelved c.before.before.before.before.before.before.before.before.before.before.before.before.before.before.before.before.before.before.before.before.before.before.before.before.before.before.before.before.before.before.before.before.before.before.before.before.before.before.before.before.before.before.before.before.before.before.before) (steps (step c.before.before.before.before.before.before.before.before.before.before.before.before.before.before.before.before.before.before.before.before.before.before.before) (stored-a c.before.before.before.before.before.before) (stored-i c.before.before.before) (stored-o c))) c.put_answer-pen.ensures
 
 enum-known-d-2 : tie.Need-enum_known-d-in-Malformed-1 invariant-loop2 decreases-loop2 invariant-loop decreases-loop
 enum-known-d-2 c = search rules

@@ -1,8 +1,9 @@
 use mathlib.Core.Path.{◌≡◌, sym, ap, ◌∙◌}
 use Prim.Native.Nat.{ℕ, ◌≤◌}
 use native.Mathlib.Omega.{arith}
-use lib.ListN.{length, take}
-use lib.Seq.{length-take-le}
+use lib.ListN.{length, take, drop}
+use lib.Seq.{length-take-le, take-length}
+use mathlib.Core.List.{List, ◌++◌}
 use borrow.Author.Rules.{rules}
 use Rattle.refusal.specs.Placed.{placed}
 use Rattle.journal.specs.Answers.{opening}
@@ -57,7 +58,8 @@ head : (c : tie.After-copy) → c.copy.new.to ≡ placed 0 (take (first c.before
 head c =
     let k = c.before.before.before.before.before in
     let a = (start k).args in
-    head_is a.s.now a.out.now a.report.now (good k) c.if-out-s.false (rw (long k) at c.copy.ensures.1)
+    let w = take (first k) a.s.now in
+    head_is a.s.now a.out.now a.report.now (good k) c.if-out-s.false (c.copy.ensures.1 ∙ ap (λ (z : List ℕ). z ++ drop (length w) a.out.now) (sym (take-length w)))
 
 enough : (c : tie.Else-report-count) → length (report_of (start c.before.before.before).args.s.now) ≤ length (start c.before.before.before).args.report.now
 enough c =

@@ -10,4 +10,4 @@ slice-aggregate-write-all c = sym (length-take-le _ _ (c.requires _ c.in-Done.is
 pub show_spec : {M : Type 1} → statement M
 show_spec =
     tie.close
-    (tie.spec (λ c. search rules) slice-aggregate-write-all (λ c κs. search rules) (λ c. search rules) (λ c κs. search rules) (λ c κs. search rules) (λ c. search rules) (λ c κs. search rules) (λ c. search rules) (λ c κs. search rules) (λ c. search rules) (λ c. search rules) (λ c. search rules))
+    (tie.spec (λ c. search rules) slice-aggregate-write-all (λ c κs. search rules) (λ c. search rules) (λ c κs. search rules) (λ c κs. search rules) (λ c κs. search rules) (λ c. search rules) (λ c κs. search rules) (λ c. search rules) (λ c. search rules) (λ c. search rules))

@@ -45,14 +45,14 @@ returns-3 : tie.Need-returns-then-not-c-sound
 returns-3 c =
     let g = c.before.before.before in
     let d = c.before.before.before.before.before.before.before.before.before.before.before.before.before.before in
-    c.refused-then-not-c-sound.ensures ∙ read_unsound _ _ (model d) (given d) c.if-c-ne0.false c.if-c-s.false (test g) (not-true _ c.if-not-c-sound.true-raw)
+    c.refused-then-not-c-sound.ensures ∙ read_unsound _ _ (model d) (given d) c.if-c-ne0.false c.if-c-s.false (test c.before.before.before) (not-true _ c.if-not-c-sound.true-raw)
 
 returns-4 : tie.Need-returns
 unfolding loaded_as
 returns-4 c =
     let g = c.before.before in
     let d = c.before.before.before.before.before.before.before.before.before.before.before.before.before in
-    rw (made-stored d) (read_whole _ _ (model d) (given d) c.if-c-ne0.false c.if-c-s.false (test g) (not-false _ c.if-not-c-sound.false-raw))
+    rw (made-stored d) (read_whole _ _ (model d) (given d) c.if-c-ne0.false c.if-c-s.false (test c.before.before) (not-false _ c.if-not-c-sound.false-raw))
 
 pub read_spec : {M : Type 1} → statement M
 read_spec =

@@ -26,7 +26,7 @@ put : (c : tie.After-encode_parts-e) {n : ℕ} → c.encode_parts-e.result ≡ B
 put c e = taken (whole c) zeros (room c) c.encode_parts-e.ensures.1 (count-is (whole c) zeros (room c) c.encode_parts-e.ensures.0 e)
 
 returns : tie.Need-returns-in_default
-returns c = let d = c.before.before in absurd (not_short (whole d) zeros (room d) d.encode_parts-e.ensures.0 c.in_default.is)
+returns c = let d = c.before.before in absurd (not_short (whole c.before.before) zeros (room c.before.before) d.encode_parts-e.ensures.0 c.in_default.is)
 
 returns-2 : tie.Need-returns
 returns-2 c = retext c.put.ensures (put c.before.before.before.before.before.before.before c.in-Bytes.is).1

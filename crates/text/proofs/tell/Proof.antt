@@ -47,15 +47,15 @@ loop-holds c = (0, begins _ (records_headed _ (sym c.header-h.ensures ∙ ap ope
 loop-less : tie.Need-loop-c-smaller invariant-loop decreases-loop
 loop-less c =
     let d = c.before.before.before.before.before.before.before in
-    omega (arith, leads _ _ (onward (edition d.before) (journal-of d.before)) (stands d (ap reading c.in-Command.is)))
+    omega (arith, leads _ _ (onward (edition c.before.before.before.before.before.before.before.before) (journal-of c.before.before.before.before.before.before.before.before)) (stands c.before.before.before.before.before.before.before (ap reading c.in-Command.is)))
 
 loop-again : tie.Need-loop-c-preserved invariant-loop decreases-loop
 loop-again c =
     let d = c.before.before.before.before.before.before.before in
     let i = d.loop-c.invariant in (
       _,
-      goes_on (onward (edition d.before) (journal-of d.before)) i.1 (stands d (ap reading c.in-Command.is))
-          (retext c.put_line-pen.ensures (line_sent (edition d.before) _ c.split-parts.ensures)),
+      goes_on (onward (edition c.before.before.before.before.before.before.before.before) (journal-of c.before.before.before.before.before.before.before.before)) i.1 (stands c.before.before.before.before.before.before.before (ap reading c.in-Command.is))
+          (retext c.put_line-pen.ensures (line_sent (edition c.before.before.before.before.before.before.before.before) _ c.split-parts.ensures)),
     )
 
 -- the buffer keeps its length
@@ -66,13 +66,13 @@ returns-2 : tie.Need-returns-in-Malformed invariant-loop decreases-loop
 returns-2 c =
     let d = c.before in
     let l = d.before in
-    told (journal-of l) (opens l) l.put_title-pen.ensures (stops (onward (edition l) (journal-of l)) l.loop-c.invariant.1 (stands d (ap reading c.in-Malformed.is)))
+    told (journal-of c.before.before) (opens c.before.before) l.put_title-pen.ensures (stops (onward (edition c.before.before) (journal-of c.before.before)) l.loop-c.invariant.1 (stands c.before (ap reading c.in-Malformed.is)))
 
 returns-3 : tie.Need-returns-in-End invariant-loop decreases-loop
 returns-3 c =
     let d = c.before in
     let l = d.before in
-    told (journal-of l) (opens l) l.put_title-pen.ensures (ends (onward (edition l) (journal-of l)) l.loop-c.invariant.1 (stands d (ap reading c.in-End.is)))
+    told (journal-of c.before.before) (opens c.before.before) l.put_title-pen.ensures (ends (onward (edition c.before.before) (journal-of c.before.before)) l.loop-c.invariant.1 (stands c.before (ap reading c.in-End.is)))
 
 pub tell_spec : {M : Type 1} → statement M
 tell_spec =

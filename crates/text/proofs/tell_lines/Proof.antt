@@ -47,7 +47,7 @@ line-had : (c : tie.Else-not-x invariant-loop decreases-loop) → Had (line_in (
 line-had c = had _ c.line_at-x.ensures (not-false _ c.if-not-x.false)
 
 item-is : (c : tie.Else-not-x invariant-loop decreases-loop) → command_at (title c.before.before.before.before).edition (text_of c.before.before.before.before) c.loop-at.at ≡ item (line-had c).parts c.line_at-x.result.next
-item-is c = let l = c.before.before.before.before in at_line (title l).edition 0x21 0x57 (text_of l) l.loop-at.at c.loop-at-test.true ∙ (line-had c).is
+item-is c = let l = c.before.before.before.before in at_line (title c.before.before.before.before).edition 0x21 0x57 (text_of c.before.before.before.before) l.loop-at.at c.loop-at-test.true ∙ (line-had c).is
 
 ahead : (c : tie.Else-not-x invariant-loop decreases-loop) → (c.loop-at.at < c.line_at-x.result.next) × (c.line_at-x.result.next ≤ length (text_of c.before.before.before.before))
 ahead c = leads _ _ (onward (title c.before.before.before.before).edition 0x21 0x57 (text_of c.before.before.before.before)) (item-is c)
@@ -56,21 +56,21 @@ returns : tie.Need-returns-then-not-x invariant-loop decreases-loop
 returns c =
     let d = c.before.before in
     let l = d.before.before in
-    let t = text_of l in
-    let i = (title l).edition in
+    let t = text_of c.before.before.before.before in
+    let i = (title c.before.before.before.before).edition in
     let e = at_line i 0x21 0x57 t l.loop-at.at d.loop-at-test.true in
     let g : d.line_at-x.result ≡ line_for (command_at i t l.loop-at.at) = rw e d.line_at-x.ensures in
     let f = had_not (length t) l.loop-at.at (command_at i t l.loop-at.at) (onward i 0x21 0x57 t l.loop-at.at) d.loop-at-test.true g (not-true _ c.if-not-x.true) in
-    lines_bad t (titled l) l.put_header-pen.ensures l.loop-at.invariant.1.1.1.0 (stops (onward i 0x21 0x57 t) l.loop-at.invariant.1.1.1.1 f)
+    lines_bad t (titled c.before.before.before.before) l.put_header-pen.ensures l.loop-at.invariant.1.1.1.0 (stops (onward i 0x21 0x57 t) l.loop-at.invariant.1.1.1.1 f)
 
 loop-again : tie.Need-loop-at-preserved invariant-loop decreases-loop
 loop-again c =
     let b = c.before.before.before.before.before in
     let l = b.before.before.before.before in
     let v = l.loop-at.invariant in
-    let a = ahead b in
-    let w = retext c.put_record-pen.ensures (record_is (title l).edition (line-had b)) in
-    (a.1, (omega (arith, a.0, v.1.0), (v.1.1.0 + 1, (omega (arith, v.1.1.1.0), goes_on (onward (title l).edition 0x21 0x57 (text_of l)) v.1.1.1.1 (item-is b) w))))
+    let a = ahead c.before.before.before.before.before in
+    let w = retext c.put_record-pen.ensures (record_is (title c.before.before.before.before.before.before.before.before.before).edition (line-had c.before.before.before.before.before)) in
+    (a.1, (omega (arith, a.0, v.1.0), (v.1.1.0 + 1, (omega (arith, v.1.1.1.0), goes_on (onward (title c.before.before.before.before.before.before.before.before.before).edition 0x21 0x57 (text_of c.before.before.before.before.before.before.before.before.before)) v.1.1.1.1 (item-is c.before.before.before.before.before) w))))
 
 -- the buffer keeps its length
 long : (c : tie.At-loop-at invariant-loop decreases-loop) → length c.loop-at.out ≡ length c.args.out.now
@@ -79,8 +79,8 @@ long c = c.loop-at.invariant.1.1.1.1.long ∙ kept c.put_header-pen.ensures
 returns-2 : tie.Need-returns invariant-loop decreases-loop
 returns-2 c =
     let l = c.before in
-    let t = text_of l in
-    lines_end t (titled l) l.put_header-pen.ensures (ends (onward (title l).edition 0x21 0x57 t) l.loop-at.invariant.1.1.1.1 (at-end (title l).edition 0x21 0x57 t l.loop-at.at c.loop-at-test.false))
+    let t = text_of c.before in
+    lines_end t (titled c.before) l.put_header-pen.ensures (ends (onward (title c.before).edition 0x21 0x57 t) l.loop-at.invariant.1.1.1.1 (at-end (title c.before).edition 0x21 0x57 t l.loop-at.at c.loop-at-test.false))
 
 pub tell_lines_spec : {M : Type 1} → statement M
 tell_lines_spec =

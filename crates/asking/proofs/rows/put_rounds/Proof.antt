@@ -20,7 +20,7 @@ decreases-loop out₀ ink g len p₀ i₀ out p i = 16 - i
 
 -- the places for rounds
 long : (s : tie.Start invariant-loop decreases-loop) → length s.args.g.rounds ≡ 16
-long s = simp length-map at s.well_formed.1.1.1.0.1.1.0.1.0.1
+long s = search rules
 
 loop-holds : tie.Need-loop-i-init invariant-loop decreases-loop
 unfolding spread

@@ -45,7 +45,7 @@ store-requires-3 : tie.Need-store-deals-requires
 store-requires-3 c κs = c.requires.offers
 
 returns : tie.Need-returns
-returns c = steps (step c.before.before.before.before.before.before.before.before.before.before) (c.store-more.ensures _ (accounts_left (step c.before.before.before.before.before.before.before.before.before.before) refl)) (c.store-papers.ensures _ (invoices_left (step c.before.before.before.before.before.before.before.before.before.before) refl)) (c.store-deals.ensures _ (offers_left (step c.before.before.before.before.before.before.before.before.before.before) refl))
+returns c = steps (step c.before.before.before.before.before.before.before.before.before.before.before.before) (c.store-more.ensures _ (accounts_left (step c.before.before.before.before.before.before.before.before.before.before.before.before) refl)) (c.store-papers.ensures _ (invoices_left (step c.before.before.before.before.before.before.before.before.before.before.before.before) refl)) (c.store-deals.ensures _ (offers_left (step c.before.before.before.before.before.before.before.before.before.before.before.before) refl))
 
 pub obey_spec : {M : Type 1} → statement M
 obey_spec =

@@ -21,9 +21,9 @@ loop-again c =
     let h = c.loop-i-test.true in
     let w = c.args.w in
     ⊎_elim
-    (λ x. rw x.1 (walk_on l.invariant none (inside u l.i h) (asked u l.i h w _ _ c.takes.ensures x.0.taken)))
-    (λ x. rw x.1 (walk_off l.invariant none (inside u l.i h) (asked u l.i h w _ _ c.takes.ensures x.0.left)))
-    c.if-takes.branch
+    (λ x. rw x.n-is (walk_on l.invariant none (inside u l.i h) (asked u l.i h w _ _ c.takes.ensures x.if-takes.true)))
+    (λ x. rw x.n-is (walk_off l.invariant none (inside u l.i h) (asked u l.i h w _ _ c.takes.ensures x.if-takes.false)))
+    c.if-takes.branch-raw
 
 returns : tie.Need-returns invariant-loop decreases-loop
 returns c =

@@ -5,10 +5,10 @@ use Rattle.lists.proofs.OfferRows.in_use.Statement.{statement}
 use Rattle.lists.proofs.OfferRows.in_use.Tie as tie
 
 returns : tie.Need-returns-then-count-lt-ROOM
-returns c = use_some c.args.self (search rules) (simp length-map at c.well_formed.0.1.1.1.0.1.0.1) c.if-count-lt-ROOM.true
+returns c = use_some c.args.self (search rules) (search rules) c.if-count-lt-ROOM.true
 
 returns-2 : tie.Need-returns
-returns-2 c = use_all c.args.self (search rules) (simp length-map at c.well_formed.0.1.1.1.0.1.0.1) c.if-count-lt-ROOM.false
+returns-2 c = use_all c.args.self (search rules) (search rules) c.if-count-lt-ROOM.false
 
 pub in_use_spec : {M : Type 1} → statement M
 in_use_spec = tie.close (tie.spec returns returns-2)

@@ -45,11 +45,11 @@ loop-again c =
     let s = c.before.before.before.before.before.before.before in
     let e = asked u l.i h s.args.w in
     ⊎_elim
-    (λ x. rw (x.9, x.10)
-    (write_on l.invariant 10 (λ a. refl) s.requires none (inside u l.i h) (e _ _ c.takes.ensures x.0.taken) _
-    (x.6.ensures ∙ ap (λ (z : List ℕ). placed (10 * l.n) z l.out) (x.3.ensures ∙ ap in_order x.2.ensures ∙ ap ten_of (sym (entry u l.i h))))))
-    (λ x. rw (x.1, x.2) (write_off l.invariant 10 (λ a. refl) s.requires none (inside u l.i h) (e _ _ c.takes.ensures x.0.left)))
-    c.if-takes.branch
+    (λ x. rw (x.out-is, x.n-is)
+    (write_on l.invariant 10 (λ a. refl) s.requires none (inside u l.i h) (e _ _ c.takes.ensures x.if-takes.true) _
+    (x.put.ensures ∙ ap (λ (z : List ℕ). placed (10 * l.n) z l.out) (x.in_order-numbers.ensures ∙ ap in_order x.of-o.ensures ∙ ap ten_of (sym (entry u l.i h))))))
+    (λ x. rw (x.out-is, x.n-is) (write_off l.invariant 10 (λ a. refl) s.requires none (inside u l.i h) (e _ _ c.takes.ensures x.if-takes.false)))
+    c.if-takes.branch-raw
 
 same_length : tie.Need-shape_of-out invariant-loop decreases-loop
 same_length c = write_length c.loop-i.invariant 10 (λ a. refl) c.requires

@@ -14,7 +14,7 @@ use borrow.Author.Rules.{rules}
 use Rattle.near.proofs.Near.conclude.Statement.{statement}
 use Rattle.near.proofs.Near.conclude.Tie as tie
 
-number : (c : tie.After-agreement_refusal-n) → (o : ℕ) (m : Model) → c.args.self ≡ view_of (sides_of c.args.lends m o) m → c.agreement_refusal-n.result ≡ first (agreement_checks (offer_in m o).row-1 c.args.now (paper_of m o) (account_in m (lender_of m o)) (account_in m (originator_of m o)))
+number : (c : tie.After-agreement_refusal-n) → (o : ℕ) (m : Model) → c.args.self ≡ view_of (sides_of c.args.lends m o) m → c.agreement_refusal-n.result ≡ first (agreement_checks (offer_in m o).row c.args.now (paper_of m o) (account_in m (lender_of m o)) (account_in m (originator_of m o)))
 number c o m = λ e. simp (c.side-lender.ensures, c.side-originator.ensures, e, (side_by c.args.lends (lender_of m o) (originator_of m o) m.accounts).0, (side_by c.args.lends (lender_of m o) (originator_of m o) m.accounts).1) at c.agreement_refusal-n.ensures
 
 returns : tie.Need-returns-then-not-n

@@ -24,7 +24,7 @@ asked : (c : tie.After-with_counter-mid) → (o : ℕ) (m : Model) → c.args.se
 asked c o m = λ e. sym (number c.before.before o m e) ∙ eqb-true _ _ (not-false _ c.if-not-refusal.false-raw)
 
 there : (c : tie.After-with_counter-mid) → (o : ℕ) (m : Model) → c.args.self ≡ view_of (deal_keys (Id c.args.caller) (Id (lender_of m o)) m o) m → c.with_counter-mid.result ≡ view_of (deal_keys (Id c.args.caller) (Id (lender_of m o)) m o) (countered_in m c.args.now o c.args.t)
-there c o m = λ e. c.with_counter-mid.ensures o (Id c.args.caller) (Id (lender_of m o)) (Id (offer_in m o).row-1.offer.invoice) m e
+there c o m = λ e. c.with_counter-mid.ensures o (Id c.args.caller) (Id (lender_of m o)) (Id (offer_in m o).row.offer.invoice) m e
 
 flag : (c : tie.After-same_terms) → (o : ℕ) (m : Model) → c.args.self ≡ view_of (deal_keys (Id c.args.caller) (Id (lender_of m o)) m o) m → c.same_terms.result ≡ same_terms (terms_in m o) c.args.t
 flag c o m = λ e. simp e at c.same_terms.ensures

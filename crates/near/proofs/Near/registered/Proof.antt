@@ -24,7 +24,7 @@ returns : tie.Need-returns-then-not-refusal
 returns c = λ i a b o m f e. same (keys_by a b (Id i) o) m e _ ∙ refused (turn_of (keys_by a b (Id i) o)) _ _ (number c.before i a b o m f e) (eqb-false _ _ (not-true _ c.if-not-refusal.true-raw))
 
 returns-2 : tie.Need-returns
-returns-2 c = λ i a b o m f e. let z = eqb-true _ _ (not-false _ c.if-not-refusal.false-raw) in let w = number c.before.before i a b o m f e in rw (simp (to_z-of_z c.ranges.amount) at c.new.ensures) (ap (λ z. record { answer = 0; near = z }) (registered_step m i a b o e (register_room m c.args.caller i c.args.amount (sym w ∙ z)).new _) ∙ accepted (turn_of (keys_by a b (Id i) o)) _ _ w z refl)
+returns-2 c = λ i a b o m f e. let z = eqb-true _ _ (not-false _ c.if-not-refusal.false-raw) in let w = number c.before.before i a b o m f e in rw (simp (to_z-of_z c.ranges.amount) at c.new-row.ensures) (ap (λ z. record { answer = 0; near = z }) (registered_step m i a b o e (register_room m c.args.caller i c.args.amount (sym w ∙ z)).new _) ∙ accepted (turn_of (keys_by a b (Id i) o)) _ _ w z refl)
 
 pub registered_spec : {M : Type 1} → statement M
 registered_spec = tie.close (tie.spec (λ c κs. search rules) returns (λ c κs. search rules) returns-2)

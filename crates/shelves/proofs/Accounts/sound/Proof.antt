@@ -20,13 +20,13 @@ loop-again : tie.Need-loop-i-preserved invariant-loop decreases-loop
 loop-again c =
     let i = c.loop-i.i in
     let count = c.args.self.count in
-    check_turn c.loop-i.invariant c.loop-i-test.true (c.fits2.ensures ∙ sym (by_use_lem count i _ _))
+    check_turn c.loop-i.invariant c.loop-i-test.true (c.fits-fits.ensures ∙ sym (by_use_lem count i _ _))
 
 returns : tie.Need-returns invariant-loop decreases-loop
 unfolding accounts_test
 returns c = (
   both_same c.ids_sound-ids.ensures (check_done c.loop-i.invariant c.loop-i-test.false),
-  record { ids_long = search rules; rows_long = simp length-map at c.well_formed.0.1.1.1.0.1.0.1 },
+  record { ids_long = search rules; rows_long = search rules },
 )
 
 pub sound_spec : {M : Type 1} → statement M

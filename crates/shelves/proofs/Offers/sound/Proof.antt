@@ -25,27 +25,27 @@ abbrev decreases-loop : tie.decreases-loop-i
 decreases-loop e self n t ok₀ i₀ ok i = 64 - i
 
 rows_long : (c : tie.Start invariant-loop decreases-loop) → length c.args.self.rows ≡ 64
-rows_long c = simp length-map at c.well_formed.0.1.1.1.0.1.0.1
+rows_long c = search rules
 
 negotiations_long : (c : tie.Start invariant-loop decreases-loop) → length c.args.self.negotiations ≡ 64
-negotiations_long c = simp length-map at c.well_formed.0.1.1.1.1.0.1.0.1
+negotiations_long c = search rules
 
 schedules_long : (c : tie.Start invariant-loop decreases-loop) → length c.args.self.schedules ≡ 64
-schedules_long c = simp length-map at c.well_formed.0.1.1.1.1.1.0.1.0.1
+schedules_long c = search rules
 
 even : (c : tie.Start invariant-loop decreases-loop) → Level c.args.self.rows c.args.self.negotiations c.args.self.schedules
 even c = level _ _ _ (rows_long c) (negotiations_long c) (schedules_long c)
 
 loop-again : tie.Need-loop-i-preserved invariant-loop decreases-loop
 loop-again c =
-    let start = c in
+    let start = c.before.before.before.before.before.before.before.before in
     let self = start.args.self in
     let i = c.loop-i.i in
-    let row_is = join_at deal_of _ _ _ (even start) i (omega (arith, rows_long start)) no_deal _ _ _ in
-    let negotiation-is = any-default self.negotiations i _ no_negotiation (omega (arith, negotiations_long start)) in
+    let row_is = join_at deal_of _ _ _ (even c.before.before.before.before.before.before.before.before) i (omega (arith, rows_long c.before.before.before.before.before.before.before.before)) no_deal _ _ _ in
+    let negotiation-is = any-default self.negotiations i _ no_negotiation (omega (arith, negotiations_long c.before.before.before.before.before.before.before.before)) in
     let below = c.loop-i-test.true in (
-      check_turn c.loop-i.invariant.0 below (c.fits2.ensures.0 ∙ sym (ap (λ r. cond (ltb i self.count) (deal_sound start.args.edition r) (deal_zero r)) row_is) ∙ sym (by_use_lem self.count i _ _)),
-      below_on c.loop-i.invariant.1 (subst (λ n. Whole round_slots n) negotiation-is c.fits2.ensures.1),
+      check_turn c.loop-i.invariant.0 below (c.fits-fits.ensures.0 ∙ sym (ap (λ r. cond (ltb i self.count) (deal_sound start.args.edition r) (deal_zero r)) row_is) ∙ sym (by_use_lem self.count i _ _)),
+      below_on c.loop-i.invariant.1 (subst (λ n. Whole round_slots n) negotiation-is c.fits-fits.ensures.1),
     )
 
 returns : tie.Need-returns invariant-loop decreases-loop
@@ -54,9 +54,9 @@ returns c = (
   both_same c.ids_sound-ids.ensures (check_done c.loop-i.invariant.0 c.loop-i-test.false),
   record {
     ids_long = search rules;
-    rows_long = rows_long c;
-    negotiations_long = negotiations_long c;
-    schedules_long = schedules_long c;
+    rows_long = rows_long c.before.before.before.before;
+    negotiations_long = negotiations_long c.before.before.before.before;
+    schedules_long = schedules_long c.before.before.before.before;
     whole = λ k h. c.loop-i.invariant.1 k (omega (arith, c.loop-i-test.false));
   },
 )

@@ -26,7 +26,7 @@ place c = omega (arith, c.loop-i-test.true, c.count-k.ensures.low)
 loop-again : tie.Need-loop-i-preserved invariant-loop decreases-loop
 loop-again c =
     let d = c.before.before.before in
-    (omega (arith, d.loop-i-test.true), table_turn _ _ _ _ _ (place d) d.loop-i.invariant.1 c.read_invoice-g.ensures)
+    (omega (arith, d.loop-i-test.true), table_turn _ _ _ _ _ (place c.before.before.before) d.loop-i.invariant.1 c.read_invoice-g.ensures)
 
 returns : tie.Need-returns invariant-loop decreases-loop
 returns c = table_done as_invoices c.count-k.ensures (omega arith) c.loop-i.invariant.1

@@ -8,7 +8,7 @@ use Rattle.snapshot.proofs.reading.read_round.Tie as tie
 returns : tie.Need-returns
 unfolding round
 returns c =
-    rw c.new.ensures (takes_via round_from round_parts (λ x _. refl) (takes_then c.next-party.ensures.takes (takes_then c.read_terms-t.ensures c.next-time.ensures.takes)))
+    rw c.new-row.ensures (takes_via round_from round_parts (λ x _. refl) (takes_then c.next-party.ensures.takes (takes_then c.read_terms-t.ensures c.next-time.ensures.takes)))
 
 pub read_round_spec : {M : Type 1} → statement M
 read_round_spec =

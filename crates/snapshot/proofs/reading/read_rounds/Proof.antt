@@ -27,7 +27,7 @@ place c = omega (arith, c.loop-i-test.true, c.count-k.ensures.low, c.round_limit
 loop-again : tie.Need-loop-i-preserved invariant-loop decreases-loop
 loop-again c =
     let d = c.before.before.before in
-    (omega (arith, d.loop-i-test.true), rounds_turn _ _ _ (place d) d.loop-i.invariant.1 c.read_round-g.ensures)
+    (omega (arith, d.loop-i-test.true), rounds_turn _ _ _ (place c.before.before.before) d.loop-i.invariant.1 c.read_round-g.ensures)
 
 returns : tie.Need-returns invariant-loop decreases-loop
 returns c = rounds_done (rw c.round_limit-limit.ensures at c.count-k.ensures) (omega arith) c.loop-i.invariant.1

@@ -21,7 +21,7 @@ ids_long : (s : tie.Start invariant-loop decreases-loop) → length s.args.table
 ids_long s = search rules
 
 rows_long : (s : tie.Start invariant-loop decreases-loop) → length s.args.table.rows ≡ 64
-rows_long s = simp length-map at s.well_formed.1.1.1.0.1.1.1.0.1.0.1
+rows_long s = search rules
 
 place : (c : tie.In-loop-i invariant-loop decreases-loop) → c.loop-i.i < 64
 place c = omega (arith, c.loop-i-test.true, c.requires)
@@ -33,12 +33,12 @@ loop-again : tie.Need-loop-i-preserved invariant-loop decreases-loop
 loop-again c =
     let d = c.before.before.before.before.before.before in
     let s = d.before.before.before.before.before.before.before in
-    (omega (arith, d.loop-i-test.true), table_more _ _ s.args.table.ids s.args.table.rows _ _ _ (omega (arith, place d, ids_long s)) (omega (arith, place d, rows_long s)) d.loop-i.invariant.1 c.put_invoice-p.ensures)
+    (omega (arith, d.loop-i-test.true), table_more _ _ s.args.table.ids s.args.table.rows _ _ _ (omega (arith, place c.before.before.before.before.before.before, ids_long c.before.before.before.before.before.before.before.before.before.before.before.before.before)) (omega (arith, place c.before.before.before.before.before.before, rows_long c.before.before.before.before.before.before.before.before.before.before.before.before.before)) d.loop-i.invariant.1 c.put_invoice-p.ensures)
 
 returns : tie.Need-returns invariant-loop decreases-loop
 returns c =
     let s = c.before.before.before.before.before.before.before in
-    table_whole s.args.table.ids s.args.table.rows 0x80 64 (omega arith) (omega (arith, s.requires, ids_long s)) (omega (arith, s.requires, rows_long s)) s.requires c.put-p.ensures c.loop-i.invariant.1
+    table_whole s.args.table.ids s.args.table.rows 0x80 64 (omega arith) (omega (arith, s.requires, ids_long c.before.before.before.before.before.before.before)) (omega (arith, s.requires, rows_long c.before.before.before.before.before.before.before)) s.requires c.put-p.ensures c.loop-i.invariant.1
 
 pub put_invoices_spec : {M : Type 1} → statement M
 put_invoices_spec =

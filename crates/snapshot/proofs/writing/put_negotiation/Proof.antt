@@ -11,13 +11,13 @@ use Rattle.snapshot.proofs.writing.put_negotiation.Tie as tie
 
 -- all places for rounds are there
 long : (s : tie.Start) → length s.args.row.rounds ≡ 16
-long s = simp length-map at s.well_formed.1.1.1.1.0.1.1.0.1.0.1
+long s = search rules
 
 returns : tie.Need-returns
 unfolding negotiation
 returns c =
     let s = c.before.before.before.before.before.before.before.before.before.before.before.before.before.before.before in
-    puts_via negotiation_from negotiation_parts _ (same_rounds (round_limit s.args.edition) s.args.row s.requires (limit_in_slots s.args.edition) (long s)) (puts_then c.put-p.ensures (puts_then c.put_half-q.ensures c.put_rounds.ensures))
+    puts_via negotiation_from negotiation_parts _ (same_rounds (round_limit s.args.edition) s.args.row s.requires (limit_in_slots s.args.edition) (long c.before.before.before.before.before.before.before.before.before.before.before.before.before.before.before)) (puts_then c.put-p.ensures (puts_then c.put_half-q.ensures c.put_rounds.ensures))
 
 pub put_negotiation_spec : {M : Type 1} → statement M
 put_negotiation_spec =

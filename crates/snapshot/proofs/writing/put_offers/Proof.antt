@@ -24,13 +24,13 @@ module _ (s : tie.Start invariant-loop decreases-loop) where
   ids_long = search rules
 
   rows_long : length s.args.table.rows ≡ 64
-  rows_long = simp length-map at s.good.1.1.1.1.0.1.1.1.0.1.0.1
+  rows_long = search rules
 
   negotiations_long : length s.args.table.negotiations ≡ 64
-  negotiations_long = simp length-map at s.good.1.1.1.1.0.1.1.1.1.0.1.0.1
+  negotiations_long = search rules
 
   schedules_long : length s.args.table.schedules ≡ 64
-  schedules_long = simp length-map at s.good.1.1.1.1.0.1.1.1.1.1.0.1.0.1
+  schedules_long = search rules
 
   all-long : length (rows_of_lem s.args.table) ≡ 64
   all-long = deals_long s.args.edition s.args.table s.requires rows_long negotiations_long schedules_long
@@ -55,7 +55,7 @@ loop-again c =
     let d = c.before.before.before.before.before.before.before.before in
     let s = d.before.before.before.before.before.before.before in
     let t = s.args.table in
-    (omega (arith, d.loop-i-test.true), table_made _ _ t.ids (rows_of_lem t) _ _ no_deal (omega (arith, place d, ids_long s)) (omega (arith, place d, all-long s)) (deal_at_lem s.args.edition t s.requires (rows_long s) (negotiations_long s) (schedules_long s) d.loop-i.i d.loop-i-test.true _ _ _ no_deal) d.loop-i.invariant.1 c.put_deal-p.ensures)
+    (omega (arith, d.loop-i-test.true), table_made _ _ t.ids (rows_of_lem t) _ _ no_deal (omega (arith, place c.before.before.before.before.before.before.before.before, ids_long s)) (omega (arith, place c.before.before.before.before.before.before.before.before, all-long s)) (deal_at_lem s.args.edition t s.requires (rows_long s) (negotiations_long s) (schedules_long s) d.loop-i.i d.loop-i-test.true _ _ _ no_deal) d.loop-i.invariant.1 c.put_deal-p.ensures)
 
 returns : tie.Need-returns invariant-loop decreases-loop
 returns c =

@@ -30,12 +30,12 @@ loop-again : tie.Need-loop-i-preserved invariant-loop decreases-loop
 loop-again c =
     let d = c.before.before.before.before.before in
     let s = d.before.before.before.before.before.before.before in
-    (omega (arith, d.loop-i-test.true), taken_turn _ _ s.args.list _ _ _ (omega (arith, d.loop-i-test.true, has s)) d.loop-i.invariant.1 c.put_round-p.ensures)
+    (omega (arith, d.loop-i-test.true), taken_turn _ _ s.args.list _ _ _ (omega (arith, d.loop-i-test.true, has c.before.before.before.before.before.before.before.before.before.before.before.before)) d.loop-i.invariant.1 c.put_round-p.ensures)
 
 returns : tie.Need-returns invariant-loop decreases-loop
 returns c =
     let s = c.before.before.before.before.before.before.before in
-    taken_done s.args.list {i = c.loop-i.i} 0x97 (round_limit s.args.edition) (omega arith) (has s) s.requires c.put-p.ensures c.loop-i.invariant.1
+    taken_done s.args.list {i = c.loop-i.i} 0x97 (round_limit s.args.edition) (omega arith) (has c.before.before.before.before.before.before.before) s.requires c.put-p.ensures c.loop-i.invariant.1
 
 pub put_rounds_spec : {M : Type 1} → statement M
 put_rounds_spec =

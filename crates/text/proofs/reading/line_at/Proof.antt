@@ -54,7 +54,7 @@ room c =
     omega (arith, size_is c, leads_room (word_of (tag c)) (bytes c) m.stands, length-drop s.args.at s.args.s.now, s.requires)
 
 abbrev there-is : (c : tie.After-numbers_at-x) → Read
-there-is c = let w = c.before.before.before.before in numbers_there (edition w) (tag w) (bytes w) w.args.at
+there-is c = let w = c.before.before.before.before in numbers_there (edition c.before.before.before.before) (tag c.before.before.before.before) (bytes c.before.before.before.before) w.args.at
 
 read : (c : tie.After-numbers_at-x) → c.numbers_at-x.result ≡ numbers_for (c.args.at + length (word_of (tag c.before.before.before.before))) (there-is c)
 read c =
@@ -64,9 +64,9 @@ read c =
     let b = drop (s.args.at + w.word-word.result.0) s.args.s.now in
     c.numbers_at-x.ensures
     ∙ ap (λ (r : Listed). numbers_for (s.args.at + w.word-word.result.0) (read_in (take r.0 r.1) b)) f
-    ∙ ap (λ (l : List ℕ). numbers_for (s.args.at + w.word-word.result.0) (read_in l b)) (take_padded (fields_for (edition w) (tag w)))
-    ∙ ap (λ (n : ℕ). numbers_for (s.args.at + n) (read_in (fields_for (edition w) (tag w)) (drop (s.args.at + n) s.args.s.now))) (size_is w)
-    ∙ ap (λ (l : List ℕ). numbers_for (s.args.at + length (word_of (tag w))) (read_in (fields_for (edition w) (tag w)) l)) (sym (drop-drop (length (word_of (tag w))) s.args.at s.args.s.now))
+    ∙ ap (λ (l : List ℕ). numbers_for (s.args.at + w.word-word.result.0) (read_in l b)) (take_padded (fields_for (edition c.before.before.before.before) (tag c.before.before.before.before)))
+    ∙ ap (λ (n : ℕ). numbers_for (s.args.at + n) (read_in (fields_for (edition c.before.before.before.before) (tag c.before.before.before.before)) (drop (s.args.at + n) s.args.s.now))) (size_is c.before.before.before.before)
+    ∙ ap (λ (l : List ℕ). numbers_for (s.args.at + length (word_of (tag c.before.before.before.before))) (read_in (fields_for (edition c.before.before.before.before) (tag c.before.before.before.before)) l)) (sym (drop-drop (length (word_of (tag c.before.before.before.before))) s.args.at s.args.s.now))
 
 returns : tie.Need-returns-then-tag-eq0
 returns c = c.no_line.ensures ∙ ap line_for (nameless _ _ _ _ c.if-tag-eq0.true ∙ by_tag_lem _ _ _ _ _ c.tag_at-tag.ensures)
@@ -74,12 +74,12 @@ returns c = c.no_line.ensures ∙ ap line_for (nameless _ _ _ _ c.if-tag-eq0.tru
 numbers-at-requires : tie.Need-numbers_at-x-requires
 numbers-at-requires c κs =
     let w = c.before.before.before in
-    (room w, omega (arith, ap (λ (r : Listed). r.0) c.listed-row.ensures, few_fields (edition w) (tag w)))
+    (room c.before.before.before, omega (arith, ap (λ (r : Listed). r.0) c.listed-row.ensures, few_fields (edition c.before.before.before) (tag c.before.before.before)))
 
 returns-2 : tie.Need-returns-then-not-x
 returns-2 c =
     let d = c.before.before.before in
-    c.no_line-then-not-x.ensures ∙ ap line_for (numberless _ _ _ _ (ap (λ (x : Numbers). x.ok) (sym (read d)) ∙ not-true _ c.if-not-x.true) ∙ here d.before.before.before.before)
+    c.no_line-then-not-x.ensures ∙ ap line_for (numberless _ _ _ _ (ap (λ (x : Numbers). x.ok) (sym (read c.before.before.before)) ∙ not-true _ c.if-not-x.true) ∙ here c.before.before.before.before.before.before.before)
 
 -- the byte past the numbers
 last : (c : tie.After-byte) → get_or (bytes c.before.before.before.before.before.before.before) (length (word_of (tag c.before.before.before.before.before.before.before)) + (there-is c.before.before.before).size) 0 ≡ c.byte.result
@@ -87,14 +87,14 @@ last c =
     let d = c.before.before.before in
     let w = d.before.before.before.before in
     let s = w.before.before.before.before in
-    let n = length (word_of (tag w)) in
-    let e : s.args.at + (n + (there-is d).size) ≡ d.numbers_at-x.result.next = omega (arith, ap (λ (x : Numbers). x.next) (read d)) in
-    get_or-drop s.args.at s.args.s.now (n + (there-is d).size) 0 ∙ ap (λ (k : ℕ). get_or s.args.s.now k 0) e ∙ sym c.byte.ensures
+    let n = length (word_of (tag c.before.before.before.before.before.before.before)) in
+    let e : s.args.at + (n + (there-is c.before.before.before).size) ≡ d.numbers_at-x.result.next = omega (arith, ap (λ (x : Numbers). x.next) (read c.before.before.before)) in
+    get_or-drop s.args.at s.args.s.now (n + (there-is c.before.before.before).size) 0 ∙ ap (λ (k : ℕ). get_or s.args.s.now k 0) e ∙ sym c.byte.ensures
 
 returns-3 : tie.Need-returns-then-byte-ne10
 returns-3 c =
     let b = c.before.before in
-    c.no_line-then-byte-ne10.ensures ∙ ap line_for (endless _ _ _ _ (λ e. c.if-byte-ne10.true (sym (last b) ∙ e)) ∙ here b.before.before.before.before.before.before.before)
+    c.no_line-then-byte-ne10.ensures ∙ ap line_for (endless _ _ _ _ (λ e. c.if-byte-ne10.true (sym (last c.before.before) ∙ e)) ∙ here c.before.before.before.before.before.before.before.before.before)
 
 returns-4 : tie.Need-returns
 returns-4 c =
@@ -102,11 +102,11 @@ returns-4 c =
     let d = b.before.before.before in
     let w = d.before.before.before.before in
     let s = w.before.before.before.before in
-    let n = length (word_of (tag w)) in
+    let n = length (word_of (tag c.before.before.before.before.before.before.before.before.before.before)) in
     let x = d.numbers_at-x.result in
-    let v : x.values ≡ padded (there-is d).values-1 = ap (λ (y : Numbers). y.values) (read d) in
-    let e : x.next + 1 ≡ s.args.at + (n + (there-is d).size + 1) = omega (arith, ap (λ (y : Numbers). y.next) (read d)) in
-    let z = lined _ _ _ _ w.if-tag-eq0.false (ap (λ (y : Numbers). y.ok) (sym (read d)) ∙ not-false _ b.if-not-x.false) (last b ∙ c.if-byte-ne10.false) ∙ here w in
+    let v : x.values ≡ padded (there-is c.before.before.before.before.before.before).values = ap (λ (y : Numbers). y.values) (read c.before.before.before.before.before.before) in
+    let e : x.next + 1 ≡ s.args.at + (n + (there-is c.before.before.before.before.before.before).size + 1) = omega (arith, ap (λ (y : Numbers). y.next) (read c.before.before.before.before.before.before)) in
+    let z = lined _ _ _ _ w.if-tag-eq0.false (ap (λ (y : Numbers). y.ok) (sym (read c.before.before.before.before.before.before)) ∙ not-false _ b.if-not-x.false) (last c.before.before.before ∙ c.if-byte-ne10.false) ∙ here c.before.before.before.before.before.before.before.before.before.before in
     rw (v, e) (ap line_for z)
 
 pub line_at_spec : {M : Type 1} → statement M

@@ -5,7 +5,7 @@ use native.Mathlib.Omega.{arith}
 use lib.ListN.{length, drop}
 use borrow.Author.Rules.{rules}
 use Rattle.text.specs.Names.{word_of}
-use Rattle.text.specs.LineLaws.{word_short, word_in}
+use Rattle.text.specs.LineLaws.{word_short, word_in_lem}
 use Rattle.text.specs.Reading.{leads}
 use Rattle.text.specs.ReadingLaws.{no_name, some_name}
 use Rattle.text.specs.declared.names.Spelling.{Spelling}
@@ -26,7 +26,7 @@ starts-requires c κs =
 returns-2 : tie.Need-returns
 returns-2 c =
     let s = c.before.before.before.before.before in
-    c.starts.ensures ∙ ap (λ (w : List ℕ). leads w (drop s.args.at s.args.s.now)) (word_in (word_of s.args.k) c.word-word.ensures)
+    c.starts.ensures ∙ ap (λ (w : List ℕ). leads w (drop s.args.at s.args.s.now)) (word_in_lem (word_of s.args.k) c.word-word.ensures)
     ∙ some_name _ _ (λ e. c.if-size-eq0.false (size_is c.before.before.before ∙ e))
 
 pub named_spec : {M : Type 1} → statement M

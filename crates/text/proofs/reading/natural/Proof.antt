@@ -34,14 +34,14 @@ returns c =
     let s = b.before.before.before in
     let f = get_or-drop s.args.at s.args.s.now 0 0 ∙ ap (λ (k : ℕ). get_or s.args.s.now k 0) (add-zero s.args.at) ∙ sym c.byte.ensures in
     c.check.ensures ∙ ap (λ (x : ℕ). checked s.args.top b.loop-at.n x b.loop-at.v) (sym f)
-    ∙ run_done s.args.top b.loop-at.invariant (ap is_digit (hand b) ∙ sym c.digit.ensures ∙ not-true _ c.if-not-digit.true-raw)
+    ∙ run_done s.args.top b.loop-at.invariant (ap is_digit (hand c.before.before.before.before) ∙ sym c.digit.ensures ∙ not-true _ c.if-not-digit.true-raw)
 
 returns-2 : tie.Need-returns-then-d-v invariant-loop decreases-loop
 returns-2 c =
     let d = c.before.before in
     let b = d.before.before in
     let s = b.before.before.before in
-    c.none.ensures ∙ run_large s.args.top b.loop-at.invariant (digit-here d) (rw (hand b) (omega (arith, s.ranges.top, c.if-d-v.true, digit_low b.byte-b.result (is_digit_lem d), digit_high b.byte-b.result (is_digit_lem d))))
+    c.none.ensures ∙ run_large s.args.top b.loop-at.invariant (digit-here c.before.before) (rw (hand c.before.before.before.before) (omega (arith, s.ranges.top, c.if-d-v.true, digit_low b.byte-b.result (is_digit_lem c.before.before), digit_high b.byte-b.result (is_digit_lem c.before.before))))
 
 inside : (c : tie.Else-not-digit invariant-loop decreases-loop) → c.args.at + c.loop-at.n < length c.args.s.now
 inside c =
@@ -52,7 +52,7 @@ loop-again : tie.Need-loop-at-preserved invariant-loop decreases-loop
 loop-again c =
     let d = c.before in
     let b = d.before.before in
-    rw (hand b) at (run_on b.loop-at.invariant (digit-here d))
+    rw (hand c.before.before.before) at (run_on b.loop-at.invariant (digit-here c.before))
 
 pub natural_spec : {M : Type 1} → statement M
 natural_spec =

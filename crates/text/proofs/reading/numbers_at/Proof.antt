@@ -45,7 +45,7 @@ unfolding padded
 returns c =
     let d = c.before.before in
     let s = d.before.before.before.before in
-    let e = gather_out d.loop-i.invariant.1.1.1 (here d.before) (ap (λ (x : Numeral). x.ok) (hand d) ∙ not-true _ c.if-not-x.true) in
+    let e = gather_out d.loop-i.invariant.1.1.1 (here c.before.before.before) (ap (λ (x : Numeral). x.ok) (hand c.before.before) ∙ not-true _ c.if-not-x.true) in
     let z : numbers_for s.args.at unread ≡ numbers_for s.args.at (read_in (take s.args.n s.args.tags) (drop s.args.at s.args.s.now)) = ap (numbers_for s.args.at) (sym e) in
     rw (add-zero s.args.at) at z
 
@@ -56,8 +56,8 @@ size_fits c =
     let s = d.before.before.before.before in
     let k = l.invariant.1.0 in
     let t = drop s.args.at s.args.s.now in
-    let e = spaced_size (get_or (take s.args.n s.args.tags) l.i 0) (drop k t) (ap (λ (x : Numeral). x.ok) (hand d) ∙ not-false _ c.if-not-x.false) in
-    omega (arith, ap (λ (x : Numeral). x.size) (hand d), e, length-drop k t, length-drop s.args.at s.args.s.now, l.invariant.1.1.0, l.invariant.1.1.1.inside, s.requires.0)
+    let e = spaced_size (get_or (take s.args.n s.args.tags) l.i 0) (drop k t) (ap (λ (x : Numeral). x.ok) (hand c.before.before) ∙ not-false _ c.if-not-x.false) in
+    omega (arith, ap (λ (x : Numeral). x.size) (hand c.before.before), e, length-drop k t, length-drop s.args.at s.args.s.now, l.invariant.1.1.0, l.invariant.1.1.1.inside, s.requires.0)
 
 loop-again : tie.Need-loop-i-preserved invariant-loop decreases-loop
 loop-again c =
@@ -66,15 +66,15 @@ loop-again c =
     let l = d.loop-i in
     let s = d.before.before.before.before in
     let k = l.invariant.1.0 in
-    let g = gather_on l.invariant.1.1.1 (here d.before) (omega (arith, d.loop-i-test.true, s.requires.1)) (ap (λ (x : Numeral). x.ok) (hand d) ∙ not-false _ b.if-not-x.false) in
-    (omega (arith, d.loop-i-test.true), (k + (d.spaced-x.result.size + 1), (omega (arith, l.invariant.1.1.0), rw (hand d) at g)))
+    let g = gather_on l.invariant.1.1.1 (here c.before.before.before.before) (omega (arith, d.loop-i-test.true, s.requires.1)) (ap (λ (x : Numeral). x.ok) (hand c.before.before.before) ∙ not-false _ b.if-not-x.false) in
+    (omega (arith, d.loop-i-test.true), (k + (d.spaced-x.result.size + 1), (omega (arith, l.invariant.1.1.0), rw (hand c.before.before.before) at g)))
 
 returns-2 : tie.Need-returns invariant-loop decreases-loop
 returns-2 c =
     let l = c.loop-i in
     let s = c.before.before.before in
     let g = l.invariant.1.1.1 in
-    let e = gather_done g (omega (arith, all s, l.invariant.0, c.loop-i-test.false)) in
+    let e = gather_done g (omega (arith, all c.before.before.before, l.invariant.0, c.loop-i-test.false)) in
     rw (g.held, l.invariant.1.1.0) (ap (numbers_for s.args.at) (sym e))
 
 loop-holds : tie.Need-loop-i-init invariant-loop decreases-loop

@@ -44,7 +44,7 @@ whole c e =
     (first-of s.args.s.now s.args.at ∙ minus c.before) (past c e)
 
 returns-3 : tie.Need-returns-then-not-x
-returns-3 c = let d = c.before.before.before.before in c.none.ensures ∙ whole d (no_negative d.natural-x.result (not-true _ c.if-not-x.true-raw))
+returns-3 c = let d = c.before.before.before.before in c.none.ensures ∙ whole c.before.before.before.before (no_negative d.natural-x.result (not-true _ c.if-not-x.true-raw))
 
 size_fits : (c : tie.After-natural-x) → c.natural-x.result.size < length c.args.s.now
 size_fits c =
@@ -58,7 +58,7 @@ returns-4 c =
     let g = not-false _ c.if-not-x.false-raw in
     let p : 0 < x.value = ltb-true 0 x.value (and_right x.ok _ g) in
     let e : 18446744073709551615 - x.value + 1 ≡ 18446744073709551616 - x.value = omega arith in
-    whole d (ap (λ (n : ℕ). numeral n (x.size + 1)) e ∙ negative x g)
+    whole c.before.before.before.before.before (ap (λ (n : ℕ). numeral n (x.size + 1)) e ∙ negative x g)
 
 pub numeral_at_spec : {M : Type 1} → statement M
 numeral_at_spec =

@@ -27,7 +27,7 @@ returns : tie.Need-returns-then-s-at invariant-loop decreases-loop
 returns c =
     let s = c.before.before.before in
     let l = c.loop-i in
-    sym (l.invariant.1 ∙ lead_out _ _ l.i (omega (arith, all s, c.loop-i-test.true)) (omega (arith, left s, c.if-s-at.true)))
+    sym (l.invariant.1 ∙ lead_out _ _ l.i (omega (arith, all c.before.before.before, c.loop-i-test.true)) (omega (arith, left c.before.before.before, c.if-s-at.true)))
 
 returns-2 : tie.Need-returns-then-s-at-2 invariant-loop decreases-loop
 returns-2 c =
@@ -35,7 +35,7 @@ returns-2 c =
     let l = c.loop-i in
     let x = get_or-drop s.args.at s.args.s.now l.i 0 in
     let y = get_or-take s.args.n s.args.name l.i 0 c.loop-i-test.true in
-    sym (l.invariant.1 ∙ lead_not _ _ l.i (omega (arith, all s, c.loop-i-test.true)) (omega (arith, left s, c.if-s-at.false)) (λ e. c.if-s-at-2.true (sym x ∙ e ∙ y)))
+    sym (l.invariant.1 ∙ lead_not _ _ l.i (omega (arith, all c.before.before.before.before.before, c.loop-i-test.true)) (omega (arith, left c.before.before.before.before.before, c.if-s-at.false)) (λ e. c.if-s-at-2.true (sym x ∙ e ∙ y)))
 
 loop-again : tie.Need-loop-i-preserved invariant-loop decreases-loop
 loop-again c =
@@ -43,7 +43,7 @@ loop-again c =
     let l = c.loop-i in
     let x = get_or-drop s.args.at s.args.s.now l.i 0 in
     let y = get_or-take s.args.n s.args.name l.i 0 c.loop-i-test.true in
-    (omega arith, l.invariant.1 ∙ lead_on _ _ l.i (omega (arith, all s, c.loop-i-test.true)) (omega (arith, left s, c.if-s-at.false)) (x ∙ c.if-s-at-2.false ∙ sym y))
+    (omega arith, l.invariant.1 ∙ lead_on _ _ l.i (omega (arith, all c.before.before.before.before.before, c.loop-i-test.true)) (omega (arith, left c.before.before.before.before.before, c.if-s-at.false)) (x ∙ c.if-s-at-2.false ∙ sym y))
 
 returns-3 : tie.Need-returns invariant-loop decreases-loop
 returns-3 c =

@@ -12,7 +12,7 @@ use Rattle.text.specs.Names.{word_of}
 use Rattle.text.specs.Fields.{fields_for}
 use Rattle.text.specs.FieldLaws.{few_fields}
 use Rattle.text.specs.Line.{numerals_of, line_of}
-use Rattle.text.specs.LineLaws.{word_fits, word_in}
+use Rattle.text.specs.LineLaws.{word_fits, word_in_lem}
 use Rattle.text.proofs.writing.put_line.Statement.{statement}
 use Rattle.text.proofs.writing.put_line.Tie as tie
 
@@ -31,10 +31,10 @@ returns c =
     let s = c.before.before.before.before.before.before.before.before.before.before.before.before.before.before.before.before.before.before.before in
     let f = c.listed-row.ensures in
     let e = ap (λ (r : Listed). numerals_of (take r.0 r.1) s.args.numbers) f ∙ ap (λ (l : List ℕ). numerals_of l s.args.numbers) (take_padded (fields_for s.args.edition s.args.tag)) in
-    next (retext c.put-put.ensures (word_in (word_of s.args.tag) c.word-word.ensures))
+    next (retext c.put-put.ensures (word_in_lem (word_of s.args.tag) c.word-word.ensures))
     (next (retext c.put_numerals-q.ensures e) c.put.ensures)
 
 pub put_line_spec : {M : Type 1} → statement M
 put_line_spec =
     tie.close
-    (tie.spec (λ c κs. search rules) array-share-prefix-name slice-aggregate-put (λ c κs. search rules) (λ c κs. search rules) put-numerals-requires (λ c. search rules) (λ c κs. search rules) (λ c. search rules) returns)
+    (tie.spec (λ c κs. search rules) array-share-prefix-name slice-aggregate-put (λ c κs. search rules) (λ c κs. search rules) put-numerals-requires (λ c κs. search rules) (λ c. search rules) returns)

@@ -23,7 +23,7 @@ loop-again c =
     let l = c.loop-i in
     let s = c.before.before.before.before.before.before.before in
     let t = get_or-take s.args.n s.args.tags l.i 0 c.loop-i-test.true in
-    (omega arith, one_number (omega (arith, all s, c.loop-i-test.true)) l.invariant.1 (rw t c.put_spaced-p.ensures))
+    (omega arith, one_number (omega (arith, all c.before.before.before.before.before.before.before, c.loop-i-test.true)) l.invariant.1 (rw t c.put_spaced-p.ensures))
 
 returns : tie.Need-returns invariant-loop decreases-loop
 returns c = all_numbers (omega (arith, all c.before.before.before, c.loop-i.invariant.0)) c.loop-i.invariant.1

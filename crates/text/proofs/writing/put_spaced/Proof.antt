@@ -8,4 +8,4 @@ returns c = next c.put-put.ensures c.put_numeral.ensures
 
 pub put_spaced_spec : {M : Type 1} → statement M
 put_spaced_spec =
-    tie.close (tie.spec (λ c. search rules) (λ c κs. search rules) (λ c κs. search rules) (λ c. search rules) returns)
+    tie.close (tie.spec (λ c κs. search rules) (λ c κs. search rules) (λ c. search rules) returns)
