@@ -2,5 +2,4 @@ pub mod Purse
 pub mod Account
 pub mod Post
 pub mod Rules
-pub mod Laws
 pub mod Seen

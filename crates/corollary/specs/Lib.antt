@@ -1,5 +1,1 @@
 pub mod Journals
-pub mod JournalLaws
-pub mod Replayed
-pub mod Parts
-pub mod Snapshots

@@ -10,7 +10,7 @@ use Rattle.refusal.specs.Choice.{pick}
 use Rattle.refusal.specs.ChoiceLaws.{pick_on, pick_off}
 use Rattle.table.specs.Tables.{Found, absent, here, Table, find, adjust, insert, fmap, hit}
 use Rattle.table.specs.Deciding.{Is, is_true, is_false, decide}
-use Rattle.table.specs.TableLaws.{find_adjust, find_insert}
+use Rattle.table.proofs.TableLaws.{find_adjust, find_insert}
 use Rattle.table.specs.Sums.{count}
 use Rattle.history.specs.History.{sum, share}
 

@@ -7,7 +7,7 @@ use borrow.Author.Tests.{eqb-true, leb-false}
 use Rattle.refusal.specs.Choice.{pick}
 use Rattle.table.specs.Tables.{Found, absent, here, Table, find, insert, fmap, hit}
 use Rattle.table.specs.Deciding.{Is, is_true, is_false, decide}
-use Rattle.table.specs.TableLaws.{find_adjust, find_insert, length_adjust, length-insert}
+use Rattle.table.proofs.TableLaws.{find_adjust, find_insert, length_adjust, length-insert}
 use Rattle.table.specs.Sums.{count}
 use Rattle.negotiation.specs.Rounds.{round_slots, agrees_of}
 use Rattle.terms.specs.Terms.{same_terms}

@@ -7,7 +7,7 @@ use Rattle.refusal.specs.Choice.{pick}
 use Rattle.refusal.specs.ChoiceLaws.{pick_on, pick_off}
 use Rattle.table.specs.Tables.{Found, absent, here, Table, find, insert, fmap, hit}
 use Rattle.table.specs.Deciding.{Is, is_true, is_false, decide}
-use Rattle.table.specs.TableLaws.{find_adjust}
+use Rattle.table.proofs.TableLaws.{find_adjust}
 use Rattle.invoice.specs.declared.Invoice.{Invoice}
 use Rattle.invoice.specs.Invoice.{in_status}
 use Rattle.invoice.specs.Seen.{seen_invoice}

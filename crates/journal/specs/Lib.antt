@@ -10,5 +10,3 @@ pub mod WriteLaws
 pub mod ReadLaws
 pub mod RoundTrip
 pub mod Faithful
-pub mod Canonical
-pub mod Ahead

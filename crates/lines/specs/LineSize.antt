@@ -4,10 +4,10 @@ use Rattle.std.proofs.Common.{arith, length-append}
 use Rattle.money.specs.Range.{in_total, magnitude_of}
 use Rattle.money.specs.Facts.{total_le, magnitude_is}
 use Rattle.table.specs.Tables.{Table, keys}
-use Rattle.table.specs.Sound.{All}
+use Rattle.table.proofs.Sound.{All}
 use Rattle.account.specs.declared.Account.{Account}
 use Rattle.account.specs.Account.{account_sound}
-use Rattle.account.specs.Laws.{sound_ranges}
+use Rattle.account.proofs.Laws.{sound_ranges}
 use Rattle.totals.specs.declared.Totals.{Totals}
 use Rattle.totals.specs.Totals.{totals_sound}
 use Rattle.totals.specs.Laws.{totals_ranges}

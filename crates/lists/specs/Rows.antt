@@ -8,7 +8,7 @@ use Rattle.refusal.specs.Choice.{pick}
 use Rattle.money.specs.Range.{in_amount, magnitude_of}
 use Rattle.money.specs.Facts.{amount_le, magnitude_is}
 use Rattle.table.specs.Shelf.{table_of}
-use Rattle.table.specs.ShelfBack.{length_table}
+use Rattle.table.proofs.ShelfBack.{length_table}
 use Rattle.offer.specs.Offer.{no_offer}
 use Rattle.offer.specs.declared.Offer.{Offer}
 use Rattle.lists.specs.declared.OfferRows.{OfferRows}

@@ -7,7 +7,7 @@ use Rattle.refusal.specs.Choice.{pick}
 use Rattle.refusal.specs.Refusal.{first}
 use Rattle.refusal.specs.Rule.{Rule, after, answered}
 use Rattle.table.specs.Tables.{Found, absent, here, Table, find, adjust, insert, fmap}
-use Rattle.table.specs.SameId.{find-put, find_in_lem, adjust_back}
+use Rattle.table.proofs.SameId.{find-put, find_in_lem, adjust_back}
 use Rattle.table.specs.declared.Named.{Named}
 use Rattle.table.specs.declared.Named.TheVariants.{Id}
 use Rattle.account.specs.Rules as Account

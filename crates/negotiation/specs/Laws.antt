@@ -9,7 +9,7 @@ use Rattle.terms.specs.Terms.{terms_ok}
 use Rattle.terms.specs.declared.Terms.{Terms}
 use Rattle.table.specs.All.{all-at}
 use Rattle.table.specs.Test.{rows_test}
-use Rattle.table.specs.TestMore.{rows_more}
+use Rattle.table.proofs.TestMore.{rows_more}
 use Rattle.negotiation.specs.declared.Round.{Round}
 use Rattle.negotiation.specs.declared.Negotiation.{Negotiation}
 use Rattle.negotiation.specs.Rounds.{round_slots, no_round, no_negotiation, round_of, deadline_of, added_of, closed_as, accepted_of, round_sound, round_zero, negotiation_sound, negotiation_zero}

@@ -8,10 +8,10 @@ use Rattle.refusal.specs.ChoiceLaws.{pick_on, pick_off}
 use Rattle.refusal.specs.Rule.{answered}
 use Rattle.terms.specs.declared.Terms.{Terms}
 use Rattle.table.specs.Tables.{Found, absent, here, Table, find, insert, fmap}
-use Rattle.table.specs.TableLaws.{find_insert}
-use Rattle.table.specs.SameId.{find_in_lem}
+use Rattle.table.proofs.TableLaws.{find_insert}
+use Rattle.table.proofs.SameId.{find_in_lem}
 use Rattle.table.specs.Named.{same, find_by, put_by}
-use Rattle.table.specs.NamedLaws.{same_swap, same_found, found_by, found_other}
+use Rattle.table.proofs.NamedLaws.{same_swap, same_found, found_by, found_other}
 use Rattle.table.specs.declared.Named.{Named}
 use Rattle.table.specs.declared.Named.TheVariants.{Nothing, Id}
 use Rattle.account.specs.Seen.{put_account, seen_account}

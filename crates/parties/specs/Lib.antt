@@ -1,4 +1,3 @@
 pub mod Settlement
 pub mod Parties
 pub mod Laws
-pub mod Steps

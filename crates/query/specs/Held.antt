@@ -18,7 +18,7 @@ use Rattle.table.specs.Columns.{get_or_join}
 use Rattle.table.specs.Parts.{first_column}
 use Rattle.table.specs.All.{all-at}
 use Rattle.table.specs.Test.{ids_test, row_test, rows_test}
-use Rattle.table.specs.TestLaws.{used}
+use Rattle.table.proofs.TestLaws.{used}
 use Rattle.negotiation.specs.Rounds.{no_negotiation}
 use Rattle.offer.specs.Offer.{no_offer, no_schedule, no_deal, deal_sound, deal_zero}
 use Rattle.offer.specs.Laws.{DealKept, kept_ranges}

@@ -8,7 +8,7 @@ use Rattle.wire.specs.FieldLaws.{and_left, and_right}
 use Rattle.command.specs.declared.Command.{Command}
 use Rattle.journal.specs.Answers.{Opening, good_header, bad_header, found, refused}
 use Rattle.journal.specs.Format.{edition_in, opening_of, read_at}
-use Rattle.journal.specs.Ahead.{Goes, goes}
+use Rattle.journal.proofs.Ahead.{Goes, goes}
 
 module _ (e : ℕ) (s : List ℕ) (at : ℕ) where
   -- a record leads on, within the journal; a fault is there

@@ -4,7 +4,7 @@ use Rattle.std.proofs.Common.{arith, leb-true}
 use Rattle.refusal.specs.Choice.{pick}
 use Rattle.table.specs.Tables.{Table, adjust, insert, keys}
 use Rattle.table.specs.Deciding.{Is, is_true, is_false, decide}
-use Rattle.table.specs.TableLaws.{keys_adjust}
+use Rattle.table.proofs.TableLaws.{keys_adjust}
 use Rattle.command.specs.Shape.{Shape, opens, account, registers, cancels, creates, offer, accepts, amends, counters, totals, settings, shape_of}
 use Rattle.wire.specs.Field.{begins}
 use Rattle.wire.specs.FieldLaws.{and_left, and_right}

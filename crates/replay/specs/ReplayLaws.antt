@@ -7,7 +7,7 @@ use Rattle.refusal.specs.ChoiceLaws.{pick_off}
 use Rattle.command.specs.declared.Command.{Command}
 use Rattle.journal.specs.Answers.{good_header, Reading, found, refused, ended}
 use Rattle.journal.specs.Format.{opening_of, read_at}
-use Rattle.journal.specs.Ahead.{Goes, goes}
+use Rattle.journal.proofs.Ahead.{Goes, goes}
 use Rattle.rules.specs.Model.{Model}
 use Rattle.replay.specs.Replay.{at_end, at_header, at_record, Replayed, halted, heard, follow, replay_by, replay_from, headed, replay_on}
 use Rattle.soundness.specs.Played.{answer_to, obeyed}

@@ -14,7 +14,7 @@ use Rattle.table.specs.Tables.{keys}
 use Rattle.command.specs.declared.Command.{Command}
 use Rattle.journal.specs.Answers.{Reading, found, refused, ended}
 use Rattle.journal.specs.Format.{opening_of, read_at}
-use Rattle.journal.specs.Ahead.{Goes, goes}
+use Rattle.journal.proofs.Ahead.{Goes, goes}
 use Rattle.sheet.specs.declared.Pen.{Pen}
 use Rattle.sheet.specs.Sheet.{Wrote, pen_at}
 use Rattle.lines.specs.Lines.{edition_line, answer_line, mark_line, account_lines}

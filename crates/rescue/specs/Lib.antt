@@ -1,9 +1,3 @@
 pub mod Rescue
 pub mod Swept
-pub mod Walk
-pub mod Sweep
-pub mod Answers
-pub mod Laws
-pub mod Trips
 pub mod Unique
-pub mod Room

@@ -8,8 +8,8 @@ use Rattle.refusal.specs.Refusal.{first}
 use Rattle.refusal.specs.Rule.{sure}
 use Rattle.refusal.specs.RuleLaws.{passed, both_pass}
 use Rattle.table.specs.Tables.{Found, absent, here, Table, find, adjust, fmap}
-use Rattle.table.specs.SameId.{find-put}
-use Rattle.table.specs.NamedLaws.{never}
+use Rattle.table.proofs.SameId.{find-put}
+use Rattle.table.proofs.NamedLaws.{never}
 use Rattle.terms.specs.Terms.{same_terms}
 use Rattle.terms.specs.declared.Terms.{Terms}
 use Rattle.negotiation.specs.Rounds.{round_slots, agrees_of}

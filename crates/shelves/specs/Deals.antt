@@ -6,7 +6,7 @@ use Rattle.table.specs.Find.{find_in}
 use Rattle.table.specs.Shift.{insert_at}
 use Rattle.table.specs.Tables.{here, held, find, adjust, insert}
 use Rattle.table.specs.Padded.{length-padded}
-use Rattle.table.specs.ShelfLaws.{at_below, at_found, kept, put_kept, absent_kept, in_kept}
+use Rattle.table.proofs.ShelfLaws.{at_below, at_found, kept, put_kept, absent_kept, in_kept}
 use Rattle.table.specs.Columns.{length_join, join_at}
 use Rattle.table.specs.Parts.{Parts, apart_join, apart_set, apart_insert}
 use Rattle.negotiation.specs.declared.Negotiation.{Negotiation}

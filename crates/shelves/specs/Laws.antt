@@ -1,13 +1,13 @@
 -- What the tests of the tables say of the rows, and that a table kept in arrays is the table read from them.
 use Rattle.std.specs.Prelude.{◌≡◌, true}
 use Rattle.std.proofs.Common.{sym}
-use Rattle.table.specs.Sound.{All}
-use Rattle.table.specs.ShelfBack.{table_stored, shelf_stored}
-use Rattle.table.specs.ShelfLaws.{kept}
-use Rattle.table.specs.Keeping.{Keeping, shelf_fine}
-use Rattle.table.specs.TestLaws.{shelf_of, rows_of, passes}
+use Rattle.table.proofs.Sound.{All}
+use Rattle.table.proofs.ShelfBack.{table_stored, shelf_stored}
+use Rattle.table.proofs.ShelfLaws.{kept}
+use Rattle.table.proofs.Keeping.{Keeping, shelf_fine}
+use Rattle.table.proofs.TestLaws.{shelf_of, rows_of, passes}
 use Rattle.account.specs.Account.{no_account, account_sound, account_zero}
-use Rattle.account.specs.Laws.{account_zero_lem, no_account_zero}
+use Rattle.account.proofs.Laws.{account_zero_lem, no_account_zero}
 use Rattle.invoice.specs.Invoice.{no_invoice, invoice_sound, invoice_zero}
 use Rattle.invoice.specs.Laws.{invoice_zero_lem, no_invoice_zero}
 use Rattle.shelves.specs.declared.Accounts.{Accounts}

@@ -7,7 +7,7 @@ use Rattle.table.specs.Find.{find_in}
 use Rattle.table.specs.declared.Found.TheVariants.{Absent}
 use Rattle.table.specs.Padded.{padded, pad_rest}
 use Rattle.table.specs.Shift.{insert_at, Lifts, lifts, lifts_on}
-use Rattle.table.specs.Raising.{Between, ids_raised}
+use Rattle.table.proofs.Raising.{Between, ids_raised}
 use Rattle.table.specs.Join.{column}
 use Rattle.negotiation.specs.declared.Negotiation.{Negotiation}
 use Rattle.terms.specs.declared.Schedule.{Schedule}

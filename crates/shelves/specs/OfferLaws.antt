@@ -5,13 +5,13 @@ use Rattle.std.proofs.lemmas.List.{length-map}
 use Rattle.table.specs.Tables.{Table, key, held}
 use Rattle.table.specs.Padded.{padded, length-padded}
 use Rattle.table.specs.Shelf.{table_of}
-use Rattle.table.specs.ShelfBack.{table_stored, shelf_stored}
-use Rattle.table.specs.Sound.{All, all_map}
+use Rattle.table.proofs.ShelfBack.{table_stored, shelf_stored}
+use Rattle.table.proofs.Sound.{All, all_map}
 use Rattle.table.specs.Columns.{level, length_join, get_or_join}
 use Rattle.table.specs.Join.{Level}
 use Rattle.table.specs.Parts.{join_columns}
-use Rattle.table.specs.Keeping.{Keeping, shelf_fine}
-use Rattle.table.specs.TestLaws.{shelf_of, rows_of, passes, everywhere}
+use Rattle.table.proofs.Keeping.{Keeping, shelf_fine}
+use Rattle.table.proofs.TestLaws.{shelf_of, rows_of, passes, everywhere}
 use Rattle.negotiation.specs.Rounds.{round_slots, no_negotiation}
 use Rattle.negotiation.specs.Whole.{Whole}
 use Rattle.negotiation.specs.Laws.{none_whole}

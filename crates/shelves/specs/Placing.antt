@@ -7,14 +7,14 @@ use Rattle.table.specs.Tables.{Found, here, find, has, Room}
 use Rattle.table.specs.Find.{find_in}
 use Rattle.table.specs.Named.{find_by, put_by}
 use Rattle.table.specs.Spots.{spot_of, spot_by, at_spot}
-use Rattle.table.specs.SpotLaws.{spot_put, has_spot, on_spot, off_spot, written_new}
-use Rattle.table.specs.NamedLaws.{never, fine_by}
+use Rattle.table.proofs.SpotLaws.{spot_put, has_spot, on_spot, off_spot, written_new}
+use Rattle.table.proofs.NamedLaws.{never, fine_by}
 use Rattle.table.specs.declared.Named.{Named}
 use Rattle.table.specs.declared.Named.TheVariants.{Nothing, Id}
 use Rattle.table.specs.declared.Found as Places
 use Rattle.table.specs.declared.Found.TheVariants.{At, Absent}
 use Rattle.table.specs.declared.Spot.{Spot}
-use Rattle.table.specs.ShelfLaws.{absent_found}
+use Rattle.table.proofs.ShelfLaws.{absent_found}
 use Rattle.account.specs.Account.{no_account}
 use Rattle.account.specs.declared.Account.{Account}
 use Rattle.invoice.specs.Invoice.{no_invoice}

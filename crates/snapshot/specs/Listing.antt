@@ -12,10 +12,10 @@ use Rattle.table.specs.All.{all-at}
 use Rattle.table.specs.Columns.{level, join_at, length_join}
 use Rattle.table.specs.Join.{Level}
 use Rattle.table.specs.Shelf.{table_of}
-use Rattle.table.specs.ShelfBack.{length_table}
+use Rattle.table.proofs.ShelfBack.{length_table}
 use Rattle.table.specs.Tables.{Table}
 use Rattle.table.specs.Test.{ids_test, row_test, rows_test}
-use Rattle.table.specs.TestLaws.{used}
+use Rattle.table.proofs.TestLaws.{used}
 use Rattle.sheet.specs.declared.Pen.{Pen}
 use Rattle.negotiation.specs.declared.Negotiation.{Negotiation}
 use Rattle.terms.specs.declared.Schedule.{Schedule}

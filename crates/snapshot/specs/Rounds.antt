@@ -16,7 +16,7 @@ use Rattle.terms.specs.Schedule.{schedule_zero, schedule_ok}
 use Rattle.table.specs.Padded.{padded}
 use Rattle.table.specs.All.{all-at}
 use Rattle.table.specs.Test.{row_test, rows_test}
-use Rattle.table.specs.TestLaws.{free}
+use Rattle.table.proofs.TestLaws.{free}
 use Rattle.negotiation.specs.declared.Round.{Round}
 use Rattle.negotiation.specs.declared.Negotiation.{Negotiation}
 use Rattle.negotiation.specs.Rounds.{round_slots, no_round, round_sound, round_zero, negotiation_sound}

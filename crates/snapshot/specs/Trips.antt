@@ -17,7 +17,7 @@ use Rattle.wire.specs.NumberLaws.{Bytes}
 use Rattle.table.specs.Tables.{Table, key, held}
 use Rattle.table.specs.Padded.{padded, length-padded}
 use Rattle.table.specs.Shelf.{table_of}
-use Rattle.table.specs.ShelfBack.{table_stored}
+use Rattle.table.proofs.ShelfBack.{table_stored}
 use Rattle.table.specs.Parts.{join_columns}
 use Rattle.negotiation.specs.Rounds.{round_slots, no_round, no_negotiation}
 use Rattle.negotiation.specs.Whole.{Whole}

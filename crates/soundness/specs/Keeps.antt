@@ -12,13 +12,13 @@ use Rattle.refusal.specs.Rule.{Rule, after}
 use Rattle.refusal.specs.RuleLaws.{KeepsTest, Keeps, passed, both_pass}
 use Rattle.money.specs.Range.{in_amount}
 use Rattle.table.specs.Tables.{here, full}
-use Rattle.table.specs.Sound.{all_insert}
+use Rattle.table.proofs.Sound.{all_insert}
 use Rattle.terms.specs.Terms.{terms_ok}
 use Rattle.terms.specs.declared.Terms.{Terms}
 use Rattle.account.specs.Account.{no_account, account_sound}
 use Rattle.account.specs.declared.Account.{Account}
 use Rattle.account.specs.Rules.{offer_of, reoffer_of}
-use Rattle.account.specs.Laws as Account
+use Rattle.account.proofs.Laws as Account
 use Rattle.invoice.specs.Invoice.{invoice_of, invoice_sound}
 use Rattle.invoice.specs.declared.Invoice.{Invoice}
 use Rattle.invoice.specs.Laws as Invoice
@@ -35,7 +35,7 @@ use Rattle.command.specs.declared.Command.{Command}
 use Rattle.command.specs.Shape.{OnAccount, deposits, pays, approves, lender_repaid, blacklists, OnOffer, withdraws, rejects, closes, schedules, marks, repaid, OnSettings, pauses, waits, appoints, seats, Shape, opens, account, registers, cancels, creates, offer, accepts, amends, counters, totals, settings, shape_of}
 use Rattle.rules.specs.Model.{Model, account_in, invoice_in, offer_in, paper_of, on_account, on_offer}
 use Rattle.rules.specs.Rules.{gate_checks, creating, terms_in, amended_in, countered_in, amending, countering, account_rule, offer_rule, settings_rule, ruled, commanded, amends_in, counters_in}
-use Rattle.table.specs.Keeping.{fine_adjust}
+use Rattle.table.proofs.Keeping.{fine_adjust}
 use Rattle.rules.specs.Fitting.{fits_ruled}
 use Rattle.soundness.specs.Sound.{ModelSound}
 use Rattle.soundness.specs.Parts.{account_put, invoice_put, deal_put, settled_sound, agreed_sound, with_accounts_lem, with_invoices_lem, with_offers_lem, with_totals_lem, with_settings_lem}

@@ -7,12 +7,12 @@ use Rattle.refusal.specs.Refusal.{first}
 use Rattle.refusal.specs.Rule.{Rule}
 use Rattle.refusal.specs.RuleLaws.{KeepsTest, passed, both_pass}
 use Rattle.table.specs.Tables.{Table, find, adjust}
-use Rattle.table.specs.Sound.{All}
+use Rattle.table.proofs.Sound.{All}
 use Rattle.terms.specs.declared.Terms.{Terms}
 use Rattle.account.specs.Account.{account_sound}
 use Rattle.account.specs.declared.Account.{Account}
 use Rattle.account.specs.Rules.{debit_of, credit_of, accept_of}
-use Rattle.account.specs.Laws as Account
+use Rattle.account.proofs.Laws as Account
 use Rattle.invoice.specs.Invoice.{invoice_sound}
 use Rattle.invoice.specs.declared.Invoice.{Invoice}
 use Rattle.invoice.specs.Laws as Invoice

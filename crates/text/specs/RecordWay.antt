@@ -11,7 +11,7 @@ use Rattle.journal.specs.Format.{zeros, read_at, bytes_for}
 use Rattle.journal.specs.Held.{by_tag}
 use Rattle.journal.specs.HeldLaws.{Tops}
 use Rattle.journal.specs.Faithful.{made_of}
-use Rattle.journal.specs.Canonical.{canonical}
+use Rattle.journal.proofs.Canonical.{canonical}
 use Rattle.journal.specs.RoundTrip.{parts_back}
 use Rattle.journal.specs.ReadLaws.{at-end}
 use Rattle.text.specs.Names.{commands, word_in}

@@ -9,7 +9,7 @@ use Rattle.wire.specs.NumberLaws.{Bytes}
 use Rattle.journal.specs.Answers.{Opening, good_header}
 use Rattle.journal.specs.Format.{header_of, opening_of, read_at}
 use Rattle.journal.specs.RoundTrip.{header_long, header_back}
-use Rattle.journal.specs.Canonical.{header_canonical}
+use Rattle.journal.proofs.Canonical.{header_canonical}
 use Rattle.text.specs.Line.{line_of}
 use Rattle.text.specs.Walk.{Walk, halted, walk_by, all_of}
 use Rattle.text.specs.Answers.{Outcome, whole, faulty}

@@ -5,7 +5,7 @@ use Rattle.refusal.specs.Choice.{pick}
 use Rattle.refusal.specs.ChoiceLaws.{pick_on, pick_off}
 use Rattle.journal.specs.Answers.{Opening, good_header, bad_header, Reading, found, refused, ended}
 use Rattle.journal.specs.Format.{opening_of, read_at}
-use Rattle.journal.specs.Ahead.{Goes, goes}
+use Rattle.journal.proofs.Ahead.{Goes, goes}
 use Rattle.sheet.specs.declared.Pen.{Pen}
 use Rattle.sheet.specs.Sheet.{Wrote}
 use Rattle.sheet.specs.SheetLaws.{none, next, retext}

@@ -1,4 +1,4 @@
-use Rattle.corollary.specs.Replayed.{replay_shelved, replay_sound}
+use Rattle.corollary.proofs.Replayed.{replay_shelved, replay_sound}
 use borrow.Author.Rules.{rules}
 use Rattle.ask.proofs.answer_from.Statement.{statement}
 use Rattle.ask.proofs.answer_from.Tie as tie

@@ -1,4 +1,4 @@
-use Rattle.corollary.specs.Replayed.{from_shelved, from_sound}
+use Rattle.corollary.proofs.Replayed.{from_shelved, from_sound}
 use Rattle.replay.specs.Typing.{typed}
 use borrow.Author.Rules.{rules}
 use Rattle.ask.proofs.answer_on.Statement.{statement}

@@ -7,7 +7,7 @@ use Rattle.account.specs.Account.{no_account}
 use Rattle.sheet.specs.Sheet.{Wrote}
 use Rattle.sheet.specs.SheetLaws.{next, kept, retext, none}
 use Rattle.lines.specs.Lines.{account_lines}
-use Rattle.lines.specs.LineLaws.{lines_none, lines_turn, table_all}
+use Rattle.lines.proofs.LineLaws.{lines_none, lines_turn, table_all}
 use Rattle.lines.proofs.put_accounts.Statement.{statement}
 use Rattle.lines.proofs.put_accounts.Tie as tie
 

@@ -6,7 +6,7 @@ use lib.ListN.{length, get_or}
 use borrow.Author.Rules.{rules}
 use Rattle.table.specs.Tables.{Table}
 use Rattle.table.specs.declared.Named.TheVariants.{Id}
-use Rattle.table.specs.SpotLaws.{spot_below, spot_found}
+use Rattle.table.proofs.SpotLaws.{spot_below, spot_found}
 use Rattle.account.specs.Seen.{seen_account}
 use Rattle.invoice.specs.declared.Invoice.{Invoice}
 use Rattle.offer.specs.Seen.{seen_deal}

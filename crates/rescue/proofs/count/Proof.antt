@@ -2,8 +2,8 @@ use Prim.Native.Nat.{◌-◌}
 use native.Mathlib.Omega.{arith}
 use lib.ListN.{length, drop}
 use borrow.Author.Rules.{rules}
-use Rattle.rescue.specs.Walk.{Steps, stepped, stopped}
-use Rattle.rescue.specs.Sweep.{Counting, counting, count_on, count_done}
+use Rattle.rescue.proofs.Walk.{Steps, stepped, stopped}
+use Rattle.rescue.proofs.Sweep.{Counting, counting, count_on, count_done}
 use Rattle.rescue.proofs.count.Statement.{statement}
 use Rattle.rescue.proofs.count.Tie as tie
 

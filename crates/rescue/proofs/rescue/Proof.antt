@@ -8,7 +8,7 @@ use borrow.Author.Rules.{rules}
 use Rattle.refusal.specs.Placed.{placed}
 use Rattle.journal.specs.Answers.{opening}
 use Rattle.rescue.specs.Rescue.{report_of}
-use Rattle.rescue.specs.Answers.{Opens, opened, not_opened, bad_header_lem, short_out, short_report, count-is, head_is, head_long, rescued}
+use Rattle.rescue.proofs.Answers.{Opens, opened, not_opened, bad_header_lem, short_out, short_report, count-is, head_is, head_long, rescued}
 use Rattle.rescue.proofs.rescue.Statement.{statement}
 use Rattle.rescue.proofs.rescue.Tie as tie
 

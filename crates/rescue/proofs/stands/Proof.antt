@@ -1,7 +1,7 @@
 use mathlib.Core.Path.{sym, ap, ◌∙◌}
 use borrow.Author.Rules.{rules}
 use Rattle.journal.specs.Answers.{reading}
-use Rattle.rescue.specs.Walk.{stands_is}
+use Rattle.rescue.proofs.Walk.{stands_is}
 use Rattle.rescue.proofs.stands.Statement.{statement}
 use Rattle.rescue.proofs.stands.Tie as tie
 

@@ -6,7 +6,7 @@ use borrow.Author.Rules.{rules}
 use Rattle.refusal.specs.ChoiceLaws.{off}
 use Rattle.wire.specs.FieldTrip.{bytes_drop, number_small}
 use Rattle.rescue.specs.Rescue.{outer}
-use Rattle.rescue.specs.Walk.{fits_not, outer_at, no_step, a_step}
+use Rattle.rescue.proofs.Walk.{fits_not, outer_at, no_step, a_step}
 use Rattle.rescue.proofs.step.Statement.{statement}
 use Rattle.rescue.proofs.step.Tie as tie
 

@@ -2,8 +2,8 @@ use Prim.Native.Nat.{◌-◌}
 use native.Mathlib.Omega.{arith}
 use lib.ListN.{length, drop}
 use borrow.Author.Rules.{rules}
-use Rattle.rescue.specs.Walk.{Steps, stepped, stopped}
-use Rattle.rescue.specs.Sweep.{Sweeping, sweeping, room_out, room_report, sweep_on, sweep_done}
+use Rattle.rescue.proofs.Walk.{Steps, stepped, stopped}
+use Rattle.rescue.proofs.Sweep.{Sweeping, sweeping, room_out, room_report, sweep_on, sweep_done}
 use Rattle.rescue.proofs.sweep.Statement.{statement}
 use Rattle.rescue.proofs.sweep.Tie as tie
 

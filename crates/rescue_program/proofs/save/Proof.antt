@@ -4,7 +4,7 @@ use lib.ListN.{length}
 use lib.Seq.{length-take-le}
 use borrow.Author.Rules.{rules}
 use Rattle.rescue.specs.Rescue.{said}
-use Rattle.rescue.specs.Room.{takes}
+use Rattle.rescue.proofs.Room.{takes}
 use Rattle.rescue_program.proofs.save.Statement.{statement}
 use Rattle.rescue_program.proofs.save.Tie as tie
 

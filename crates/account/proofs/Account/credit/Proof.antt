@@ -3,7 +3,7 @@ use Rattle.money.specs.Range.{moved_of}
 use Rattle.money.specs.Moves.{move_tells, move_makes}
 use Rattle.money.specs.Facts.{back}
 use Rattle.account.specs.Purse.{gains}
-use Rattle.account.specs.Laws.{moves_purse}
+use Rattle.account.proofs.Laws.{moves_purse}
 use Rattle.refusal.specs.Refusal.{out_of_range}
 use borrow.Author.Rules.{rules}
 use Rattle.account.proofs.Account.credit.Statement.{statement}

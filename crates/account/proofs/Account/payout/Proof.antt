@@ -7,7 +7,7 @@ use Rattle.money.specs.Moves.{move_tells, move_makes}
 use Rattle.money.specs.Facts.{back}
 use Rattle.account.specs.Purse.{gains}
 use Rattle.account.specs.Rules.{posted}
-use Rattle.account.specs.Laws.{moves_purse}
+use Rattle.account.proofs.Laws.{moves_purse}
 use Rattle.refusal.specs.Refusal.{invalid_input, balance_short}
 use Rattle.refusal.specs.RuleLaws.{refuses, goes_on}
 use borrow.Author.Rules.{rules}

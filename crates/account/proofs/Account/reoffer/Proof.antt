@@ -5,7 +5,7 @@ use Rattle.money.specs.Facts.{back}
 use Rattle.account.specs.declared.MovedPurse.{MovedPurse}
 use Rattle.account.specs.Purse.{reoffers}
 use Rattle.account.specs.Post.{with_offered, posted_to}
-use Rattle.account.specs.Laws.{moves_purse}
+use Rattle.account.proofs.Laws.{moves_purse}
 use Rattle.refusal.specs.Refusal.{out_of_range}
 use borrow.Author.Rules.{rules}
 use Rattle.account.proofs.Account.reoffer.Statement.{statement}

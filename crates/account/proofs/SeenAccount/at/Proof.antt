@@ -1,7 +1,7 @@
 use mathlib.Core.Path.{sym, ap}
 use borrow.Author.Tests.{not-true, not-false}
 use borrow.Author.Rules.{rules}
-use Rattle.table.specs.SpotLaws.{on_spot, off_spot}
+use Rattle.table.proofs.SpotLaws.{on_spot, off_spot}
 use Rattle.account.specs.Seen.{seen_account}
 use Rattle.account.proofs.SeenAccount.at.Statement.{statement}
 use Rattle.account.proofs.SeenAccount.at.Tie as tie

@@ -1,5 +1,5 @@
 use borrow.Author.Tests.{not-true, not-false}
-use Rattle.table.specs.SpotLaws.{written_new, written_old}
+use Rattle.table.proofs.SpotLaws.{written_new, written_old}
 use Rattle.invoice.proofs.Invoice.over.Statement.{statement}
 use Rattle.invoice.proofs.Invoice.over.Tie as tie
 

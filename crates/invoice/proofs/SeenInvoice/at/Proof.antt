@@ -1,7 +1,7 @@
 use mathlib.Core.Path.{sym, ap}
 use borrow.Author.Tests.{not-true, not-false}
 use borrow.Author.Rules.{rules}
-use Rattle.table.specs.SpotLaws.{on_spot, off_spot}
+use Rattle.table.proofs.SpotLaws.{on_spot, off_spot}
 use Rattle.invoice.specs.Seen.{seen_invoice}
 use Rattle.invoice.proofs.SeenInvoice.at.Statement.{statement}
 use Rattle.invoice.proofs.SeenInvoice.at.Tie as tie

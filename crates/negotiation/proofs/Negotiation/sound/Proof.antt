@@ -2,7 +2,7 @@ use Prim.Native.Nat.{◌-◌}
 use lib.ListN.{length-map}
 use mathlib.Core.Path.{sym, ◌∙◌}
 use Rattle.table.specs.Test.{row_test}
-use Rattle.table.specs.TestLaws.{by_use_lem}
+use Rattle.table.proofs.TestLaws.{by_use_lem}
 use Rattle.table.specs.All.{Checked, check_start, check_turn, check_done}
 use Rattle.negotiation.specs.Rounds.{no_round, round_sound, round_zero, negotiation_sound}
 use borrow.Author.Rules.{rules}

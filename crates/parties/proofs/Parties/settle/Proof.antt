@@ -7,10 +7,10 @@ use Rattle.refusal.specs.Refusal.{first}
 use Rattle.table.specs.Tables.{Table}
 use Rattle.account.specs.declared.Account.{Account}
 use Rattle.parties.specs.Settlement.{seen_in}
-use Rattle.parties.specs.Steps.{still_here}
+use Rattle.parties.proofs.Steps.{still_here}
 use Rattle.parties.specs.declared.Parties.{Parties}
 use Rattle.parties.specs.Parties.{parties_of}
-use Rattle.parties.specs.Steps.{row_missing, row_answer, row_done, debit, credit, accept, first_step, second_step, step1, step2, step3, debit_refuses, credit_refuses, accept_refuses, all_pass_lem, zero_of}
+use Rattle.parties.proofs.Steps.{row_missing, row_answer, row_done, debit, credit, accept, first_step, second_step, step1, step2, step3, debit_refuses, credit_refuses, accept_refuses, all_pass_lem, zero_of}
 use Rattle.parties.proofs.Parties.settle.Statement.{statement}
 use Rattle.parties.proofs.Parties.settle.Tie as tie
 

@@ -1,7 +1,7 @@
 use mathlib.Core.Path.{sym, ap, ◌∙◌}
 use Prim.Native.Nat.{◌<◌}
 use native.Mathlib.Omega.{arith}
-use Rattle.table.specs.SpotLaws.{spot_below, spot_found}
+use Rattle.table.proofs.SpotLaws.{spot_below, spot_found}
 use Rattle.account.specs.Seen.{seen_account}
 use borrow.Author.Rules.{rules}
 use Rattle.shelves.proofs.Accounts.see.Statement.{statement}

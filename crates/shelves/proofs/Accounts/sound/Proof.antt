@@ -4,7 +4,7 @@ use lib.ListN.{length-map}
 use borrow.Author.Rules.{rules}
 use Rattle.table.specs.All.{Checked, check_start, check_turn, check_done, both_same}
 use Rattle.table.specs.Test.{row_test}
-use Rattle.table.specs.TestLaws.{by_use_lem}
+use Rattle.table.proofs.TestLaws.{by_use_lem}
 use Rattle.account.specs.Account.{no_account, account_sound, account_zero}
 use Rattle.shelves.specs.Accounts.{accounts_test}
 use Rattle.shelves.proofs.Accounts.sound.Statement.{statement}

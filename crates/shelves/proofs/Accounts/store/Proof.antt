@@ -1,13 +1,13 @@
 use lib.ListN.{set}
 use mathlib.Core.Path.{subst}
 use mathlib.Core.Bool.{Bool, not, ◌&&◌}
-use Rattle.table.specs.NamedLaws.{fine_by}
+use Rattle.table.proofs.NamedLaws.{fine_by}
 use Rattle.shelves.specs.Accounts.{AccountShelf}
 use mathlib.Core.Path.{◌≡◌, refl, sym, ap, ◌∙◌}
 use Prim.Native.Nat.{◌<◌}
 use native.Mathlib.Omega.{arith}
-use Rattle.table.specs.Storing.{good, stays, room, grows}
-use Rattle.table.specs.SpotLaws.{spot_below, spot_found}
+use Rattle.table.proofs.Storing.{good, stays, room, grows}
+use Rattle.table.proofs.SpotLaws.{spot_below, spot_found}
 use Rattle.table.specs.Tables.{has}
 use Rattle.table.specs.Named.{find_by, put_by}
 use Rattle.shelves.specs.Accounts.{accounts_of, as_accounts, stored_accounts}

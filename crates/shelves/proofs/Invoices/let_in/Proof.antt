@@ -2,9 +2,9 @@ use native.Mathlib.Omega.{arith}
 use mathlib.Core.Path.{sym, ◌∙◌}
 use borrow.Author.Rules.{rules}
 use Rattle.table.specs.Rows.{here_absent}
-use Rattle.table.specs.ShelfLaws.{at_found}
-use Rattle.table.specs.SpotLaws.{slot_inside}
-use Rattle.table.specs.Raising.{Raised, raised, raised_on, let_in_lem}
+use Rattle.table.proofs.ShelfLaws.{at_found}
+use Rattle.table.proofs.SpotLaws.{slot_inside}
+use Rattle.table.proofs.Raising.{Raised, raised, raised_on, let_in_lem}
 use Rattle.shelves.specs.Invoices.{as_invoices}
 use Rattle.shelves.proofs.Invoices.let_in.Statement.{statement}
 use Rattle.shelves.proofs.Invoices.let_in.Tie as tie

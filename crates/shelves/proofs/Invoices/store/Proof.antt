@@ -5,9 +5,9 @@ use native.Mathlib.Omega.{arith}
 use lib.ListN.{set}
 use Rattle.table.specs.Tables.{has}
 use Rattle.table.specs.Named.{find_by, put_by}
-use Rattle.table.specs.NamedLaws.{fine_by}
-use Rattle.table.specs.SpotLaws.{spot_below, spot_found}
-use Rattle.table.specs.Storing.{stays, room, grows, once}
+use Rattle.table.proofs.NamedLaws.{fine_by}
+use Rattle.table.proofs.SpotLaws.{spot_below, spot_found}
+use Rattle.table.proofs.Storing.{stays, room, grows, once}
 use Rattle.shelves.specs.Invoices.{invoices_of, as_invoices, stored_invoices, InvoiceShelf}
 use Rattle.shelves.specs.Laws.{invoices_keeping}
 use Rattle.shelves.specs.Seeing.{invoice_row}

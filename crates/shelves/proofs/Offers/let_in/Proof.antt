@@ -2,8 +2,8 @@ use native.Mathlib.Omega.{arith}
 use mathlib.Core.Path.{sym, ◌∙◌}
 use borrow.Author.Rules.{rules}
 use Rattle.table.specs.Rows.{here_absent}
-use Rattle.table.specs.ShelfLaws.{at_found}
-use Rattle.table.specs.SpotLaws.{slot_inside}
+use Rattle.table.proofs.ShelfLaws.{at_found}
+use Rattle.table.proofs.SpotLaws.{slot_inside}
 use Rattle.shelves.specs.Moving.{Moves, moves, moves_on, deal_let_in}
 use Rattle.shelves.proofs.Offers.let_in.Statement.{statement}
 use Rattle.shelves.proofs.Offers.let_in.Tie as tie

@@ -1,7 +1,7 @@
 use mathlib.Core.Path.{sym, ap, ◌∙◌}
 use Prim.Native.Nat.{◌<◌}
 use native.Mathlib.Omega.{arith}
-use Rattle.table.specs.SpotLaws.{spot_below}
+use Rattle.table.proofs.SpotLaws.{spot_below}
 use Rattle.offer.specs.Seen.{seen_deal}
 use Rattle.shelves.specs.Placing.{deal_read_lem}
 use borrow.Author.Rules.{rules}

@@ -9,7 +9,7 @@ use Rattle.table.specs.Columns.{any-default, level, join_at}
 use Rattle.table.specs.Join.{Level}
 use Rattle.table.specs.All.{Checked, check_start, check_turn, check_done, both_same, below_on}
 use Rattle.table.specs.Test.{row_test}
-use Rattle.table.specs.TestLaws.{by_use_lem}
+use Rattle.table.proofs.TestLaws.{by_use_lem}
 use Rattle.negotiation.specs.Rounds.{round_slots, no_negotiation}
 use Rattle.negotiation.specs.Whole.{Whole}
 use Rattle.offer.specs.Offer.{no_deal, deal_sound, deal_zero}

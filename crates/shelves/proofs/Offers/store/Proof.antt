@@ -7,9 +7,9 @@ use lib.ListN.{set}
 use borrow.Author.Rules.{rules}
 use Rattle.table.specs.Tables.{has}
 use Rattle.table.specs.Named.{find_by, put_by}
-use Rattle.table.specs.NamedLaws.{fine_by}
-use Rattle.table.specs.SpotLaws.{spot_below}
-use Rattle.table.specs.Storing.{stays, room, grows, once}
+use Rattle.table.proofs.NamedLaws.{fine_by}
+use Rattle.table.proofs.SpotLaws.{spot_below}
+use Rattle.table.proofs.Storing.{stays, room, grows, once}
 use Rattle.shelves.specs.Offers.{deals_of, stored_deals, DealShelf}
 use Rattle.shelves.specs.Deals.{offers_of}
 use Rattle.shelves.specs.OfferLaws.{deals_keeping}

@@ -1,5 +1,5 @@
 use borrow.Author.Tests.{not-true, not-false}
-use Rattle.corollary.specs.Replayed.{replay_shelved, replay_sound}
+use Rattle.corollary.proofs.Replayed.{replay_shelved, replay_sound}
 use Rattle.solgaverna.specs.AnswerLaws.{malformed, whole, sizes}
 use borrow.Author.Rules.{rules}
 use Rattle.solgaverna.proofs.questions.solgaverna_ask.Statement.{statement}

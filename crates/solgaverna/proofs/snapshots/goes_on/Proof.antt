@@ -2,7 +2,7 @@ use mathlib.Core.Path.{◌∙◌}
 use Rattle.refusal.specs.ChoiceLaws.{pick_on}
 use Rattle.replay.specs.Replay.{replayed_from}
 use Rattle.replay.specs.Typing.{typed}
-use Rattle.corollary.specs.Replayed.{from_sound, from_shelved}
+use Rattle.corollary.proofs.Replayed.{from_sound, from_shelved}
 use borrow.Author.Rules.{rules}
 use Rattle.solgaverna.proofs.snapshots.goes_on.Statement.{statement}
 use Rattle.solgaverna.proofs.snapshots.goes_on.Tie as tie

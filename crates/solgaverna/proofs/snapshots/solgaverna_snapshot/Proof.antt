@@ -1,5 +1,5 @@
 use borrow.Author.Tests.{not-true, not-false}
-use Rattle.corollary.specs.Replayed.{replay_sound}
+use Rattle.corollary.proofs.Replayed.{replay_sound}
 use Rattle.solgaverna.specs.AnswerLaws.{malformed, whole}
 use borrow.Author.Rules.{rules}
 use Rattle.solgaverna.proofs.snapshots.solgaverna_snapshot.Statement.{statement}

@@ -1,0 +1,4 @@
+pub mod JournalLaws
+pub mod Replayed
+pub mod Parts
+pub mod Snapshots

@@ -1,0 +1,10 @@
+pub mod Keeps
+pub mod Fair
+pub mod Reads
+pub mod RunLaws
+pub mod Bound
+pub mod Demand
+pub mod Pending
+pub mod Stored
+pub mod Accepted
+pub mod Before

@@ -1,0 +1,15 @@
+pub mod TableLaws
+pub mod SameId
+pub mod Sound
+pub mod Keeping
+pub mod Alike
+pub mod Figures
+pub mod ShelfLaws
+pub mod Raising
+pub mod Touching
+pub mod Storing
+pub mod NamedLaws
+pub mod ShelfBack
+pub mod SpotLaws
+pub mod TestLaws
+pub mod TestMore
