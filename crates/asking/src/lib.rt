@@ -1,5 +1,6 @@
 // Questions, one a line, answered of a book in lines of numbers.
 #![tactic(auto)]
+
 mod rows;
 
 ghost use Rattle.std.specs.Prelude.{◌≡◌, true, false, ◌-◌};

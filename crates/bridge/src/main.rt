@@ -3,6 +3,7 @@
 // byte 32 on. A book or a journal follows its frame in 65,536 bytes, a snapshot of at most 4,096 in so many, a longer one in 81,920. An
 // answer is its length in bytes, its own eight included, and then its numbers; a text, a snapshot or a rescue's bytes follow it.
 #![tactic(auto)]
+
 ghost use Rattle.std.specs.Prelude.{◌≡◌, length};
 ghost use Rattle.journal.specs.Format.{read_at};
 ghost use Rattle.bridge.specs.Whole.{refused_by, whole_record};

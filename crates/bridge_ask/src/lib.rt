@@ -1,6 +1,7 @@
 // The queries by their numbers in oracle/side/src/query.rs. An answer is its number, how many offers (of a list) or numbers there
 // are, how many numbers follow, and those. Of a list the whole lent buffer follows.
 #![tactic(auto)]
+
 use book::Book;
 use lists::{Listed, OfferNumbers, Wanted};
 use query::{

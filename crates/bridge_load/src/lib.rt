@@ -1,5 +1,6 @@
 // A book of given rows, from a list of numbers in the order of crate bridge_show. Rows past the tables' room are left out.
 #![tactic(auto)]
+
 use account::{Account, Purse};
 use book::Book;
 use invoice::Invoice;

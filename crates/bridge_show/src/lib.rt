@@ -1,5 +1,6 @@
 // The whole book as a list of numbers: oracle/side/src/flat.rs gives their order.
 #![tactic(auto)]
+
 use account::Account;
 use book::Book;
 use invoice::Invoice;

@@ -1,5 +1,6 @@
 // Numbers of eight bytes, the highest first, in a buffer; the rounds of a negotiation so.
 #![tactic(auto)]
+
 ghost use Rattle.std.specs.Prelude.{◌≤◌};
 
 use negotiation::Round;

@@ -1,5 +1,6 @@
 // Fields of one number, read by a cursor and written by a pen.
 #![tactic(auto)]
+
 ghost use Rattle.std.specs.Prelude.{◌≡◌, true, ◌-◌, ◌^◌};
 ghost use Rattle.codec.specs.Cursor.{cursor};
 ghost use Rattle.codec.specs.Cursors.{Next, Count};

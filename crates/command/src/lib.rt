@@ -1,5 +1,6 @@
 // The 24 commands of document 01's journal, each with its fields in the order of their tags. What an edition's records lack is read as 0.
 #![tactic(auto)]
+
 ghost use Rattle.std.specs.Prelude.{◌≡◌};
 ghost use Rattle.command.specs.Names.{called, uncalled, names_of, paper_key, other_key};
 

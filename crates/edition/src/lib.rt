@@ -1,5 +1,6 @@
 // What each edition of the rules has.
 #![tactic(auto)]
+
 ghost use Rattle.std.specs.Prelude.{◌≡◌};
 ghost use Rattle.edition.specs.Edition.{listed, holds_amount, fresh_window, round_limit, keeps_terms};
 

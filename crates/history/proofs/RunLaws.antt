@@ -41,11 +41,11 @@ gone h m c false = refl
 
 pub run_accepted : {m : Model} → ModelSound m → (h cs : List Command) → (run (record { history = h; model = m }) cs).history ≡ accepted_by h (stored m) cs
 unfolding run go after accepted_by
-run_accepted s h [] = refl
-run_accepted {m} s h (c ∷ cs) =
+run_accepted {m = m} s h [] = refl
+run_accepted {m = m} s h (c ∷ cs) =
     let h' = pick (eqb (answer_to m c) 0) (c ∷ h) h in
     ap (λ r. (run r cs).history) (gone h m c (eqb (answer_to m c) 0))
-    ∙ run_accepted (stays_sound s c) h' cs
+    ∙ run_accepted {m = after m (commanded m c)} (stays_sound s c) h' cs
     ∙ sym (ap (λ n. accepted_by (pick (eqb n 0) (c ∷ h) h) (answers (stored m) c).book cs) (one_answer s c) ∙ ap (λ b. accepted_by h' b cs) (one_call s c))
 
 -- what every accepted command keeps holds after any commands

@@ -1,5 +1,6 @@
 // The due rule over a list of installments. Nothing here knows of the book, of an edition or of a schedule.
 #![tactic(auto)]
+
 ghost use Rattle.std.specs.Prelude.{◌≡◌, ◌<◌, ◌≤◌};
 ghost use Rattle.installments.specs.Sums.{due_of};
 ghost use Rattle.installments.specs.Even.{even};

@@ -1,5 +1,6 @@
 // The journal: each command is a field that holds the fields that the table lists for its tag.
 #![tactic(auto)]
+
 mod reading;
 pub mod tables;
 pub mod writing;

@@ -1,5 +1,6 @@
 // The lines of a listing, each written by a pen that may have no ink.
 #![tactic(auto)]
+
 ghost use Rattle.std.specs.Prelude.{◌≡◌};
 ghost use Rattle.sheet.specs.Sheet.{Wrote};
 ghost use Rattle.table.specs.Shelf.{table_of};

@@ -1,5 +1,6 @@
 // Offers listed: which ones a list query asks for, their numbers in the buffer, and a lender's active total.
 #![tactic(auto)]
+
 ghost use Rattle.std.specs.Prelude.{◌≡◌, [], ◌+◌, ◌*◌, ◌≤◌, length};
 ghost use Rattle.refusal.specs.Rule.{answered};
 ghost use Rattle.refusal.specs.Placed.{placed};

@@ -1,5 +1,6 @@
 // What one command sees of a book, and its turn on that: rows, not tables.
 #![tactic(auto)]
+
 ghost use Rattle.std.specs.Prelude.{◌≡◌, ℕ};
 ghost use Rattle.refusal.specs.Choice.{pick};
 ghost use Rattle.refusal.specs.Refusal.{first};

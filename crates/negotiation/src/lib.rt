@@ -1,5 +1,6 @@
 // The rounds of an offer: who put down which terms and when, and where the negotiation stands.
 #![tactic(auto)]
+
 ghost use Rattle.std.specs.Prelude.{◌≡◌, cond};
 ghost use Rattle.refusal.specs.Refusal.{first};
 ghost use Rattle.negotiation.specs.Rounds.{terms_of, round_of, deadline_of, status_of, negotiable, added_of, accepted_of, closed_as, agrees_of, round_slots, round_sound, round_zero, no_negotiation, negotiation_sound, negotiation_zero};

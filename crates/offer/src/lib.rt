@@ -1,5 +1,6 @@
 // An offer's row with its negotiation and its schedule, and what each command asks of it and does to it.
 #![tactic(auto)]
+
 ghost use Rattle.std.specs.Prelude.{cond, ◌≡◌};
 ghost use Rattle.table.specs.Spots.{at_spot};
 ghost use Rattle.table.specs.Tables.{absent};

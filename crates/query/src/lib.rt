@@ -1,5 +1,6 @@
 // What can be asked of a book. Every query tests the book first and leaves it as it is.
 #![tactic(auto)]
+
 ghost use Rattle.std.specs.Prelude.{◌≡◌, true, [], ◌∷◌, ◌*◌, ◌≤◌, length};
 ghost use Rattle.refusal.specs.Rule.{answered};
 ghost use Rattle.negotiation.specs.Rounds.{no_negotiation};

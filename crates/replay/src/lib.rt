@@ -1,5 +1,6 @@
 // Replay of a journal, from a given book or from a fresh one of its edition, and its listing.
 #![tactic(auto)]
+
 ghost use Rattle.std.specs.Prelude.{◌≡◌, false, ◌≤◌, length};
 ghost use Rattle.sheet.specs.Sheet.{Wrote, pen_at};
 ghost use Rattle.book.specs.Stored.{model_of, stored, Shelved};

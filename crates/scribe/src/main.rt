@@ -1,5 +1,6 @@
 // A journal on standard input becomes lines of text, and lines of text become a journal, on standard output.
 #![tactic(auto)]
+
 ghost use Rattle.std.specs.Prelude.{◌≡◌, ℕ, ◌≤◌, length};
 ghost use Rattle.text.specs.declared.Answer.TheVariants.{Done};
 

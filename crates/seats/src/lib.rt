@@ -1,5 +1,6 @@
 // Seats are the bits of a number. Document 01's rule for an admin command, and for a new threshold.
 #![tactic(auto)]
+
 ghost use Rattle.std.specs.Prelude.{◌≡◌};
 ghost use Rattle.seats.specs.Seats.{present_of, reaches_of, threshold_ok};
 

@@ -1,5 +1,6 @@
 // What the desk's admins set: the window of a negotiation, the repayment account, the seats, the pause.
 #![tactic(auto)]
+
 ghost use Rattle.std.specs.Prelude.{◌≡◌};
 ghost use Rattle.refusal.specs.Rule.{answered};
 ghost use Rattle.settings.specs.Settings.{fresh_settings, settings_sound, admin_passes, is_repayer, posted, pause_of, window_of, repayer_of, seats_of};

@@ -1,5 +1,6 @@
 // The three tables of the book, each in arrays: rows are seen and stored by their keys.
 #![tactic(auto)]
+
 ghost use Rattle.std.specs.Prelude.{◌≡◌, []};
 ghost use Rattle.table.specs.Tables.{insert, Room};
 ghost use Rattle.table.specs.Named.{find_by};

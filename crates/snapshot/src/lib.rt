@@ -1,5 +1,6 @@
 // A book as a snapshot: flat fields of one number, in the order of one table (specs/Layout.antt).
 #![tactic(auto)]
+
 mod reading;
 mod tags;
 mod writing;

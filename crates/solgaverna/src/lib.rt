@@ -1,6 +1,7 @@
 // The library for C and Rust: the bytes of a journal go in, of a snapshot before it or not, and its listing, its offers, its figures, answers
 // to questions or a snapshot come out in lent buffers.
 #![tactic(auto)]
+
 mod questions;
 mod snapshots;
 

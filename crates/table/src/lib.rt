@@ -1,5 +1,6 @@
 // Ids in ascending order: where one stands, where a new one would, and whether they are in order.
 #![tactic(auto)]
+
 ghost use Rattle.std.specs.Prelude.{◌≡◌, min, take};
 ghost use Rattle.table.specs.Find.{find_in};
 ghost use Rattle.table.specs.Test.{ids_test};

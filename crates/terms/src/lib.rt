@@ -1,5 +1,6 @@
 // The terms of an offer and the arithmetic of its schedule. Nothing here knows of the book.
 #![tactic(auto)]
+
 ghost use Rattle.std.specs.Prelude.{◌≡◌, true, ◌<◌, ◌≤◌};
 ghost use Rattle.terms.specs.Terms.{terms_ok, same_terms, count_ok};
 ghost use Rattle.terms.specs.Kind.{kind_listed, first_of};

@@ -1,5 +1,6 @@
 // Journals as text, one command a line, and back.
 #![tactic(auto)]
+
 mod fields;
 mod names;
 pub mod reading;

@@ -1,5 +1,6 @@
 // What the benchmark runs: one call repeated on the book of a journal. What comes back only keeps the calls from being left out.
 #![tactic(auto)]
+
 use query::{Answered, LenderAnswer, OfferAnswer};
 
 // Replays a journal again and again.

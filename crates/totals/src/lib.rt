@@ -1,5 +1,6 @@
 // The book's own totals: what was financed, repaid and taken in fees, and how many offers there are.
 #![tactic(auto)]
+
 ghost use Rattle.std.specs.Prelude.{◌≡◌};
 ghost use Rattle.refusal.specs.Rule.{answered};
 ghost use Rattle.totals.specs.Totals.{no_totals, totals_sound, counted, count_of, finance_of, repay_of};

@@ -1,5 +1,6 @@
 // Tagged fields: a one-byte tag, a two-byte big-endian length and the field's bytes.
 #![tactic(auto)]
+
 ghost use Rattle.std.specs.Prelude.{◌≡◌, ◌+◌, ◌≤◌, ◌<◌, ◌%◌, length, drop};
 ghost use Rattle.wire.specs.Field.{number_in, bytes_of, field_of, head_of, begins, number_at};
 ghost use Rattle.refusal.specs.Placed.{laid};
