@@ -31,7 +31,7 @@ each-is f P q (a ∷ l) (u ∷ us) h d (suc k) i = each-is f P q l us h.1 d k (o
 
 -- a negotiation's says how many rounds it has room for
 whole : (n : Negotiation) (v : Val) → shadow ((negotiation.the_field).row.own_val ((negotiation.the_field).into n) (v ∷ [])) → Whole round_slots n
-whole n v h = record { long = simp length-map at h.1.1.0.1.0.1 }
+whole n v h = record { long = h.1.1.0.1.0.1 }
 
 -- and an id's, how large it is
 small : (l : List ℕ) → ((k : ℕ) → k < length l → get_or l k 0 < 18446744073709551616) → Small l
@@ -52,15 +52,15 @@ module _ (b : Book) (vs : List Val) (g : Is (row book.the_type) b vs) where
       let invoices = g.1.1.1.0 in
       let offers = g.1.1.1.1.0 in
       let negotiations = offers.1.1.1.1.0 in
-      let long : length b.offers.negotiations ≡ 64 = simp length-map at negotiations.1.0.1 in
+      let long : length b.offers.negotiations ≡ 64 = negotiations.1.0.1 in
       record {
-        accounts = record { ids_long = simp length-map at accounts.1.1.0.1.0.1; rows_long = simp length-map at accounts.1.1.1.0.1.0.1 };
-        invoices = record { ids_long = simp length-map at invoices.1.1.0.1.0.1; rows_long = simp length-map at invoices.1.1.1.0.1.0.1 };
+        accounts = record { ids_long = accounts.1.1.0.1.0.1; rows_long = accounts.1.1.1.0.1.0.1 };
+        invoices = record { ids_long = invoices.1.1.0.1.0.1; rows_long = invoices.1.1.1.0.1.0.1 };
         offers = record {
-          ids_long = simp length-map at offers.1.1.0.1.0.1;
-          rows_long = simp length-map at offers.1.1.1.0.1.0.1;
+          ids_long = offers.1.1.0.1.0.1;
+          rows_long = offers.1.1.1.0.1.0.1;
           negotiations_long = long;
-          schedules_long = simp length-map at offers.1.1.1.1.1.0.1.0.1;
+          schedules_long = offers.1.1.1.1.1.0.1.0.1;
           whole = λ k h. each-is negotiation.the_field (Whole round_slots) whole b.offers.negotiations negotiations.0 negotiations.1.1 no_negotiation k (omega arith);
         };
       }
