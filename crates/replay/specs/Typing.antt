@@ -1,13 +1,13 @@
 -- What its types say of a book that the code is given: its arrays are as long as they say, and its ids have 64 bits. Assumes nothing.
-use Rattle.std.specs.Prelude.{◌≡◌, true, List, [], ◌∷◌, map, ℕ, zero, suc, ◌<◌, length, get_or}
+use Rattle.std.specs.Prelude.{◌≡◌, true, List, [], ◌∷◌, ℕ, zero, suc, ◌<◌, length, get_or}
 use Rattle.std.proofs.Common.{arith}
-use Rattle.std.proofs.lemmas.List.{length-map}
 use mir.Val.{Val}
+use denote.RattleType.{RattleType}
+use denote.Builtin.{u64}
 use denote.Array.{each}
 use denote.Laws.{Is}
 use denote.Shadow.{shadow}
 use denote.Struct.Declared.{row}
-use denote.Struct.Field.{Field, u64-field}
 use Rattle.table.specs.Tables.{keys}
 use Rattle.table.specs.Shelf.{table_of}
 use Rattle.negotiation.specs.Rounds.{round_slots, no_negotiation}
@@ -22,16 +22,16 @@ use Rattle.soundness.specs.Books.{Typed, model_sound}
 use Rattle.replay.specs.Bounded.{Bounded}
 
 -- what the type of an element says of one, it says of each
-each-is : (f : Field) (P : f.Value → Type 0) → ((a : f.Value) (v : Val) → shadow (f.row.own_val (f.into a) (v ∷ [])) → P a)
-    → (l : List f.Value) (us : List Val) → shadow (each f.row.Denot f.row.own_val (map f.into l) us) → (d : f.Value) (k : ℕ) → k < length l → P (get_or l k d)
-each-is f P q [] us h d k i = absurd (omega arith)
-each-is f P q (a ∷ l) [] h d k i = absurd h
-each-is f P q (a ∷ l) (u ∷ us) h d zero i = q a u h.0
-each-is f P q (a ∷ l) (u ∷ us) h d (suc k) i = each-is f P q l us h.1 d k (omega arith)
+each-is : (R : RattleType) (P : R.Denot → Type 0) → ((a : R.Denot) (v : Val) → shadow (R.own_val a (v ∷ [])) → P a)
+    → (l : List R.Denot) (us : List Val) → shadow (each R.Denot R.own_val l us) → (d : R.Denot) (k : ℕ) → k < length l → P (get_or l k d)
+each-is R P q [] us h d k i = absurd (omega arith)
+each-is R P q (a ∷ l) [] h d k i = absurd h
+each-is R P q (a ∷ l) (u ∷ us) h d zero i = q a u h.0
+each-is R P q (a ∷ l) (u ∷ us) h d (suc k) i = each-is R P q l us h.1 d k (omega arith)
 
 -- a negotiation's says how many rounds it has room for
-whole : (n : Negotiation) (v : Val) → shadow ((negotiation.the_field).row.own_val ((negotiation.the_field).into n) (v ∷ [])) → Whole round_slots n
-whole n v h = record { long = simp length-map at h.1.1.0.1.0.1 }
+whole : (n : Negotiation) (v : Val) → shadow ((negotiation.the_row).own_val n (v ∷ [])) → Whole round_slots n
+whole n v h = record { long = h.1.1.0.1.0.1 }
 
 -- and an id's, how large it is
 small : (l : List ℕ) → ((k : ℕ) → k < length l → get_or l k 0 < 18446744073709551616) → Small l
@@ -52,16 +52,16 @@ module _ (b : Book) (vs : List Val) (g : Is (row book.the_type) b vs) where
       let invoices = g.1.1.1.0 in
       let offers = g.1.1.1.1.0 in
       let negotiations = offers.1.1.1.1.0 in
-      let long : length b.offers.negotiations ≡ 64 = simp length-map at negotiations.1.0.1 in
+      let long : length b.offers.negotiations ≡ 64 = negotiations.1.0.1 in
       record {
-        accounts = record { ids_long = simp length-map at accounts.1.1.0.1.0.1; rows_long = simp length-map at accounts.1.1.1.0.1.0.1 };
-        invoices = record { ids_long = simp length-map at invoices.1.1.0.1.0.1; rows_long = simp length-map at invoices.1.1.1.0.1.0.1 };
+        accounts = record { ids_long = accounts.1.1.0.1.0.1; rows_long = accounts.1.1.1.0.1.0.1 };
+        invoices = record { ids_long = invoices.1.1.0.1.0.1; rows_long = invoices.1.1.1.0.1.0.1 };
         offers = record {
-          ids_long = simp length-map at offers.1.1.0.1.0.1;
-          rows_long = simp length-map at offers.1.1.1.0.1.0.1;
+          ids_long = offers.1.1.0.1.0.1;
+          rows_long = offers.1.1.1.0.1.0.1;
           negotiations_long = long;
-          schedules_long = simp length-map at offers.1.1.1.1.1.0.1.0.1;
-          whole = λ k h. each-is negotiation.the_field (Whole round_slots) whole b.offers.negotiations negotiations.0 negotiations.1.1 no_negotiation k (omega arith);
+          schedules_long = offers.1.1.1.1.1.0.1.0.1;
+          whole = λ k h. each-is negotiation.the_row (Whole round_slots) whole b.offers.negotiations negotiations.0 negotiations.1.1 no_negotiation k (omega arith);
         };
       }
 
@@ -69,5 +69,5 @@ module _ (b : Book) (vs : List Val) (g : Is (row book.the_type) b vs) where
   pub bounded : book_test b ≡ true → Bounded (model_of b)
   bounded e =
       let ids = g.1.1.0.1.1.0 in
-      let below = each-is u64-field (λ n. n < 18446744073709551616) (λ n v h. h.1) b.accounts.ids ids.0 ids.1.1 0 in
+      let below = each-is u64 (λ n. n < 18446744073709551616) (λ n v h. h.1) b.accounts.ids ids.0 ids.1.1 0 in
       record { sound = model_sound b typed e; low = record { ids = small_keys b.accounts.ids b.accounts.rows b.accounts.count (small b.accounts.ids below) } }

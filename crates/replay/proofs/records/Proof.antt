@@ -67,7 +67,7 @@ below-o : (c : tie.After-spot_by-po invariant-loop2 decreases-loop2 invariant-lo
 below-o c = spot_below (shelved c.before.before.before).offers.shelf (omega arith) c.names-names.result.offer c.spot_by-po.ensures
 
 seen-o : (c : tie.Joined-po invariant-loop2 decreases-loop2 invariant-loop decreases-loop) → seen_as c.spot_by-po.result.here c.if-po.deal ≡ offer_by (model_of (book_by c.loop-c.accounts c.loop-c.invoices c.loop-c.offers c.loop-c.totals c.loop-c.settings)) c.names-names.result.offer
-seen-o c = ⊎_elim (λ t. deal_here (shelved c.before.before.before.before.before).offers _ _ _ c.names-names.result.offer c.spot_by-po.ensures t.0.taken t.4) (λ l. deal_away (shelved c.before.before.before.before.before).offers no_deal.offer-1 no_deal.negotiation no_deal.schedule c.names-names.result.offer c.spot_by-po.ensures l.0.left (l.1 ∙ c.none-deal.ensures)) c.if-po.branch
+seen-o c = ⊎_elim (λ t. deal_here (shelved c.before.before.before.before.before).offers _ _ _ c.names-names.result.offer c.spot_by-po.ensures t.if-po.true t.deal-is) (λ l. deal_away (shelved c.before.before.before.before.before).offers no_deal.offer no_deal.negotiation no_deal.schedule c.names-names.result.offer c.spot_by-po.ensures l.if-po.false (l.deal-is ∙ c.none-deal.ensures)) c.if-po.branch-raw
 
 below-i : (c : tie.After-spot_by-pi invariant-loop2 decreases-loop2 invariant-loop decreases-loop) → c.spot_by-pi.result.at < 64
 below-i c = spot_below (shelved c.before.before.before.before.before.before.before.before.before).invoices (omega arith) c.key-key.result c.spot_by-pi.ensures
@@ -97,7 +97,7 @@ left-i : (c : tie.After-turn-turn invariant-loop2 decreases-loop2 invariant-loop
 left-i c = invoices_left (step c) (was_by _ _ (spot_found (shelved c.before.before.before.before.before.before.before.before.before.before.before.before.before.before.before.before.before.before.before.before.before.before.before.before).invoices (omega arith) c.key-key.result c.spot_by-pi.ensures))
 
 left-o : (c : tie.After-turn-turn invariant-loop2 decreases-loop2 invariant-loop decreases-loop) → Left 64 deal_row (deals_of c.loop-c.offers) (next (step c)).offers c.names-names.result.offer c.names-names.result.offer c.spot_by-po.result.here c.turn-turn.result.near.deal.here c.turn-turn.result.near.deal.row c.turn-turn.result.near.deal.row
-left-o c = offers_left (step c) (was_by _ _ (deal_read_lem (shelved c.before.before.before.before.before.before.before.before.before.before.before.before.before.before.before.before.before.before.before.before.before.before.before.before).offers no_deal.offer-1 no_deal.negotiation no_deal.schedule c.names-names.result.offer c.spot_by-po.ensures))
+left-o c = offers_left (step c) (was_by _ _ (deal_read_lem (shelved c.before.before.before.before.before.before.before.before.before.before.before.before.before.before.before.before.before.before.before.before.before.before.before.before).offers no_deal.offer no_deal.negotiation no_deal.schedule c.names-names.result.offer c.spot_by-po.ensures))
 
 wrote-a : (c : tie.After-over-ma invariant-loop2 decreases-loop2 invariant-loop decreases-loop) → as_accounts c.loop-c.accounts.ids (set (set c.loop-c.accounts.rows c.spot_by-pb.result.at c.over-mb.result) c.spot_by-pa.result.at c.over-ma.result) c.loop-c.accounts.count ≡ stored_accounts (put_by (put_by (accounts_of c.loop-c.accounts) c.key-kb.result c.turn-turn.result.near.parties.second.row) c.names-names.result.first c.turn-turn.result.near.parties.first.row)
 wrote-a c = accounts_wrote (shelved c.before.before.before.before.before.before.before.before.before.before.before.before.before.before.before.before.before.before.before.before.before.before.before.before.before.before.before.before.before.before.before.before.before.before.before).accounts c.names-names.result.first c.key-kb.result c.spot_by-pa.ensures c.spot_by-pb.ensures c.turn-turn.result.near.parties.first.row c.turn-turn.result.near.parties.second.row c.over-mb.ensures c.over-ma.ensures
@@ -106,19 +106,19 @@ wrote-i : (c : tie.After-over-mi invariant-loop2 decreases-loop2 invariant-loop 
 wrote-i c = once stored_invoices (invoices_of c.loop-c.invoices) c.key-key.result c.turn-turn.result.near.paper.row (invoice_wrote (shelved c.before.before.before.before.before.before.before.before.before.before.before.before.before.before.before.before.before.before.before.before.before.before.before.before.before.before.before.before.before.before.before.before.before.before.before.before.before).invoices c.key-key.result c.spot_by-pi.ensures c.turn-turn.result.near.paper.row c.over-mi.ensures)
 
 wrote-o : (c : tie.Joined-po-2 invariant-loop2 decreases-loop2 invariant-loop decreases-loop) → c.if-po-2.offers ≡ stored_deals (put_by (put_by (deals_of c.loop-c.offers) c.names-names.result.offer c.turn-turn.result.near.deal.row) c.names-names.result.offer c.turn-turn.result.near.deal.row)
-wrote-o c = once stored_deals (deals_of c.loop-c.offers) c.names-names.result.offer c.turn-turn.result.near.deal.row (⊎_elim (λ t. t.4 ∙ deal_there (shelved c.before.before.before.before.before.before.before.before.before.before.before.before.before.before.before.before.before.before.before.before.before.before.before.before.before.before.before.before.before.before.before.before.before.before.before.before.before.before).offers no_deal.offer-1 no_deal.negotiation no_deal.schedule c.names-names.result.offer c.spot_by-po.ensures c.turn-turn.result.near.deal.row t.0.taken) (λ l. l.1 ∙ deal_gone (shelved c.before.before.before.before.before.before.before.before.before.before.before.before.before.before.before.before.before.before.before.before.before.before.before.before.before.before.before.before.before.before.before.before.before.before.before.before.before.before).offers no_deal.offer-1 no_deal.negotiation no_deal.schedule c.names-names.result.offer c.spot_by-po.ensures c.turn-turn.result.near.deal.row l.0.left) c.if-po-2.branch)
+wrote-o c = once stored_deals (deals_of c.loop-c.offers) c.names-names.result.offer c.turn-turn.result.near.deal.row (⊎_elim (λ t. t.offers-is ∙ deal_there (shelved c.before.before.before.before.before.before.before.before.before.before.before.before.before.before.before.before.before.before.before.before.before.before.before.before.before.before.before.before.before.before.before.before.before.before.before.before.before.before).offers no_deal.offer no_deal.negotiation no_deal.schedule c.names-names.result.offer c.spot_by-po.ensures c.turn-turn.result.near.deal.row t.if-po-2.true) (λ l. l.offers-is ∙ deal_gone (shelved c.before.before.before.before.before.before.before.before.before.before.before.before.before.before.before.before.before.before.before.before.before.before.before.before.before.before.before.before.before.before.before.before.before.before.before.before.before.before).offers no_deal.offer no_deal.negotiation no_deal.schedule c.names-names.result.offer c.spot_by-po.ensures c.turn-turn.result.near.deal.row l.if-po-2.false) c.if-po-2.branch-raw)
 
 ids-o : (c : tie.Joined-po-2 invariant-loop2 decreases-loop2 invariant-loop decreases-loop) → c.if-po-2.offers.ids ≡ c.loop-c.offers.ids
-ids-o c = ⊎_elim (λ t. ap (λ z. z.ids) t.4) (λ l. ap (λ z. z.ids) l.1) c.if-po-2.branch
+ids-o c = ⊎_elim (λ t. ap (λ z. z.ids) t.offers-is) (λ l. ap (λ z. z.ids) l.offers-is) c.if-po-2.branch-raw
 
 count-o : (c : tie.Joined-po-2 invariant-loop2 decreases-loop2 invariant-loop decreases-loop) → c.if-po-2.offers.count ≡ c.loop-c.offers.count
-count-o c = ⊎_elim (λ t. ap (λ z. z.count) t.4) (λ l. ap (λ z. z.count) l.1) c.if-po-2.branch
+count-o c = ⊎_elim (λ t. ap (λ z. z.count) t.offers-is) (λ l. ap (λ z. z.count) l.offers-is) c.if-po-2.branch-raw
 
 stored-a : (c : tie.Joined-pa-turn invariant-loop2 decreases-loop2 invariant-loop decreases-loop) → c.if-pa-turn.accounts ≡ stored_accounts (next (step c.before.before.before.before.before.before.before.before.before.before.before.before.before.before.before.before.before)).accounts
-stored-a c = ⊎_elim (λ x. grows accounts_keeping account_row (λ r. refl) (left-a c.before.before.before.before.before.before.before.before.before.before.before.before.before.before.before.before.before) (wrote-a c.before.before.before.before.before.before) x.0.taken (x.3 ∙ (simp x.1.ensures at x.2.ensures) (room accounts_keeping account_row (λ r. refl) (left-a c.before.before.before.before.before.before.before.before.before.before.before.before.before.before.before.before.before) (wrote-a c.before.before.before.before.before.before) x.0.taken))) (λ x. x.1 ∙ stays accounts_keeping account_row (λ r. refl) (left-a c.before.before.before.before.before.before.before.before.before.before.before.before.before.before.before.before.before) (wrote-a c.before.before.before.before.before.before) x.0.left) c.if-pa-turn.branch
+stored-a c = ⊎_elim (λ x. grows accounts_keeping account_row (λ r. refl) (left-a c.before.before.before.before.before.before.before.before.before.before.before.before.before.before.before.before.before) (wrote-a c.before.before.before.before.before.before) x.if-pa-turn.true (x.accounts-is ∙ (simp x.id.ensures at x.let_in-more.ensures) (room accounts_keeping account_row (λ r. refl) (left-a c.before.before.before.before.before.before.before.before.before.before.before.before.before.before.before.before.before) (wrote-a c.before.before.before.before.before.before) x.if-pa-turn.true))) (λ x. x.accounts-is ∙ stays accounts_keeping account_row (λ r. refl) (left-a c.before.before.before.before.before.before.before.before.before.before.before.before.before.before.before.before.before) (wrote-a c.before.before.before.before.before.before) x.if-pa-turn.false) c.if-pa-turn.branch-raw
 
 stored-i : (c : tie.Joined-pi-turn invariant-loop2 decreases-loop2 invariant-loop decreases-loop) → c.if-pi-turn.invoices ≡ stored_invoices (next (step c.before.before.before.before.before.before.before.before.before.before.before.before.before.before.before.before.before.before.before.before)).invoices
-stored-i c = ⊎_elim (λ x. grows invoices_keeping invoice_row (λ r. refl) (left-i c.before.before.before.before.before.before.before.before.before.before.before.before.before.before.before.before.before.before.before.before) (wrote-i c.before.before.before.before.before.before.before) x.0.taken (x.3 ∙ (simp x.1.ensures at x.2.ensures) (room invoices_keeping invoice_row (λ r. refl) (left-i c.before.before.before.before.before.before.before.before.before.before.before.before.before.before.before.before.before.before.before.before) (wrote-i c.before.before.before.before.before.before.before) x.0.taken))) (λ x. x.1 ∙ stays invoices_keeping invoice_row (λ r. refl) (left-i c.before.before.before.before.before.before.before.before.before.before.before.before.before.before.before.before.before.before.before.before) (wrote-i c.before.before.before.before.before.before.before) x.0.left) c.if-pi-turn.branch
+stored-i c = ⊎_elim (λ x. grows invoices_keeping invoice_row (λ r. refl) (left-i c.before.before.before.before.before.before.before.before.before.before.before.before.before.before.before.before.before.before.before.before) (wrote-i c.before.before.before.before.before.before.before) x.if-pi-turn.true (x.invoices-is ∙ (simp x.id-then-pi-turn.ensures at x.let_in-more-then-pi-turn.ensures) (room invoices_keeping invoice_row (λ r. refl) (left-i c.before.before.before.before.before.before.before.before.before.before.before.before.before.before.before.before.before.before.before.before) (wrote-i c.before.before.before.before.before.before.before) x.if-pi-turn.true))) (λ x. x.invoices-is ∙ stays invoices_keeping invoice_row (λ r. refl) (left-i c.before.before.before.before.before.before.before.before.before.before.before.before.before.before.before.before.before.before.before.before) (wrote-i c.before.before.before.before.before.before.before) x.if-pi-turn.false) c.if-pi-turn.branch-raw
 
 few-o : (c : tie.Then-po-turn invariant-loop2 decreases-loop2 invariant-loop decreases-loop) → c.if-po-2.offers.count < 64
 few-o c = room_count (good deals_keeping deal_row (λ r. refl) (left-o c.before.before.before.before.before.before.before.before.before.before.before.before.before.before.before.before.before.before.before.before.before.before.before) (wrote-o c.before.before.before.before.before.before.before.before.before)) (room deals_keeping deal_row (λ r. refl) (left-o c.before.before.before.before.before.before.before.before.before.before.before.before.before.before.before.before.before.before.before.before.before.before.before) (wrote-o c.before.before.before.before.before.before.before.before.before) c.if-po-turn.true)
@@ -127,7 +127,7 @@ slot-o : (c : tie.Then-po-turn invariant-loop2 decreases-loop2 invariant-loop de
 slot-o c = ap (λ n. find_in (take n c.if-po-2.offers.ids) (id_of c.names-names.result.offer)) (count-o c.before.before.before.before.before.before.before.before.before) ∙ ap (λ l. find_in (take c.loop-c.offers.count l) (id_of c.names-names.result.offer)) (ids-o c.before.before.before.before.before.before.before.before.before) ∙ spot_slot _ c.names-names.result.offer c.spot_by-po.ensures (named deals_keeping deal_row (λ r. refl) (left-o c.before.before.before.before.before.before.before.before.before.before.before.before.before.before.before.before.before.before.before.before.before.before.before) (wrote-o c.before.before.before.before.before.before.before.before.before) c.if-po-turn.true) (came_new _ _ c.if-po-turn.true)
 
 stored-o : (c : tie.Joined-po-turn invariant-loop2 decreases-loop2 invariant-loop decreases-loop) → c.if-po-turn.offers ≡ stored_deals (next (step c.before.before.before.before.before.before.before.before.before.before.before.before.before.before.before.before.before.before.before.before.before.before.before)).offers
-stored-o c = ⊎_elim (λ x. grows deals_keeping deal_row (λ r. refl) (left-o c.before.before.before.before.before.before.before.before.before.before.before.before.before.before.before.before.before.before.before.before.before.before.before) (wrote-o c.before.before.before.before.before.before.before.before.before) x.0.taken (x.7 ∙ deal_let_in x.1.inv (good deals_keeping deal_row (λ r. refl) (left-o c.before.before.before.before.before.before.before.before.before.before.before.before.before.before.before.before.before.before.before.before.before.before.before) (wrote-o c.before.before.before.before.before.before.before.before.before)) x.6.result c.turn-turn.result.near.deal.row (few-o (record { before = c.before; if5 = x.0 })) (rw x.6.ensures (slot-o (record { before = c.before; if5 = x.0 }))) (omega (arith, x.2.left)) ∙ ap (λ z. stored_deals (insert (deals_of c.if-po-2.offers) z c.turn-turn.result.near.deal.row)) x.6.ensures)) (λ x. x.1 ∙ stays deals_keeping deal_row (λ r. refl) (left-o c.before.before.before.before.before.before.before.before.before.before.before.before.before.before.before.before.before.before.before.before.before.before.before) (wrote-o c.before.before.before.before.before.before.before.before.before) x.0.left) c.if-po-turn.branch
+stored-o c = ⊎_elim (λ x. grows deals_keeping deal_row (λ r. refl) (left-o c.before.before.before.before.before.before.before.before.before.before.before.before.before.before.before.before.before.before.before.before.before.before.before) (wrote-o c.before.before.before.before.before.before.before.before.before) x.if-po-turn.true (x.offers-is ∙ deal_let_in x.loop-j.invariant (good deals_keeping deal_row (λ r. refl) (left-o c.before.before.before.before.before.before.before.before.before.before.before.before.before.before.before.before.before.before.before.before.before.before.before) (wrote-o c.before.before.before.before.before.before.before.before.before)) x.id-then-po-turn.result c.turn-turn.result.near.deal.row (few-o (record { before = c.before; if-po-turn = x.if-po-turn })) (rw x.id-then-po-turn.ensures (slot-o (record { before = c.before; if-po-turn = x.if-po-turn }))) (omega (arith, x.loop-j-test.false)) ∙ ap (λ z. stored_deals (insert (deals_of c.if-po-2.offers) z c.turn-turn.result.near.deal.row)) x.id-then-po-turn.ensures)) (λ x. x.offers-is ∙ stays deals_keeping deal_row (λ r. refl) (left-o c.before.before.before.before.before.before.before.before.before.before.before.before.before.before.before.before.before.before.before.before.before.before.before) (wrote-o c.before.before.before.before.before.before.before.before.before) x.if-po-turn.false) c.if-po-turn.branch-raw
 
 loop-holds : tie.Need-loop-c-init invariant-loop2 decreases-loop2 invariant-loop decreases-loop
 loop-holds c = going c.requires.0 (held c.requires.1)

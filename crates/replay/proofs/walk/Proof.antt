@@ -27,7 +27,7 @@ returns-2 c =
     let n = c.args.book.settings.edition in
     let s = c.args.s.now in
     let q = c.header-h in
-    let h : headed n s ≡ false = ⊎_elim (λ t. headed_good s n (sym q.ensures ∙ ap opening t.1.given.1) ∙ ne_eqb _ n t.4.left) (λ l. headed_bad s n (sym q.ensures ∙ ap opening l.1.given.1)) c.in-Records.branch in
+    let h : headed n s ≡ false = ⊎_elim (λ t. headed_good s n (sym q.ensures ∙ ap opening t.in-Records.is) ∙ ne_eqb _ n t.if-edition-settings.false) (λ l. headed_bad s n (sym q.ensures ∙ ap opening l.in_default.is)) c.match-h.branch-raw in
     (c.finish.ensures.0 ∙ play_bare _ h c.requires, tells_bare c.args.book _ h c.put_mark-p.ensures c.finish.ensures.1)
 
 pub walk_spec : {M : Type 1} → statement M
