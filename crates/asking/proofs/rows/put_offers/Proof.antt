@@ -35,11 +35,11 @@ loop-again c =
     let a = c.args in
     let e = asked u l.i h a.w in
     ⊎_elim
-    (λ x. rw (x.7, x.8) (retext (next l.invariant x.4.ensures)
-    (ap (λ (z : List ℕ). spread offer_line (pick_from (taking a.w) 0 (take l.i (offers_of a.rows))) ++ z) (ap (λ (o : OfferNumbers). row_of (in_order o)) x.2.ensures ∙ ap offer_line (sym (entry u l.i h)))
-    ∙ sym (taken offer_line (taking a.w) _ l.i rows.none (inside u l.i h) (e _ _ c.takes.ensures x.0.taken)))))
-    (λ x. rw (x.1, x.2) (retext l.invariant (sym (left_out offer_line (taking a.w) _ l.i rows.none (inside u l.i h) (e _ _ c.takes.ensures x.0.left)))))
-    c.if-takes.branch
+    (λ x. rw (x.out-is, x.p-is) (retext (next l.invariant x.put_offer-p.ensures)
+    (ap (λ (z : List ℕ). spread offer_line (pick_from (taking a.w) 0 (take l.i (offers_of a.rows))) ++ z) (ap (λ (o : OfferNumbers). row_of (in_order o)) x.of-o.ensures ∙ ap offer_line (sym (entry u l.i h)))
+    ∙ sym (taken offer_line (taking a.w) _ l.i rows.none (inside u l.i h) (e _ _ c.takes.ensures x.if-takes.true)))))
+    (λ x. rw (x.out-is, x.p-is) (retext l.invariant (sym (left_out offer_line (taking a.w) _ l.i rows.none (inside u l.i h) (e _ _ c.takes.ensures x.if-takes.false)))))
+    c.if-takes.branch-raw
 
 returns : tie.Need-returns invariant-loop decreases-loop
 unfolding offer_lines

@@ -28,10 +28,10 @@ add-end c = omega (arith, c.told-n.ensures, told_few (get_or c.args.words 1 0))
 sub-put-row : tie.Need-slice_bounds-put_row-count
 sub-put-row c = omega arith
 
-part-put-row-start : tie.Need-slice-bounds-put-row-start
+part-put-row-start : tie.Need-slice_bounds-put_row-start
 part-put-row-start c = omega arith
 
-part-put-row-end : tie.Need-slice-bounds-put-row-end
+part-put-row-end : tie.Need-slice_bounds-put_row-end
 part-put-row-end c = omega (arith, c.told-n.ensures, told_few (get_or c.args.words 1 0))
 
 pub put_reply_spec : {M : Type 1} → statement M
