@@ -23,7 +23,7 @@ use Rattle.history.specs.Passed.{Passes, passes_right, offer_there}
 use Rattle.history.specs.Ledger.{Ledger, Bargain, noted, accepted_in}
 use Rattle.history.specs.Agrees.{Agrees}
 use Rattle.history.specs.Settled.{noted_counter}
-use Rattle.history.proofs.Reads.{Reads, at_offer}
+use Rattle.history.proofs.Reading.{Reads, at_offer}
 use Rattle.history.proofs.Fair.{Fair}
 use Rattle.history.specs.Listed.{Listed}
 

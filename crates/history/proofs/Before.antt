@@ -23,7 +23,7 @@ use Rattle.history.specs.History.{Deed, creates, Entry, opens, deposits, pays, r
 use Rattle.history.specs.Since.{countered_on, deeds_before, originators_before, said_before}
 use Rattle.history.specs.Before.{base}
 use Rattle.history.specs.Ledger.{Ledger, originator_in, bargain_of, start}
-use Rattle.history.proofs.Reads.{bargain_in, Reads}
+use Rattle.history.proofs.Reading.{bargain_in, Reads}
 use Rattle.history.proofs.Fair.{Sums}
 
 -- ── Offers and originators ────────────────────────────────────────

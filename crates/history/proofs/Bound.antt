@@ -19,7 +19,7 @@ use Rattle.history.specs.History.{Deed, creates, amends, counters, accepts, Entr
 use Rattle.history.specs.Passed.{Passes, all_pass_lem}
 use Rattle.history.specs.Ledger.{Bargain, Ledger, noted, post, ledger, bargain_of, shut}
 use Rattle.history.specs.Papers.{shut_most}
-use Rattle.history.proofs.Reads.{bargain_in, Reads, reads_post, at_offer, either_way}
+use Rattle.history.proofs.Reading.{bargain_in, Reads, reads_post, at_offer, either_way}
 use Rattle.soundness.specs.Played.{answer_to}
 use Rattle.history.specs.Run.{from}
 use Rattle.history.specs.Before.{base}

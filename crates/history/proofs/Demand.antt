@@ -24,7 +24,7 @@ use Rattle.history.specs.Passed.{Passes}
 use Rattle.history.specs.Ledger.{Ledger, accepted_in, start, ledger}
 use Rattle.history.specs.Agrees.{Agrees, Rounds, begins}
 use Rattle.history.proofs.Keeps.{keeps}
-use Rattle.history.proofs.Reads.{Reads, reads_post}
+use Rattle.history.proofs.Reading.{Reads, reads_post}
 use Rattle.history.proofs.Fair.{Sums, sums_post}
 use Rattle.history.specs.Listed.{Listed, account_here, offer_here, listed_after}
 use Rattle.history.proofs.Accepted.{Late, fair}

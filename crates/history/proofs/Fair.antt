@@ -15,7 +15,7 @@ use Rattle.history.specs.History.{Deed, creates, amends, counters, accepts, Entr
 use Rattle.history.specs.Figures.{share_on, share_off, sum_none, sum_once}
 use Rattle.history.specs.Shares.{share_moves, sum_same}
 use Rattle.history.specs.Ledger.{Bargain, Ledger, raised, noted, sold, post}
-use Rattle.history.proofs.Reads.{bargain_in, Reads, at_offer, either_way}
+use Rattle.history.proofs.Reading.{bargain_in, Reads, at_offer, either_way}
 
 abbrev pub Known : Said → ℕ → Deed → Type 0
 Known r o (creates a i t) = count o r.offers ≡ 0

@@ -1,6 +1,6 @@
 pub mod Keeps
 pub mod Fair
-pub mod Reads
+pub mod Reading
 pub mod RunLaws
 pub mod Bound
 pub mod Demand

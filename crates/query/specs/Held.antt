@@ -27,7 +27,7 @@ use Rattle.settings.specs.Settings.{settings_sound}
 use Rattle.totals.specs.Totals.{totals_sound}
 use Rattle.shelves.specs.Accounts.{accounts_test}
 use Rattle.shelves.specs.Invoices.{invoices_test}
-use Rattle.shelves.specs.Offers.{deal_of, rows_of_lem, deals_test}
+use Rattle.shelves.specs.Offers.{deal_of, rows_of, deals_test}
 use Rattle.shelves.specs.Deals.{deal_parts_lem}
 use Rattle.shelves.specs.declared.Offers.{Offers}
 use Rattle.lists.specs.Listing.{offers_of}
@@ -62,15 +62,15 @@ deals_test_lem b e =
     let t = both (rows && deals_test b.settings.edition b.offers) (totals_sound b.totals) s.0 in
     (both rows (deals_test b.settings.edition b.offers) t.0).1
 
-rows_test_lem : (n : ℕ) (t : Offers) → deals_test n t ≡ true → rows_test (deal_sound n) deal_zero no_deal 64 t.count (rows_of_lem t) ≡ true
+rows_test_lem : (n : ℕ) (t : Offers) → deals_test n t ≡ true → rows_test (deal_sound n) deal_zero no_deal 64 t.count (rows_of t) ≡ true
 unfolding deals_test
-rows_test_lem n t e = (both (ids_test 64 t.count t.ids) (rows_test (deal_sound n) deal_zero no_deal 64 t.count (rows_of_lem t)) e).1
+rows_test_lem n t e = (both (ids_test 64 t.count t.ids) (rows_test (deal_sound n) deal_zero no_deal 64 t.count (rows_of t)) e).1
 
 module _ {b : Book} (k : Shelved b) where
   pub offers_held : offers_of (offers_only b.offers) ≡ offers_in (model_of b)
   offers_held =
       ap (λ l. table_of b.offers.ids l b.offers.count) (sym (first_column deal_parts_lem k.offers.level))
-      ∙ table_part (λ (d : Deal). d.offer) b.offers.ids (rows_of_lem b.offers) b.offers.count
+      ∙ table_part (λ (d : Deal). d.offer) b.offers.ids (rows_of b.offers) b.offers.count
 
   pub count_held : b.offers.count ≡ length (model_of b).offers
   count_held = sym k.offers.shelf.counted
@@ -79,10 +79,10 @@ module _ {b : Book} (k : Shelved b) where
   amounts_held e i h =
       let n = b.settings.edition in
       let t = b.offers in
-      let row = all-at (row_test (deal_sound n) deal_zero no_deal t.count (rows_of_lem t)) 64 (rows_test_lem n t (deals_test_lem b e)) i (omega (arith, k.offers.shelf.few)) in
-      let s = used t.count i (deal_sound n (get_or (rows_of_lem t) i no_deal)) (deal_zero (get_or (rows_of_lem t) i no_deal)) row h in
+      let row = all-at (row_test (deal_sound n) deal_zero no_deal t.count (rows_of t)) 64 (rows_test_lem n t (deals_test_lem b e)) i (omega (arith, k.offers.shelf.few)) in
+      let s = used t.count i (deal_sound n (get_or (rows_of t) i no_deal)) (deal_zero (get_or (rows_of t) i no_deal)) row h in
       let d = get_or_join deal_of t.rows t.negotiations t.schedules k.offers.level i no_offer no_negotiation no_schedule in
-      ap (λ (x : Deal). in_amount x.offer.terms.amount) (sym d) ∙ amount_of n (get_or (rows_of_lem t) i no_deal) s
+      ap (λ (x : Deal). in_amount x.offer.terms.amount) (sym d) ∙ amount_of n (get_or (rows_of t) i no_deal) s
 
 -- on a sound row that has a schedule the due rule's arguments are in range, so the installment due is module 1's
 or_else : (s t : Bool) → s || t ≡ true → s ≡ false → t ≡ true

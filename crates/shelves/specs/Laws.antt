@@ -5,7 +5,7 @@ use Rattle.table.proofs.Sound.{All}
 use Rattle.table.proofs.ShelfBack.{table_stored, shelf_stored}
 use Rattle.table.proofs.ShelfLaws.{kept}
 use Rattle.table.proofs.Keeping.{Keeping, shelf_fine}
-use Rattle.table.proofs.TestLaws.{shelf_of, rows_of, passes}
+use Rattle.table.proofs.TestLaws.{shelf_of, rows_of_lem, passes}
 use Rattle.account.specs.Account.{no_account, account_sound, account_zero}
 use Rattle.account.proofs.Laws.{account_zero_lem, no_account_zero}
 use Rattle.invoice.specs.Invoice.{no_invoice, invoice_sound, invoice_zero}
@@ -32,7 +32,7 @@ module _ (a : Accounts) (l : Sized a.ids a.rows) (t : accounts_test a ≡ true) 
 
   pub accounts_sound : All (λ r. account_sound r ≡ true) (accounts_of a)
   unfolding accounts_test
-  accounts_sound = rows_of account_sound account_zero no_account 64 a.count a.ids a.rows l.ids_long l.rows_long t (λ r. account_sound r ≡ true) (λ i h e. e)
+  accounts_sound = rows_of_lem account_sound account_zero no_account 64 a.count a.ids a.rows l.ids_long l.rows_long t (λ r. account_sound r ≡ true) (λ i h e. e)
 
 pub accounts_pass : (a : Accounts) → AccountShelf a → All (λ r. account_sound r ≡ true) (accounts_of a) → accounts_test a ≡ true
 unfolding accounts_test
@@ -54,7 +54,7 @@ module _ (a : Invoices) (l : Sized a.ids a.rows) (t : invoices_test a ≡ true) 
 
   pub invoices_sound : All (λ r. invoice_sound r ≡ true) (invoices_of a)
   unfolding invoices_test
-  invoices_sound = rows_of invoice_sound invoice_zero no_invoice 64 a.count a.ids a.rows l.ids_long l.rows_long t (λ r. invoice_sound r ≡ true) (λ i h e. e)
+  invoices_sound = rows_of_lem invoice_sound invoice_zero no_invoice 64 a.count a.ids a.rows l.ids_long l.rows_long t (λ r. invoice_sound r ≡ true) (λ i h e. e)
 
 pub invoices_pass : (a : Invoices) → InvoiceShelf a → All (λ r. invoice_sound r ≡ true) (invoices_of a) → invoices_test a ≡ true
 unfolding invoices_test

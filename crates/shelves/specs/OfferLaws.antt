@@ -11,7 +11,7 @@ use Rattle.table.specs.Columns.{level, length_join, get_or_join}
 use Rattle.table.specs.Join.{Level}
 use Rattle.table.specs.Parts.{join_columns}
 use Rattle.table.proofs.Keeping.{Keeping, shelf_fine}
-use Rattle.table.proofs.TestLaws.{shelf_of, rows_of, passes, everywhere}
+use Rattle.table.proofs.TestLaws.{shelf_of, rows_of_lem, passes, everywhere}
 use Rattle.negotiation.specs.Rounds.{round_slots, no_negotiation}
 use Rattle.negotiation.specs.Whole.{Whole}
 use Rattle.negotiation.specs.Laws.{none_whole}
@@ -19,11 +19,11 @@ use Rattle.offer.specs.Offer.{no_offer, no_schedule, no_deal, deal_sound, deal_z
 use Rattle.offer.specs.Laws.{DealKept, deal_zero_lem, no_deal_zero}
 use Rattle.offer.specs.declared.Deal.{Deal}
 use Rattle.shelves.specs.declared.Offers.{Offers}
-use Rattle.shelves.specs.Offers.{deal_of, rows_of_lem, deals_of, stored_deals, DealShelf, deals_test, WholeDeals}
+use Rattle.shelves.specs.Offers.{deal_of, rows_of, deals_of, stored_deals, DealShelf, deals_test, WholeDeals}
 use Rattle.shelves.specs.Deals.{deal_parts_lem, offers_long, deals_kept}
 
 -- the rows read from the columns that they were stored in
-rows_stored : (t : Table Deal) → rows_of_lem (stored_deals t) ≡ padded no_deal held 64 t
+rows_stored : (t : Table Deal) → rows_of (stored_deals t) ≡ padded no_deal held 64 t
 rows_stored t = join_columns deal_parts_lem (padded no_deal held 64 t)
 
 level_stored : (t : Table Deal) → Level (stored_deals t).rows (stored_deals t).negotiations (stored_deals t).schedules
@@ -41,22 +41,22 @@ module _ (e : ℕ) (a : Offers) (w : WholeDeals a) (t : deals_test e a ≡ true)
   even : Level a.rows a.negotiations a.schedules
   even = level a.rows a.negotiations a.schedules w.rows_long w.negotiations_long w.schedules_long
 
-  rows_long : length (rows_of_lem a) ≡ 64
+  rows_long : length (rows_of a) ≡ 64
   rows_long = length_join deal_of a.rows a.negotiations a.schedules even ∙ w.rows_long
 
-  whole_at : (i : ℕ) → i < 64 → Whole round_slots (get_or (rows_of_lem a) i no_deal).negotiation
+  whole_at : (i : ℕ) → i < 64 → Whole round_slots (get_or (rows_of a) i no_deal).negotiation
   whole_at i h = rw (get_or_join deal_of a.rows a.negotiations a.schedules even i no_offer no_negotiation no_schedule) (w.whole i h)
 
   pub deals_shelf : DealShelf a
   unfolding deals_test
   deals_shelf = record {
-    shelf = shelf_of (deal_sound e) deal_zero no_deal 64 a.count a.ids (rows_of_lem a) w.ids_long rows_long t (λ i h. deal_zero_lem _ (whole_at i h));
+    shelf = shelf_of (deal_sound e) deal_zero no_deal 64 a.count a.ids (rows_of a) w.ids_long rows_long t (λ i h. deal_zero_lem _ (whole_at i h));
     level = even;
   }
 
   pub deals_sound : All (DealKept e) (deals_of a)
   unfolding deals_test
-  deals_sound = rows_of (deal_sound e) deal_zero no_deal 64 a.count a.ids (rows_of_lem a) w.ids_long rows_long t (DealKept e) (λ i h k. record { test = k; whole = whole_at i h })
+  deals_sound = rows_of_lem (deal_sound e) deal_zero no_deal 64 a.count a.ids (rows_of a) w.ids_long rows_long t (DealKept e) (λ i h k. record { test = k; whole = whole_at i h })
 
 pub deals_pass : (e : ℕ) {a : Offers} → DealShelf a → All (DealKept e) (deals_of a) → deals_test e a ≡ true
 unfolding deals_test

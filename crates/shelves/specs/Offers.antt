@@ -16,11 +16,11 @@ use Rattle.shelves.specs.declared.Offers.{Offers}
 abbrev pub deal_of : Offer → Negotiation → Schedule → Deal
 deal_of o n s = record { offer = o; negotiation = n; schedule = s }
 
-abbrev pub rows_of_lem : Offers → List Deal
-rows_of_lem a = join deal_of a.rows a.negotiations a.schedules
+abbrev pub rows_of : Offers → List Deal
+rows_of a = join deal_of a.rows a.negotiations a.schedules
 
 abbrev pub deals_of : Offers → Table Deal
-deals_of a = table_of a.ids (rows_of_lem a) a.count
+deals_of a = table_of a.ids (rows_of a) a.count
 
 abbrev pub as_offers : List ℕ → List Deal → ℕ → Offers
 as_offers i r c = record { ids = i; rows = column (λ d. d.offer) r; negotiations = column (λ d. d.negotiation) r; schedules = column (λ d. d.schedule) r; count = c }
@@ -29,12 +29,12 @@ abbrev pub stored_deals : Table Deal → Offers
 stored_deals t = shelve as_offers no_deal 64 t
 
 pub record DealShelf (a : Offers) : Type 0 where
-  pub shelf : Shelf no_deal 64 a.ids (rows_of_lem a) a.count
+  pub shelf : Shelf no_deal 64 a.ids (rows_of a) a.count
   pub level : Level a.rows a.negotiations a.schedules
 
 -- at most 64 rows, ids that ascend strictly, numbers in range, codes listed, rounds within the edition's limit, unused rows zero
 unfoldable pub deals_test : ℕ → Offers → Bool
-deals_test e a = ids_test 64 a.count a.ids && rows_test (deal_sound e) deal_zero no_deal 64 a.count (rows_of_lem a)
+deals_test e a = ids_test 64 a.count a.ids && rows_test (deal_sound e) deal_zero no_deal 64 a.count (rows_of a)
 
 -- what the types of the arrays say
 pub record WholeDeals (a : Offers) : Type 0 where

@@ -23,7 +23,7 @@ use Rattle.offer.specs.declared.Offer.{Offer}
 use Rattle.offer.specs.declared.Deal.{Deal}
 use Rattle.offer.specs.Offer.{no_deal, deal_sound, deal_zero}
 use Rattle.shelves.specs.declared.Offers.{Offers}
-use Rattle.shelves.specs.Offers.{deal_of, rows_of_lem, deals_test}
+use Rattle.shelves.specs.Offers.{deal_of, rows_of, deals_test}
 use Rattle.codec.specs.Codec.{Codec, rows}
 use Rattle.codec.specs.Columns.{whole}
 use Rattle.codec.specs.Puts.{Puts, Listing, list_start, list_turn, list_done}
@@ -78,16 +78,16 @@ module _ (n : ℕ) (a : Offers) (e : deals_test n a ≡ true) where
     even : Level a.rows a.negotiations a.schedules
     even = level a.rows a.negotiations a.schedules x y z
 
-    pub deals_long : length (rows_of_lem a) ≡ 64
+    pub deals_long : length (rows_of a) ≡ 64
     deals_long = length_join deal_of a.rows a.negotiations a.schedules even ∙ x
 
     module _ (i : ℕ) (h : i < a.count) (o : Offer) (t : Negotiation) (s : Schedule) where
-      pub deal_at_lem : (d : Deal) → get_or (rows_of_lem a) i d ≡ deal_of (get_or a.rows i o) (get_or a.negotiations i t) (get_or a.schedules i s)
+      pub deal_at_lem : (d : Deal) → get_or (rows_of a) i d ≡ deal_of (get_or a.rows i o) (get_or a.negotiations i t) (get_or a.schedules i s)
       deal_at_lem d = join_at deal_of a.rows a.negotiations a.schedules even i (omega (arith, x, few_deals, h)) d o t s
 
       pub deal_sound_lem : deal_sound n (deal_of (get_or a.rows i o) (get_or a.negotiations i t) (get_or a.schedules i s)) ≡ true
       unfolding deals_test
       deal_sound_lem =
-          let r : rows_test (deal_sound n) deal_zero no_deal 64 a.count (rows_of_lem a) ≡ true = (both (ids_test 64 a.count a.ids) (rows_test (deal_sound n) deal_zero no_deal 64 a.count (rows_of_lem a)) e).1 in
-          let x = get_or (rows_of_lem a) i no_deal in
-          rw (← deal_at_lem no_deal) (used a.count i (deal_sound n x) (deal_zero x) (all-at (row_test (deal_sound n) deal_zero no_deal a.count (rows_of_lem a)) 64 r i (omega (arith, few_deals, h))) h)
+          let r : rows_test (deal_sound n) deal_zero no_deal 64 a.count (rows_of a) ≡ true = (both (ids_test 64 a.count a.ids) (rows_test (deal_sound n) deal_zero no_deal 64 a.count (rows_of a)) e).1 in
+          let x = get_or (rows_of a) i no_deal in
+          rw (← deal_at_lem no_deal) (used a.count i (deal_sound n x) (deal_zero x) (all-at (row_test (deal_sound n) deal_zero no_deal a.count (rows_of a)) 64 r i (omega (arith, few_deals, h))) h)

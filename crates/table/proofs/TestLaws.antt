@@ -111,8 +111,8 @@ module _ {A : Type 0} (q z : A → Bool) (d : A) (size n : ℕ) (ids : List ℕ)
     rising = rises_of ids rows n (omega (arith, few)) (λ m h. ltb-true (get_or ids m 0) (get_or ids (suc m) 0) (rw (later m) at (used n (suc m) (above ids (suc m)) (eqb (get_or ids (suc m) 0) 0) (id_at (suc m) (omega (arith, few))) h)));
   }
 
-  pub rows_of : (p : A → Type 0) → ((i : ℕ) → i < size → q (get_or rows i d) ≡ true → p (get_or rows i d)) → All p (table_of ids rows n)
-  rows_of p f = all_of p d ids rows n (λ i h. f i (omega (arith, few)) (used n i (q (get_or rows i d)) (z (get_or rows i d)) (row_is i (omega (arith, few))) h))
+  pub rows_of_lem : (p : A → Type 0) → ((i : ℕ) → i < size → q (get_or rows i d) ≡ true → p (get_or rows i d)) → All p (table_of ids rows n)
+  rows_of_lem p f = all_of p d ids rows n (λ i h. f i (omega (arith, few)) (used n i (q (get_or rows i d)) (z (get_or rows i d)) (row_is i (omega (arith, few))) h))
 
 -- past its count a shelf has zero rows
 free_row : {A : Type 0} {d : A} {size n : ℕ} {ids : List ℕ} {rows : List A} → Shelf d size ids rows n → (i : ℕ) → n ≤ i → get_or rows i d ≡ d

@@ -13,13 +13,13 @@ use Rattle.table.proofs.TestLaws.{by_use_lem}
 use Rattle.negotiation.specs.Rounds.{round_slots, no_negotiation}
 use Rattle.negotiation.specs.Whole.{Whole}
 use Rattle.offer.specs.Offer.{no_deal, deal_sound, deal_zero}
-use Rattle.shelves.specs.Offers.{deal_of, rows_of_lem, deals_test}
+use Rattle.shelves.specs.Offers.{deal_of, rows_of, deals_test}
 use Rattle.shelves.proofs.Offers.sound.Statement.{statement}
 use Rattle.shelves.proofs.Offers.sound.Tie as tie
 
 abbrev invariant-loop : tie.invariant-loop-i
 invariant-loop e self n t ok₀ i₀ ok i =
-    Checked 64 (row_test (deal_sound e) deal_zero no_deal n (rows_of_lem self)) i ok × ((k : ℕ) → k < i → Whole round_slots (get_or self.negotiations k no_negotiation))
+    Checked 64 (row_test (deal_sound e) deal_zero no_deal n (rows_of self)) i ok × ((k : ℕ) → k < i → Whole round_slots (get_or self.negotiations k no_negotiation))
 
 abbrev decreases-loop : tie.decreases-loop-i
 decreases-loop e self n t ok₀ i₀ ok i = 64 - i

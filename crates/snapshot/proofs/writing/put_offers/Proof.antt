@@ -5,7 +5,7 @@ use lib.ListN.{length, length-map}
 use borrow.Author.Rules.{rules}
 use Rattle.table.specs.Shelf.{table_of}
 use Rattle.offer.specs.Offer.{no_deal}
-use Rattle.shelves.specs.Offers.{rows_of_lem}
+use Rattle.shelves.specs.Offers.{rows_of}
 use Rattle.codec.specs.Puts.{Listing, puts_kept}
 use Rattle.snapshot.specs.Layout.{deal}
 use Rattle.snapshot.specs.Listing.{table_begun, table_made, table_whole, few_deals, deals_long, deal_at_lem, deal_sound_lem}
@@ -13,7 +13,7 @@ use Rattle.snapshot.proofs.writing.put_offers.Statement.{statement}
 use Rattle.snapshot.proofs.writing.put_offers.Tie as tie
 
 abbrev invariant-loop : tie.invariant-loop-i
-invariant-loop out₀ ink e table n p₀ i₀ out p i = (i ≤ n) × Listing (deal e) ink (table_of table.ids (rows_of_lem table) i) out₀ p₀ out p
+invariant-loop out₀ ink e table n p₀ i₀ out p i = (i ≤ n) × Listing (deal e) ink (table_of table.ids (rows_of table) i) out₀ p₀ out p
 
 abbrev decreases-loop : tie.decreases-loop-i
 decreases-loop out₀ ink e table n p₀ i₀ out p i = n - i
@@ -32,7 +32,7 @@ module _ (s : tie.Start invariant-loop decreases-loop) where
   schedules_long : length s.args.table.schedules ≡ 64
   schedules_long = search rules
 
-  all-long : length (rows_of_lem s.args.table) ≡ 64
+  all-long : length (rows_of s.args.table) ≡ 64
   all-long = deals_long s.args.edition s.args.table s.requires rows_long negotiations_long schedules_long
 
   few : s.args.table.count ≤ 64
@@ -55,12 +55,12 @@ loop-again c =
     let d = c.before.before.before.before.before.before.before.before in
     let s = d.before.before.before.before.before.before.before in
     let t = s.args.table in
-    (omega (arith, d.loop-i-test.true), table_made _ _ t.ids (rows_of_lem t) _ _ no_deal (omega (arith, place c.before.before.before.before.before.before.before.before, ids_long s)) (omega (arith, place c.before.before.before.before.before.before.before.before, all-long s)) (deal_at_lem s.args.edition t s.requires (rows_long s) (negotiations_long s) (schedules_long s) d.loop-i.i d.loop-i-test.true _ _ _ no_deal) d.loop-i.invariant.1 c.put_deal-p.ensures)
+    (omega (arith, d.loop-i-test.true), table_made _ _ t.ids (rows_of t) _ _ no_deal (omega (arith, place c.before.before.before.before.before.before.before.before, ids_long s)) (omega (arith, place c.before.before.before.before.before.before.before.before, all-long s)) (deal_at_lem s.args.edition t s.requires (rows_long s) (negotiations_long s) (schedules_long s) d.loop-i.i d.loop-i-test.true _ _ _ no_deal) d.loop-i.invariant.1 c.put_deal-p.ensures)
 
 returns : tie.Need-returns invariant-loop decreases-loop
 returns c =
     let s = c.before.before.before.before.before.before.before in
-    table_whole s.args.table.ids (rows_of_lem s.args.table) 0x90 64 (omega arith) (omega (arith, few s, ids_long s)) (omega (arith, few s, all-long s)) (few s) c.put-p.ensures c.loop-i.invariant.1
+    table_whole s.args.table.ids (rows_of s.args.table) 0x90 64 (omega arith) (omega (arith, few s, ids_long s)) (omega (arith, few s, all-long s)) (few s) c.put-p.ensures c.loop-i.invariant.1
 
 pub put_offers_spec : {M : Type 1} → statement M
 put_offers_spec =
