@@ -2,5 +2,5 @@ pub mod Walk
 pub mod Answers
 pub mod Laws
 pub mod Room
-pub mod Sweep
+pub mod Sweeping
 pub mod Trips

@@ -3,7 +3,7 @@ use native.Mathlib.Omega.{arith}
 use lib.ListN.{length, drop}
 use borrow.Author.Rules.{rules}
 use Rattle.rescue.proofs.Walk.{Steps, stepped, stopped}
-use Rattle.rescue.proofs.Sweep.{Counting, counting, count_on, count_done}
+use Rattle.rescue.proofs.Sweeping.{Counting, counting, count_on, count_done}
 use Rattle.rescue.proofs.count.Statement.{statement}
 use Rattle.rescue.proofs.count.Tie as tie
 

@@ -7,7 +7,7 @@ use lib.Seq.{length-take-le, take-length}
 use borrow.Author.Rules.{rules}
 use borrow.Author.Tests.{not-true, not-false}
 use Rattle.refusal.specs.PlacedLaws.{placed_mid}
-use Rattle.rescue.proofs.Sweep.{no_copy, a_copy}
+use Rattle.rescue.proofs.Sweeping.{no_copy, a_copy}
 use Rattle.rescue.proofs.keep.Statement.{statement}
 use Rattle.rescue.proofs.keep.Tie as tie
 

@@ -4,7 +4,7 @@ use Prim.Native.Nat.{◌<◌}
 use native.Mathlib.Omega.{arith}
 use lib.ListN.{length}
 use borrow.Author.Rules.{rules}
-use Rattle.rescue.proofs.Sweep.{no_more, one_more, one_set}
+use Rattle.rescue.proofs.Sweeping.{no_more, one_more, one_set}
 use Rattle.rescue.proofs.note.Statement.{statement}
 use Rattle.rescue.proofs.note.Tie as tie
 

@@ -3,7 +3,7 @@ use native.Mathlib.Omega.{arith}
 use lib.ListN.{length, drop}
 use borrow.Author.Rules.{rules}
 use Rattle.rescue.proofs.Walk.{Steps, stepped, stopped}
-use Rattle.rescue.proofs.Sweep.{Sweeping, sweeping, room_out, room_report, sweep_on, sweep_done}
+use Rattle.rescue.proofs.Sweeping.{Sweeping, sweeping, room_out, room_report, sweep_on, sweep_done}
 use Rattle.rescue.proofs.sweep.Statement.{statement}
 use Rattle.rescue.proofs.sweep.Tie as tie
 
