@@ -5,7 +5,7 @@ use Rattle.std.proofs.Math.Path.{ap}
 use Rattle.refusal.specs.Rule.{after, answered}
 use Rattle.table.specs.Tables.{Found, absent, here, has}
 use Rattle.table.specs.Named.{same, find_by}
-use Rattle.table.proofs.Storing.{Left}
+use Rattle.table.specs.Storing.{Left}
 use Rattle.table.specs.declared.Named.{Named}
 use Rattle.account.specs.Seen.{seen_account}
 use Rattle.account.specs.declared.Account.{Account}

@@ -3,7 +3,8 @@ use Rattle.std.specs.Prelude.{ℕ, ◌≡◌, refl, true, List, [], ◌∷◌, p
 use Rattle.std.proofs.Common.{arith, sym, subst, ◌∙◌}
 use Rattle.std.proofs.Math.IntN.{+ℤ_idl}
 use Rattle.table.specs.Tables.{Found, absent, here, Table, find, keys}
-use Rattle.table.proofs.Sound.{All, all_found}
+use Rattle.table.specs.Sound.{All}
+use Rattle.table.proofs.Sound.{all_found}
 use Rattle.negotiation.specs.Rounds.{round_slots}
 use Rattle.negotiation.specs.Whole.{Whole}
 use Rattle.negotiation.specs.Laws.{none_whole}

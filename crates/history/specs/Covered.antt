@@ -13,7 +13,8 @@ use Rattle.refusal.specs.RuleLaws.{passed, both_pass}
 use Rattle.edition.specs.Edition.{listed, holds_amount}
 use Rattle.table.specs.Tables.{Found, absent, here, Table, find, adjust, insert, fmap}
 use Rattle.table.proofs.TableLaws.{find_adjust, find_insert}
-use Rattle.table.proofs.Sound.{All, all_map, all_found, all_insert}
+use Rattle.table.specs.Sound.{All}
+use Rattle.table.proofs.Sound.{all_map, all_found, all_insert}
 use Rattle.terms.specs.declared.Terms.{Terms}
 use Rattle.invoice.specs.Invoice.{covers, invoice_of, financed, cancel_of}
 use Rattle.invoice.specs.Seen.{seen_invoice}

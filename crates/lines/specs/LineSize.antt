@@ -4,7 +4,7 @@ use Rattle.std.proofs.Common.{arith, length-append}
 use Rattle.money.specs.Range.{in_total, magnitude_of}
 use Rattle.money.specs.Facts.{total_le, magnitude_is}
 use Rattle.table.specs.Tables.{Table, keys}
-use Rattle.table.proofs.Sound.{All}
+use Rattle.table.specs.Sound.{All}
 use Rattle.account.specs.declared.Account.{Account}
 use Rattle.account.specs.Account.{account_sound}
 use Rattle.account.proofs.Laws.{sound_ranges}

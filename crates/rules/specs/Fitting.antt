@@ -5,7 +5,8 @@ use Rattle.refusal.specs.Choice.{pick}
 use Rattle.refusal.specs.Refusal.{first}
 use Rattle.refusal.specs.RuleLaws.{both_pass}
 use Rattle.table.specs.Tables.{Table}
-use Rattle.table.proofs.Keeping.{Fine, fine_adjust, fine_insert}
+use Rattle.table.specs.Keeping.{Fine}
+use Rattle.table.proofs.Keeping.{fine_adjust, fine_insert}
 use Rattle.account.specs.declared.Account as Accounts
 use Rattle.invoice.specs.declared.Invoice.{Invoice}
 use Rattle.offer.specs.declared.Deal.{Deal}

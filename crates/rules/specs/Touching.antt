@@ -8,7 +8,8 @@ use Rattle.refusal.specs.Refusal.{first}
 use Rattle.refusal.specs.Rule.{after}
 use Rattle.refusal.specs.RuleLaws.{both_pass}
 use Rattle.table.specs.Tables.{Table}
-use Rattle.table.proofs.Touching.{Puts, Touched, put, let_in_lem, untouched, at_first, at_second, puts_none, puts_first, puts_second, puts_swap}
+use Rattle.table.specs.Touching.{Puts, Touched, put, let_in_lem}
+use Rattle.table.proofs.Touching.{untouched, at_first, at_second, puts_none, puts_first, puts_second, puts_swap}
 use Rattle.table.specs.declared.Named.TheVariants.{Id}
 use Rattle.account.specs.Rules.{reoffer_of}
 use Rattle.account.specs.declared.Account as Row

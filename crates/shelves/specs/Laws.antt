@@ -1,7 +1,7 @@
 -- What the tests of the tables say of the rows, and that a table kept in arrays is the table read from them.
 use Rattle.std.specs.Prelude.{◌≡◌, true}
 use Rattle.std.proofs.Common.{sym}
-use Rattle.table.proofs.Sound.{All}
+use Rattle.table.specs.Sound.{All}
 use Rattle.table.proofs.ShelfBack.{table_stored, shelf_stored}
 use Rattle.table.proofs.ShelfLaws.{kept}
 use Rattle.table.proofs.Keeping.{Keeping, shelf_fine}

@@ -6,7 +6,8 @@ use Rattle.table.specs.Tables.{Table, key, held}
 use Rattle.table.specs.Padded.{padded, length-padded}
 use Rattle.table.specs.Shelf.{table_of}
 use Rattle.table.proofs.ShelfBack.{table_stored, shelf_stored}
-use Rattle.table.proofs.Sound.{All, all_map}
+use Rattle.table.specs.Sound.{All}
+use Rattle.table.proofs.Sound.{all_map}
 use Rattle.table.specs.Columns.{level, length_join, get_or_join}
 use Rattle.table.specs.Join.{Level}
 use Rattle.table.specs.Parts.{join_columns}

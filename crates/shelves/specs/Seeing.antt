@@ -2,7 +2,7 @@
 use Rattle.std.specs.Prelude.{◌≡◌}
 use Rattle.table.specs.Tables.{Found, Table, has}
 use Rattle.table.specs.Named.{find_by}
-use Rattle.table.proofs.Storing.{Left}
+use Rattle.table.specs.Storing.{Left}
 use Rattle.table.specs.declared.Named.{Named}
 use Rattle.account.specs.Seen.{seen_account}
 use Rattle.account.specs.declared.Account.{Account}

@@ -7,7 +7,7 @@ use Rattle.refusal.specs.Refusal.{first}
 use Rattle.refusal.specs.Rule.{Rule}
 use Rattle.refusal.specs.RuleLaws.{KeepsTest, passed, both_pass}
 use Rattle.table.specs.Tables.{Table, find, adjust}
-use Rattle.table.proofs.Sound.{All}
+use Rattle.table.specs.Sound.{All}
 use Rattle.terms.specs.declared.Terms.{Terms}
 use Rattle.account.specs.Account.{account_sound}
 use Rattle.account.specs.declared.Account.{Account}

@@ -3,7 +3,8 @@ use Rattle.std.specs.Prelude.{ℕ, ◌≡◌, refl, true}
 use Rattle.std.proofs.Common.{arith}
 use Rattle.table.specs.Tables.{Found, absent, here, Table, find, adjust, keys}
 use Rattle.table.proofs.TableLaws.{adjust_absent}
-use Rattle.table.proofs.Sound.{All, all_found, all_adjust}
+use Rattle.table.specs.Sound.{All}
+use Rattle.table.proofs.Sound.{all_found, all_adjust}
 use Rattle.account.specs.Account.{account_sound}
 use Rattle.invoice.specs.Invoice.{invoice_sound}
 use Rattle.offer.specs.Laws.{DealKept}

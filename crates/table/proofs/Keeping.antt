@@ -6,11 +6,7 @@ use Rattle.table.proofs.TableLaws.{length_adjust, length-insert}
 use Rattle.table.specs.Rising.{Rises}
 use Rattle.table.specs.Shelf.{table_of, Shelf}
 use Rattle.table.proofs.Sound.{rises_adjust, rises_insert}
-
--- a table that n places can keep
-pub record Fine {A : Type 0} (n : ℕ) (t : Table A) : Type 0 where
-  pub fits : length t ≤ n
-  pub rises : Rises (keys t)
+use Rattle.table.specs.Keeping.{Fine}
 
 module _ {A : Type 0} {n : ℕ} {t : Table A} (f : Fine n t) where
   pub fine_adjust : (i : ℕ) (g : A → A) → Fine n (adjust t i g)

@@ -8,7 +8,8 @@ use Rattle.table.proofs.TableLaws.{find_adjust}
 use Rattle.table.proofs.SameId.{find-put, put_twice, adjust_back}
 use Rattle.table.specs.Rising.{Rises}
 use Rattle.table.proofs.Sound.{rises_adjust}
-use Rattle.table.proofs.Keeping.{Fine, fine_adjust}
+use Rattle.table.specs.Keeping.{Fine}
+use Rattle.table.proofs.Keeping.{fine_adjust}
 use Rattle.table.specs.Named.{is_id, same, find_by, put_by}
 use Rattle.table.specs.declared.Named.{Named}
 use Rattle.table.specs.declared.Named.TheVariants.{Nothing, Id}

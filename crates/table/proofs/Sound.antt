@@ -8,6 +8,7 @@ use Rattle.table.specs.Tables.{absent, here, Table, find, adjust, insert, keys}
 use Rattle.table.specs.Deciding.{Is, is_true, is_false, decide}
 use Rattle.table.proofs.TableLaws.{keys_adjust}
 use Rattle.table.specs.Rising.{Above, Rises}
+use Rattle.table.specs.Sound.{All}
 
 module _ {A : Type 0} where
   above_insert : (p : ℕ) (t : Table A) (i : ℕ) (r : A) → p < i → Above p (keys t) → find t i ≡ absent → Above p (keys (insert t i r))
@@ -33,11 +34,6 @@ module _ {A : Type 0} where
 
   pub rises_adjust : (t : Table A) (i : ℕ) (f : A → A) → Rises (keys t) → Rises (keys (adjust t i f))
   rises_adjust t i f a = rw keys_adjust a
-
-  -- each row passes
-  abbrev pub All : (A → Type 0) → Table A → Type 0
-  All q [] = Unit {0}
-  All q (e ∷ t) = q e.1 × All q t
 
   pub all_map : (p q : A → Type 0) (t : Table A) → ((r : A) → p r → q r) → All p t → All q t
   all_map p q [] f a = tt

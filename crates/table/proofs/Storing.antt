@@ -2,21 +2,15 @@
 use Rattle.std.specs.Prelude.{ℕ, ◌≡◌, Bool, true, false, not, ◌&&◌}
 use Rattle.std.proofs.Common.{sym, ap, ◌∙◌}
 use Rattle.table.specs.Tables.{Found, here, Table, insert, has, Room}
-use Rattle.table.proofs.Keeping.{Fine, Keeping}
+use Rattle.table.specs.Keeping.{Fine}
+use Rattle.table.proofs.Keeping.{Keeping}
 use Rattle.table.specs.Named.{id_of, find_by, put_by}
 use Rattle.table.proofs.NamedLaws.{fine_by, put_again}
-use Rattle.table.proofs.Touching.{Touched, put_back, grown}
+use Rattle.table.specs.Touching.{Touched}
+use Rattle.table.proofs.Touching.{put_back, grown}
 use Rattle.table.specs.declared.Named.{Named}
 use Rattle.table.specs.declared.Named.TheVariants.{Id}
-
--- what a turn saw at a and b of t, and what it left: x at a, y at b, where u is the table after it
-pub record Left {A : Type 0} (n : ℕ) (g : Found A → A) (t u : Table A) (a b : Named) (was is : Bool) (x y : A) : Type 0 where
-  pub touched : Touched n t u a b
-  pub fine : Fine n t
-  pub before : was ≡ has (find_by t a)
-  pub after : is ≡ has (find_by u a)
-  pub first : x ≡ g (find_by u a)
-  pub second : y ≡ g (find_by u b)
+use Rattle.table.specs.Storing.{Left}
 
 module _ {A S : Type 0} {n : ℕ} {of : S → Table A} {stored : Table A → S} {Good : S → Type 0} (K : Keeping n of stored Good) (g : Found A → A) (h : (r : A) → g (here r) ≡ r)
     {t u : Table A} {a b : Named} {was is : Bool} {x y : A} (l : Left n g t u a b was is x y) {v : S} (e : v ≡ stored (put_by (put_by t b y) a x)) where

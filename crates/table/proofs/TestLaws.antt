@@ -11,7 +11,7 @@ use Rattle.table.specs.Padded.{pad_rest}
 use Rattle.table.specs.Tables.{key, held, keys}
 use Rattle.table.specs.Shelf.{table_of, Shelf}
 use Rattle.table.proofs.ShelfBack.{ids_back, rows_back, length_table}
-use Rattle.table.proofs.Sound.{All}
+use Rattle.table.specs.Sound.{All}
 
 or_same : (b : Bool) → b || false ≡ b
 or_same true = refl

@@ -13,16 +13,7 @@ use Rattle.table.proofs.NamedLaws.{never, same_swap, find_by_lem, rises_by, put_
 use Rattle.table.proofs.Alike as Alike
 use Rattle.table.specs.declared.Named.{Named}
 use Rattle.table.specs.declared.Named.TheVariants.{Nothing, Id}
-
--- u has t's ids, and t's rows but at a and b
-pub record Puts {A : Type 0} (t u : Table A) (a b : Named) : Type 0 where
-  pub rises : Rises (keys t) → Rises (keys u)
-  pub same : (i : ℕ) → has (find u i) ≡ has (find t i)
-  pub elsewhere : (i : ℕ) → is_id a i ≡ false → is_id b i ≡ false → find t i ≡ find u i
-
-pub data Touched {A : Type 0} (n : ℕ) (t u : Table A) (a b : Named) : Type 0 where
-  put : Puts t u a b → Touched n t u a b
-  let_in_lem : (i : ℕ) (d : A) → a ≡ Id i → Room n t i → u ≡ insert t i d → Touched n t u a b
+use Rattle.table.specs.Touching.{Puts, Touched, put, let_in_lem}
 
 -- a row that was let in at the key a of w
 pub record Grown {A : Type 0} (n : ℕ) (w u : Table A) (a : Named) (r : A) : Type 0 where

@@ -20,3 +20,7 @@ pub mod Parts
 pub mod OneResult
 pub mod Named
 pub mod Spots
+pub mod Sound
+pub mod Keeping
+pub mod Touching
+pub mod Storing

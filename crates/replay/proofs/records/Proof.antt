@@ -1,6 +1,5 @@
 use Prim.Native.Nat.{◌+◌, ◌-◌, ◌<◌}
 use mathlib.Core.Path.{◌≡◌, refl, sym, ap, ◌∙◌}
-use mathlib.Core.Bool.{false}
 use mathlib.Core.Logic.{⊎_elim}
 use native.Mathlib.Omega.{arith}
 use mir.Syntax.{w64}
@@ -11,7 +10,8 @@ use Rattle.table.specs.Find.{find_in}
 use Rattle.table.specs.declared.Found.TheVariants.{Absent}
 use Rattle.table.specs.Named.{put_by, id_of}
 use Rattle.table.proofs.SpotLaws.{spot_below, spot_found, spot_slot, slot_inside}
-use Rattle.table.proofs.Storing.{Left, good, stays, named, room, grows, once}
+use Rattle.table.specs.Storing.{Left}
+use Rattle.table.proofs.Storing.{good, stays, named, room, grows, once}
 use Rattle.account.specs.Seen.{seen_account}
 use Rattle.invoice.specs.Seen.{seen_invoice}
 use Rattle.offer.specs.Offer.{no_deal}
