@@ -10,7 +10,7 @@ use Rattle.replay.specs.declared.Listed.TheVariants.{Done}
 use Rattle.replay.specs.Text.{listing_on, listing_says, listed_from, shown_from}
 use Rattle.replay.specs.Bounded.{Bounded}
 use Rattle.replay.specs.Shown.{same_listed}
-use Rattle.replay.specs.Room.{listing_room, listing_most}
+use Rattle.replay.proofs.Room.{listing_room, listing_most}
 
 pub from_room : (b : Book) (s : List ℕ) → Bounded (model_of b) → length s ≤ 32768 → length (listing_on (model_of b) s) ≤ 40960
 unfolding listing_room

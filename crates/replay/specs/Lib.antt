@@ -11,5 +11,4 @@ pub mod Telling
 pub mod Going
 pub mod Shown
 pub mod Records
-pub mod Room
 pub mod Typing

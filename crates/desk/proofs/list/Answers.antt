@@ -2,7 +2,7 @@ use Rattle.std.proofs.Common.{ap}
 use Rattle.replay.specs.declared.Listed.{Listed}
 use Rattle.replay.specs.declared.Listed.TheVariants.{Done}
 use Rattle.replay.specs.Text.{listing_says}
-use Rattle.replay.specs.Room.{never_short}
+use Rattle.replay.proofs.Room.{never_short}
 use Rattle.desk.proofs.list.Goals as goal
 
 pub returns-in-Done : goal.returns-in-Done

@@ -1,5 +1,5 @@
 use Rattle.std.proofs.Common.{arith, sym, length-take-le}
-use Rattle.replay.specs.Room.{desk_most}
+use Rattle.replay.proofs.Room.{desk_most}
 use Rattle.desk.proofs.show.Goals as goal
 
 pub slice_bounds-out-end : goal.slice_bounds-out-end

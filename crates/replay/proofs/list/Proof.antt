@@ -1,4 +1,4 @@
-use Rattle.replay.specs.Room.{at_once}
+use Rattle.replay.proofs.Room.{at_once}
 use Rattle.replay.specs.Shown.{no_space, in_space}
 use native.Mathlib.Omega.{arith}
 use borrow.Author.Rules.{rules}

@@ -1,7 +1,7 @@
 use Rattle.replay.specs.Text.{listing_of}
 use Rattle.replay.specs.Standing.{fresh}
 use Rattle.replay.specs.Heading.{edition_known}
-use Rattle.replay.specs.Room.{fresh_bounded}
+use Rattle.replay.proofs.Room.{fresh_bounded}
 use borrow.Author.Rules.{rules}
 use Rattle.replay.proofs.listing.Statement.{statement}
 use Rattle.replay.proofs.listing.Tie as tie
