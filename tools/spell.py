@@ -10,6 +10,7 @@ A lemma whose name would then be a definition's gets _lem.
 """
 import os
 import re
+import subprocess
 import sys
 
 WORD = re.compile(r"[^\s(){}.;,@\"«»\[\]\\`]+")
@@ -82,10 +83,8 @@ def camels():
 
 def of_the_library(names):
     """The names that std has too."""
-    kit = os.path.dirname(os.path.dirname(os.path.realpath("/usr/local/bin/rt")))
-    for base in (kit, "/opt/rattle"):
-        if os.path.isdir(os.path.join(base, "rattle", "logic")):
-            break
+    # `rt doc` prints the path of a page at the top of the kit
+    base = os.path.dirname(subprocess.run(["rt", "doc"], capture_output=True, text=True, check=True).stdout.strip())
     seen = set()
     for folder, _, found in os.walk(os.path.join(base, "rattle")):
         for name in found:
