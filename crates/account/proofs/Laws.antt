@@ -5,17 +5,14 @@ use Rattle.std.proofs.lemmas.Bool.{not-true, not-false}
 use Rattle.money.specs.Range.{count_limit, in_total, movable}
 use Rattle.money.specs.Moves.{moves_in}
 use Rattle.money.specs.Facts.{both, zero_is}
-use Rattle.refusal.specs.ChoiceLaws.{pick_on, pick_off}
-use Rattle.refusal.specs.Refusal.{Refusal, number, ◌gives◌}
-use Rattle.refusal.specs.Rule.{answered}
-use Rattle.refusal.specs.RuleLaws.{KeepsTest, refuses, goes_on, does, passed}
+use Rattle.refusal.specs.RuleLaws.{KeepsTest, passed}
 use Rattle.terms.specs.declared.Terms.{Terms}
 use Rattle.account.specs.declared.Purse.{Purse}
 use Rattle.account.specs.declared.Account.{Account}
-use Rattle.account.specs.declared.SeenAccount.{SeenAccount}
+use Rattle.account.specs.Seen.{SeenAccount}
 use Rattle.account.specs.Purse.{no_purse, gains, purse_sound, purse_zero}
 use Rattle.account.specs.Account.{no_account, with_purse, account_sound, account_zero}
-use Rattle.account.specs.Rules.{posted, repursed, deposit_of, payout_of, approve_of, offer_of, reoffer_of, debit_of, credit_of, accept_of, lender_repaid_of, blacklist_of}
+use Rattle.account.specs.Rules.{deposit_of, payout_of, approve_of, offer_of, reoffer_of, debit_of, credit_of, accept_of, lender_repaid_of, blacklist_of}
 
 zeros : {a b c d : ℤ} → a ≡ pos 0 → b ≡ pos 0 → c ≡ pos 0 → d ≡ pos 0
     → ◌≡◌ {A = Purse} (record { balance = a; allowance = b; offered = c; accepted = d }) no_purse
@@ -72,15 +69,6 @@ sound_ranges {r} e =
 pub ranges_sound : {r : Account} → Ranges r → account_sound r ≡ true
 unfolding account_sound purse_sound
 ranges_sound {r} s = rw (s.balance_in, s.allowance_in, s.offered_in, s.accepted_in, s.pending_in, s.repaid_in)
-
--- how code answers that does f to the purse where a test allows it
-pub moves_purse : {ok t : Bool} {p : Purse} (r : Account) (n : Refusal) (f : Purse → Purse) → ok ≡ t → (ok ≡ true → p ≡ f r.purse)
-    → repursed r p ok (number n) ≡ answered posted r (record { checks = (not t gives n) ∷ []; done = with_purse f r })
-moves_purse {ok} {t} {p} r n f e h = by ok refl
-  where
-    by : (b : Bool) → ok ≡ b → repursed r p ok (number n) ≡ answered posted r (record { checks = (not t gives n) ∷ []; done = with_purse f r })
-    by false q = pick_off _ _ q ∙ refuses posted n _ _ _ (ap not (sym e ∙ q))
-    by true q = pick_on _ _ q ∙ goes_on posted n _ _ _ (ap not (sym e ∙ q)) (does posted _ _ (ap (λ z. with_purse (λ _. z) r) (h q)))
 
 gains_kept : (r : Account) (x : ℤ) → account_sound r ≡ true → not (movable r.purse.balance x) ≡ false → account_sound (with_purse (gains x) r) ≡ true
 gains_kept r x h e =

@@ -1,23 +1,13 @@
 -- Document 01, modules 4 and 5: what is asked of one account's row, in order, and the row after it.
 use Rattle.std.specs.Prelude.{ℕ, ◌+◌, Bool, not, List, [], ◌∷◌, ◌++◌, leb, ltb, eqb, ℤ, ◌-ℤ◌, neg_ℤ}
 use Rattle.money.specs.Range.{count_limit, in_amount, in_total, movable}
-use Rattle.refusal.specs.Choice.{pick}
 use Rattle.refusal.specs.Refusal.{Check, ◌gives◌, invalid_input, not_found, unauthorized, allowance_short, balance_short, out_of_range}
 use Rattle.refusal.specs.Rule.{Rule}
 use Rattle.terms.specs.declared.Terms.{Terms}
-use Rattle.account.specs.declared.Purse.{Purse}
 use Rattle.account.specs.declared.Account.{Account}
-use Rattle.account.specs.declared.SeenAccount.{SeenAccount}
-use Rattle.account.specs.declared.AccountPosted.{AccountPosted}
+use Rattle.account.specs.Seen.{SeenAccount}
 use Rattle.account.specs.Purse.{gains, allows, reoffers, pays, accepts}
 use Rattle.account.specs.Account.{with_purse, offers, repays, lists}
-
-abbrev pub posted : ℕ → Account → AccountPosted
-posted n r = record { answer = n; row = r }
-
--- the row with another purse where its totals could move; else a refusal, and the row as it was
-abbrev pub repursed : Account → Purse → Bool → ℕ → AccountPosted
-repursed r p ok n = pick ok (posted 0 (with_purse (λ _. p) r)) (posted n r)
 
 -- deposit amount 3, 11
 abbrev pub deposit_of : Account → ℤ → Rule Account

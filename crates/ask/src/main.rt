@@ -8,7 +8,6 @@ ghost use Rattle.book.specs.Stored.{book_test, Shelved};
 
 use book::Book;
 use files::say;
-use journal::Opened;
 use loading::Given;
 use std::env::Env;
 use std::io::Read;
@@ -335,10 +334,9 @@ fn warn_from(journal: &[u8], answered: usize, at: usize) {
         return;
     }
     say(b"warning: record 0 at offset 0, the header, ");
-    let h = journal::header(journal);
-    if let Opened::Records(named, _) = h {
+    if let Ok(header) = journal::header(journal) {
         say(b"is of edition ");
-        files::say_number(named as u64);
+        files::say_number(u64::from(header.edition));
         say(b", not the snapshot's");
     } else {
         say(b"is malformed");

@@ -1,10 +1,8 @@
 -- What the loops that write the lines go by. Assumes nothing.
-use Rattle.std.specs.Prelude.{ℕ, ◌+◌, ◌≤◌, ◌<◌, ◌≡◌, refl, Bool, true, false, length, get_or, take, ltb}
+use Rattle.std.specs.Prelude.{ℕ, ◌+◌, ◌≤◌, ◌<◌, ◌≡◌, refl, Bool, true, false, length, get_or, take, ltb, min}
 use Rattle.std.proofs.Common.{arith, add-one, sym, ◌∙◌, ltb-true, ltb-false, take-suc, take_all}
 use Rattle.std.proofs.Math.Path.{ap}
 use mathlib.Core.List.{List, [], ◌∷◌, ◌++◌, append-nil}
-use Rattle.refusal.specs.Choice.{pick}
-use Rattle.refusal.specs.ChoiceLaws.{either}
 use Rattle.lists.specs.Taking.{pick_from, spread}
 use Rattle.lists.specs.Pick.{pick_on, pick_off}
 use Rattle.lists.specs.Written.{spread_append}
@@ -29,13 +27,9 @@ module _ {A : Type 0} (f : A → List ℕ) where
 pub take_most : {A : Type 0} (l : List A) (i n : ℕ) → length l ≤ i → length l ≤ n → take i l ≡ take n l
 take_most l i n h k = take_all i l h ∙ sym (take_all n l k)
 
-pub told_few : (n : ℕ) → pick (ltb n 10) n 10 ≤ 10
-told_few n = either (λ (k : ℕ). k ≤ 10) (ltb n 10) n 10 (λ e. omega (arith, ltb-true n 10 e)) (λ e. omega arith)
-
-pub take_told : (l : List ℕ) (n : ℕ) → length l ≤ 10 → take (pick (ltb n 10) n 10) l ≡ take n l
-unfolding pick
-take_told l n h = go (ltb n 10) refl
+pub take_least : {A : Type 0} (l : List A) (n k : ℕ) → length l ≤ k → take (min n k) l ≡ take n l
+take_least {A} l n k h = go (ltb n k) refl
   where
-    go : (b : Bool) → ltb n 10 ≡ b → take (pick b n 10) l ≡ take n l
-    go true e = refl
-    go false e = take_most l 10 n h (omega (arith, ltb-false n 10 e))
+    go : (b : Bool) → ltb n k ≡ b → take (min n k) l ≡ take n l
+    go true e = let z : min n k ≡ n = omega (arith, ltb-true n k e) in rw z refl
+    go false e = take_most l (min n k) n (omega (arith, h, ltb-false n k e)) (omega (arith, h, ltb-false n k e))

@@ -1,5 +1,5 @@
 -- What the code that answers questions goes by. Assumes nothing.
-use Rattle.std.specs.Prelude.{ℕ, zero, suc, ◌+◌, ◌-◌, ◌≤◌, ◌<◌, ◌≡◌, Bool, true, false, List, [], ◌∷◌, ◌++◌, length, get_or, take, drop, eqb}
+use Rattle.std.specs.Prelude.{ℕ, zero, suc, ◌+◌, ◌-◌, ◌≤◌, ◌<◌, ◌≡◌, Bool, true, false, Option, Some, Result, Ok, Err, List, [], ◌∷◌, ◌++◌, length, get_or, take, drop, eqb}
 use Rattle.std.proofs.Common.{arith, ap, ◌∙◌, lt-ltb, le-ltb, eq-eqb, ne_eqb}
 use Rattle.std.proofs.Math.Path.{refl, sym}
 use Rattle.refusal.specs.Choice.{pick}
@@ -8,11 +8,8 @@ use Rattle.refusal.specs.Refusal.{number, invalid_input}
 use Rattle.table.specs.Tables.{Table}
 use Rattle.offer.specs.declared.Offer.{Offer}
 use Rattle.journal.specs.Table.{padded, sent}
-use Rattle.journal.specs.declared.writing.Parts.{Parts}
 use Rattle.sheet.specs.declared.Pen.{Pen}
 use Rattle.sheet.specs.Sheet.{Wrote}
-use Rattle.lists.specs.declared.Asked.{Asked}
-use Rattle.lists.specs.declared.Asked.TheVariants.{For}
 use Rattle.lists.specs.declared.Wanted.{Wanted}
 use Rattle.lists.specs.Wanted.{known, wanted_of}
 use Rattle.lists.specs.Listing.{listing}
@@ -28,20 +25,20 @@ use Rattle.text.specs.LineWalk.{Had}
 use Rattle.text.specs.Journal.{fault_line}
 use Rattle.text.specs.Answers.{whole, faulty}
 use Rattle.text.specs.declared.reading.Line.{Line}
-use Rattle.asking.specs.declared.Told.{Told}
-use Rattle.asking.specs.declared.Told.TheVariants.{Answers, NoQuestion, Short, Unsound}
+use Rattle.asking.specs.declared.AskError.{AskError}
+use Rattle.asking.specs.declared.AskError.TheVariants.{NoQuestion, Short, Unsound}
 use Rattle.asking.specs.Answers.{row_of, reply_line, reply_in, offer_lines}
 use Rattle.asking.specs.Questions.{list_text, none_or, schedule_text, negotiation_text, answer_text, questions_in, answer_to, answers_of, told_says}
 
 -- ── A list ──
-module _ {x : Asked} {w : Wanted} (t : Table Offer) (e : x ≡ For w) where
+module _ {x : Option Wanted} {w : Wanted} (t : Table Offer) (e : x ≡ Some w) where
   pub list_known : {n : ℕ} → known w ≡ true → n ≡ length (listing w t) → row_of (0 ∷ n ∷ []) ++ offer_lines w t ≡ list_text x t
   unfolding list_text
-  list_known k c = on _ k (ap (λ (n : ℕ). row_of (0 ∷ n ∷ []) ++ offer_lines w t) c) ∙ sym (ap (λ (y : Asked). list_text y t) e)
+  list_known k c = on _ k (ap (λ (n : ℕ). row_of (0 ∷ n ∷ []) ++ offer_lines w t) c) ∙ sym (ap (λ (y : Option Wanted). list_text y t) e)
 
   pub list_unknown : known w ≡ false → row_of (number invalid_input ∷ []) ≡ list_text x t
   unfolding list_text
-  list_unknown k = off _ k refl ∙ sym (ap (λ (y : Asked). list_text y t) e)
+  list_unknown k = off _ k refl ∙ sym (ap (λ (y : Option Wanted). list_text y t) e)
 
 -- ── A schedule's words ──
 pub schedule_none_lem : (words : List ℕ) → get_or words 1 0 ≡ 0 → 48 ∷ 32 ∷ 110 ∷ 111 ∷ 110 ∷ 101 ∷ 10 ∷ [] ≡ schedule_text (reply_in words)
@@ -98,7 +95,7 @@ padded-1 (x ∷ y ∷ l) = refl
 
 pub question_is : (m : Model) {d : Item} {r : Line} (h : Had d r) → answer_text m r.tag (get_or r.values 0 0) (get_or r.values 1 0) ≡ answer_to m h.parts
 question_is m h =
-    ap (λ (p : Parts). answer_text m p.0 (get_or p.1 0 0) (get_or p.1 1 0)) h.sends
+    ap (λ (p : ℕ × List ℕ). answer_text m p.0 (get_or p.1 0 0) (get_or p.1 1 0)) h.sends
     ∙ ap (λ (n : ℕ). answer_text m h.parts.0 n (get_or (padded h.parts.1) 1 0)) (padded-0 h.parts.1)
     ∙ ap (λ (n : ℕ). answer_text m h.parts.0 (get_or h.parts.1 0 0) n) (padded-1 h.parts.1)
 
@@ -124,15 +121,15 @@ answers_whole m t e = pick_off _ _ e
 
 -- ── One answer ──
 -- an answer is read back from what it says
-unfoldable read_told : ℕ × ℕ → Told
-read_told p = pick (eqb p.0 0) (Answers p.1) (pick (eqb p.0 13) (NoQuestion p.1) (pick (eqb p.0 14) Short Unsound))
+unfoldable read_told : ℕ × ℕ → Result ℕ AskError
+read_told p = pick (eqb p.0 0) (Ok p.1) (pick (eqb p.0 13) (Err (NoQuestion p.1)) (pick (eqb p.0 14) (Err Short) (Err Unsound)))
 
-back_told : (x : Told) → read_told (told_says x) ≡ x
+back_told : (x : Result ℕ AskError) → read_told (told_says x) ≡ x
 unfolding read_told pick
-back_told (Answers n) = refl
-back_told (NoQuestion line) = refl
-back_told Short = refl
-back_told Unsound = refl
+back_told (Ok n) = refl
+back_told (Err (NoQuestion line)) = refl
+back_told (Err Short) = refl
+back_told (Err Unsound) = refl
 
-pub one_told : (x y : Told) → told_says x ≡ told_says y → x ≡ y
+pub one_told : (x y : Result ℕ AskError) → told_says x ≡ told_says y → x ≡ y
 one_told = one_said told_says read_told back_told

@@ -1,7 +1,6 @@
 -- A reply stands whole in an answer's twelve words, since no question has more than ten values. Assumes nothing.
-use Rattle.std.specs.Prelude.{ℕ, zero, suc, ◌≤◌, ◌≡◌, refl, Bool, true, false, List, [], ◌∷◌, length, take, eqb}
+use Rattle.std.specs.Prelude.{ℕ, zero, suc, ◌≤◌, ◌≡◌, refl, List, [], ◌∷◌, length, take, eqb}
 use Rattle.std.proofs.Common.{arith, ap}
-use Rattle.refusal.specs.Choice.{pick}
 use Rattle.refusal.specs.ChoiceLaws.{either}
 use Rattle.refusal.specs.Refusal.{first}
 use Rattle.refusal.specs.Rule.{Rule, after, answered}
@@ -9,9 +8,9 @@ use Rattle.terms.specs.Schedule.{schedule_zero}
 use Rattle.terms.specs.declared.Schedule.{Schedule}
 use Rattle.lists.specs.Listing.{Reply}
 use Rattle.rules.specs.Model.{Model}
-use Rattle.query.specs.Reads.{reply, schedule_values, schedule_order}
+use Rattle.query.specs.Reads.{schedule_values, schedule_order}
 use Rattle.query.specs.Numbers.{schedule_numbers}
-use Rattle.query.specs.Questions.{Question, questions, unlisted, read_in, read_of, reply_to, widened, twelve}
+use Rattle.query.specs.Questions.{Question, questions, read_in, read_of, reply_to, widened, twelve}
 use Rattle.asking.specs.Answers.{reply_in}
 
 take_widened : (n : ℕ) (l : List ℕ) → length l ≤ n → take (length l) (widened n l) ≡ l

@@ -3,8 +3,9 @@
 
 mod rows;
 
-ghost use Rattle.std.specs.Prelude.{◌≡◌, true, false, ◌-◌};
+ghost use Rattle.std.specs.Prelude.{◌≡◌, true, false, ◌-◌, MatchResult};
 ghost use Rattle.sheet.specs.Sheet.{Wrote, pen_at};
+ghost use Rattle.sheet.specs.declared.Pen.{Pen};
 ghost use Rattle.text.specs.Answers.{answered, answer_for, left_for};
 ghost use Rattle.text.specs.Journal.{fault_line};
 ghost use Rattle.text.specs.Walk.{all_of};
@@ -14,15 +15,14 @@ ghost use Rattle.asking.specs.Answers.{reply_in};
 ghost use Rattle.asking.specs.Questions.{list_text, schedule_text, negotiation_text, answer_text, questions_in, answer_to, answers_of, told_says, told_for, left_by};
 
 use book::Book;
-use lists::{Asked, OfferRows};
+use lists::{OfferRows, Wanted};
 use negotiation::Negotiation;
 use sheet::Pen;
 use text::Answer;
 
-// How many bytes the answers are; the number of the first line that is no question; that the buffer is too short, or the book unsound.
-#[derive(Clone, Copy)]
-pub enum Told {
-    Answers(usize),
+// Why questions are not answered: the number of the first line that is none; the buffer is too short; the book is unsound.
+#[derive(Clone, Copy, Debug, PartialEq, Eq)]
+pub enum AskError {
     NoQuestion(usize),
     Short,
     Unsound,
@@ -33,17 +33,16 @@ const FIRST: u8 = 0x61;
 
 const PAST: u8 = 0x80;
 
-fn put_list(out: &mut [u8], pen: Pen, ink: bool, offers: OfferRows, asked: Asked) -> Pen
+fn put_list(out: &mut [u8], pen: Pen, ink: bool, offers: OfferRows, asked: Option<Wanted>) -> Pen
     ensures { Wrote ink (list_text asked (offers_of offers)) out.old pen out.new result }
 {
-    let Asked::For(w) = asked else {
+    let Some(w) = asked else {
         return rows::put_row(out, pen, ink, refusal::INVALID_INPUT, &[]);
     };
     if !w.is_known() {
         return rows::put_row(out, pen, ink, refusal::INVALID_INPUT, &[]);
     }
-    let n = offers.count_of(w);
-    let count = [n as u64];
+    let count = [offers.count_of(w) as u64];
     let p = rows::put_row(out, pen, ink, 0, &count);
     rows::put_offers(out, p, ink, offers, w)
 }
@@ -69,10 +68,7 @@ fn put_negotiation(out: &mut [u8], pen: Pen, ink: bool, g: Negotiation) -> Pen
 fn past(tag: u8, base: u8) -> u64
     ensures { result ≡ tag - base }
 {
-    if tag < base {
-        return 0;
-    }
-    (tag - base) as u64
+    u64::from(tag.saturating_sub(base))
 }
 
 // The answer to one question.
@@ -82,9 +78,8 @@ fn put_answer(out: &mut [u8], pen: Pen, ink: bool, book: Book, tag: u8, a: u64, 
     ensures { Wrote ink (answer_text (model_of book) tag a b) out.old pen out.new result }
 {
     if tag < 0x70 {
-        let table = book.offers;
-        let offers = query::offers_only(table);
-        let asked = Asked::of(past(tag, 0x60), a, b);
+        let offers = query::offers_only(book.offers);
+        let asked = Wanted::asked(past(tag, 0x60), a, b);
         return put_list(out, pen, ink, offers, asked);
     }
     if tag == 0x74 {
@@ -103,19 +98,12 @@ fn put_answer(out: &mut [u8], pen: Pen, ink: bool, book: Book, tag: u8, a: u64, 
     rows::put_reply(out, pen, ink, words)
 }
 
-// Where a walk over questions stopped, whether at a line that is none, and the pen then.
-#[derive(Clone, Copy)]
-struct Walked {
-    pen: Pen,
-    bad: bool,
-    line: usize,
-}
-
-// One walk over the questions, which writes the answers as it goes. Without ink it only measures.
-fn tell(book: Book, s: &[u8], out: &mut [u8], ink: bool) -> Walked
+// One walk over the questions, which writes the answers as it goes, to the number of the first line that is none. Without ink it only measures.
+// The step is the length of the line that was read: there is no iterator of lines without storing them, and there is no heap.
+fn tell(book: Book, s: &[u8], out: &mut [u8], ink: bool) -> Result<Pen, usize>
     requires shelved { Shelved book }
     requires tested { book_test book ≡ true }
-    ensures { Wrote ink (all_of (answer_to (model_of book)) (questions_in s.now).items) out.old (pen_at 0 false) out.new result.pen × ((result.bad ≡ (questions_in s.now).bad) × (result.line ≡ fault_line 0 (questions_in s.now))) }
+    ensures { MatchResult result (λ p. Wrote ink (all_of (answer_to (model_of book)) (questions_in s.now).items) out.old (pen_at 0 false) out.new p × (false ≡ (questions_in s.now).bad)) (λ line. ((p : Pen) × Wrote ink (all_of (answer_to (model_of book)) (questions_in s.now).items) out.old (pen_at 0 false) out.new p) × ((true ≡ (questions_in s.now).bad) × (line ≡ fault_line 0 (questions_in s.now)))) }
 {
     let mut pen = Pen {
         at: 0,
@@ -126,22 +114,13 @@ fn tell(book: Book, s: &[u8], out: &mut [u8], ink: bool) -> Walked
     while at < s.len() {
         let x = text::reading::line_at(edition::FIRST, s, at, FIRST, PAST);
         if !x.ok {
-            return Walked {
-                pen,
-                bad: true,
-                line: k + 1,
-            };
+            return Err(k + 1);
         }
-        let values = x.values;
-        pen = put_answer(out, pen, ink, book, x.tag, values[0], values[1]);
+        pen = put_answer(out, pen, ink, book, x.tag, x.values[0], x.values[1]);
         at = x.next;
         k += 1;
     }
-    Walked {
-        pen,
-        bad: false,
-        line: 0,
-    }
+    Ok(pen)
 }
 
 // The answers to the questions of a sound book where they fit, else the buffer stays as it is.
@@ -150,35 +129,35 @@ pub fn answers_sound(book: Book, questions: &[u8], out: &mut [u8]) -> Answer
     requires tested { book_test book ≡ true }
     ensures { (answered result ≡ answer_for (answers_of (model_of book) questions.now) out.old) × (out.new ≡ left_for (answers_of (model_of book) questions.now) out.old) }
 {
-    let dry = tell(book, questions, out, false);
-    if dry.bad {
-        return Answer::Malformed(dry.line);
-    }
-    let pen = dry.pen;
+    let pen = match tell(book, questions, out, false) {
+        Ok(pen) => pen,
+        Err(line) => return Answer::Malformed(line),
+    };
     if pen.short {
         return Answer::Short;
     }
-    let wet = tell(book, questions, out, true);
-    let q = wet.pen;
-    Answer::Done(q.at)
+    match tell(book, questions, out, true) {
+        Ok(end) => Answer::Done(end.at),
+        Err(line) => Answer::Malformed(line),
+    }
 }
 
-fn said(r: Answer) -> Told
+fn said(r: Answer) -> Result<usize, AskError>
     ensures { told_says result ≡ answered r }
 {
     match r {
-        Answer::Done(n) => Told::Answers(n),
-        Answer::Malformed(line) => Told::NoQuestion(line),
-        Answer::Short => Told::Short,
+        Answer::Done(n) => Ok(n),
+        Answer::Malformed(line) => Err(AskError::NoQuestion(line)),
+        Answer::Short => Err(AskError::Short),
     }
 }
 
 // The answers to questions, one a line: the book is tested once, and each answer is that of the single query.
-pub fn answers(book: Book, questions: &[u8], out: &mut [u8]) -> Told
+pub fn answers(book: Book, questions: &[u8], out: &mut [u8]) -> Result<usize, AskError>
     ensures { (told_says result ≡ told_for book questions.now out.old) × (out.new ≡ left_by book questions.now out.old) }
 {
     if !book.sound() {
-        return Told::Unsound;
+        return Err(AskError::Unsound);
     }
     said(answers_sound(book, questions, out))
 }

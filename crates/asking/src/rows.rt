@@ -1,6 +1,5 @@
 // Answers as lines of numbers, each written by a pen that may have no ink.
-ghost use Rattle.std.specs.Prelude.{◌≡◌, ◌∷◌, ltb};
-ghost use Rattle.refusal.specs.Choice.{pick};
+ghost use Rattle.std.specs.Prelude.{◌∷◌};
 ghost use Rattle.sheet.specs.Sheet.{Wrote};
 ghost use Rattle.lists.specs.Listing.{offers_of, in_order};
 ghost use Rattle.asking.specs.Answers.{row_of, reply_line, reply_in, round_line, round_lines, offer_lines};
@@ -30,17 +29,12 @@ fn put_offer(out: &mut [u8], pen: Pen, ink: bool, o: OfferNumbers) -> Pen
 pub(crate) fn put_offers(out: &mut [u8], pen: Pen, ink: bool, rows: OfferRows, w: Wanted) -> Pen
     ensures { Wrote ink (offer_lines w (offers_of rows)) out.old pen out.new result }
 {
-    let used = rows.in_use();
     let mut p = pen;
-    let mut i: usize = 0;
-    while i < used {
+    for i in 0..rows.in_use() {
         let row = rows.rows[i];
         if w.takes(i as u64, row) {
-            let id = rows.ids[i];
-            let o = OfferNumbers::of(id, row);
-            p = put_offer(out, p, ink, o);
+            p = put_offer(out, p, ink, OfferNumbers::of(rows.ids[i], row));
         }
-        i += 1;
     }
     p
 }
@@ -57,36 +51,17 @@ fn put_round(out: &mut [u8], pen: Pen, ink: bool, r: Round) -> Pen
 pub(crate) fn put_rounds(out: &mut [u8], pen: Pen, ink: bool, g: Negotiation) -> Pen
     ensures { Wrote ink (round_lines g) out.old pen out.new result }
 {
-    let len = g.len;
     let mut p = pen;
-    let mut i: u32 = 0;
-    while i < negotiation::ROUND_SLOTS {
-        if len <= i {
-            return p;
-        }
-        let at = i as usize;
-        let r = g.rounds[at];
-        p = put_round(out, p, ink, r);
-        i += 1;
+    for i in 0..g.len.min(negotiation::ROUND_SLOTS) {
+        p = put_round(out, p, ink, g.rounds[i as usize]);
     }
     p
-}
-
-// How many of ten values are told.
-fn told(n: u64) -> usize
-    ensures { result ≡ pick (ltb n 10) n 10 }
-{
-    if n < 10 {
-        return n as usize;
-    }
-    10
 }
 
 // The reply that stands in twelve words.
 pub(crate) fn put_reply(out: &mut [u8], pen: Pen, ink: bool, words: [u64; 12]) -> Pen
     ensures { Wrote ink (reply_line (reply_in words)) out.old pen out.new result }
 {
-    let n = told(words[1]);
-    let end = 2 + n;
+    let end = 2 + words[1].min(10) as usize;
     put_row(out, pen, ink, words[0], &words[2..end])
 }

@@ -1,6 +1,7 @@
 -- The book of the code and the model: what its arrays hold, how a model is stored, and what a method answers.
-use Rattle.std.specs.Prelude.{ℕ, Bool, ◌&&◌}
+use Rattle.std.specs.Prelude.{ℕ, Bool, ◌&&◌, Result, Ok, Err}
 use Rattle.refusal.specs.Choice.{pick}
+use Rattle.refusal.specs.declared.Refusal.{Refusal}
 use Rattle.refusal.specs.Refusal.{number, journal_malformed, book_unsound}
 use Rattle.refusal.specs.Rule.{answered}
 use Rattle.edition.specs.Edition.{first_edition, listed}
@@ -23,6 +24,11 @@ stored m = record { accounts = stored_accounts m.accounts; invoices = stored_inv
 
 abbrev pub step_of : ℕ → Model → Step
 step_of n m = record { answer = n; book = stored m }
+
+-- the number of an answer
+abbrev pub number_of : Result (Unit {0}) Refusal → ℕ
+number_of (Ok x) = 0
+number_of (Err r) = number r
 
 -- the arrays are tables, zero past their counts, with ids that ascend
 pub record Shelved (b : Book) : Type 0 where

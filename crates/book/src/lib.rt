@@ -2,15 +2,16 @@
 #![tactic(auto)]
 
 ghost use Rattle.std.specs.Prelude.{◌≡◌, true};
-ghost use Rattle.refusal.specs.Rule.{answered};
+ghost use Rattle.refusal.specs.Rule.{after, passing};
 ghost use Rattle.command.specs.declared.Command.TheVariants.{OpenAccount, Deposit, Payout, Approve, RegisterInvoice, CancelInvoice, CreateOffer, WithdrawOffer, AcceptOffer, RejectOffer, AmendOffer, CounterOffer, CloseNegotiation, ScheduleRepayment, UpdateStatus, UpdateRepaid, UpdateLenderRepaid, UpdateTotalsRepaid, Pause, Unpause, SetWindow, SetRepaymentAccount, SetBlacklisted, SetSeats};
 ghost use Rattle.rules.specs.Model.{fresh_model};
 ghost use Rattle.rules.specs.Rules.{commanded};
-ghost use Rattle.book.specs.Stored.{model_of, stored, step_of, Shelved, book_test, fresh_book, answers};
+ghost use Rattle.book.specs.Stored.{model_of, stored, number_of, Shelved, book_test, fresh_book, answers};
 
 use command::Command;
 use near::{Counts, Near};
 use parties::Parties;
+use refusal::Refusal;
 use settings::Settings;
 use shelves::{Accounts, Invoices, Offers};
 use terms::Terms;
@@ -27,139 +28,122 @@ pub struct Book {
 }
 
 // A command's answer, 0 where it is accepted, and the next book.
+// A struct and not a Result: the book comes back with a refusal too, the very book (refusal_returns, crates/soundness/specs/Calls.antt).
 #[derive(Clone, Copy)]
 pub struct Step {
     pub answer: u64,
     pub book: Book,
 }
 
+// The number of an answer: 0 where nothing is refused.
+pub fn number_of(answer: Result<(), Refusal>) -> u64
+    ensures { result ≡ number_of answer }
+{
+    match answer {
+        Ok(()) => 0,
+        Err(refusal) => refusal.number(),
+    }
+}
+
 impl Book {
     // A book with no rows, zero totals and the first settings, in an edition; 13, and the first edition's, where that is not listed.
+    #[tactic(auto, unfolding(crate::specs::Stored::fresh_book, refusal::specs::Choice::pick))]
     pub fn fresh(edition: u32) -> Step
         ensures { result ≡ fresh_book edition }
     {
         if !edition::is_listed(edition) {
-            let book = Book::of_edition(edition::FIRST);
             return Step {
-                answer: refusal::JOURNAL_MALFORMED,
-                book,
+                answer: Refusal::JournalMalformed.number(),
+                book: Book::of_edition(edition::FIRST),
             };
         }
-        let book = Book::of_edition(edition);
-        Step { answer: 0, book }
+        Step {
+            answer: 0,
+            book: Book::of_edition(edition),
+        }
     }
 
     // The same without the test: in an edition that is not listed the book is unsound.
     pub fn of_edition(edition: u32) -> Book
         ensures { result ≡ stored (fresh_model edition) }
     {
-        let accounts = Accounts::none();
-        let invoices = Invoices::none();
-        let offers = Offers::none();
-        let totals = Totals::none();
-        let settings = Settings::fresh(edition);
         Book {
-            accounts,
-            invoices,
-            offers,
-            totals,
-            settings,
+            accounts: Accounts::none(),
+            invoices: Invoices::none(),
+            offers: Offers::none(),
+            totals: Totals::none(),
+            settings: Settings::fresh(edition),
         }
     }
 
     // Whether the book is sound, as document 01 says.
-    pub fn sound(self) -> bool
-        ensures tested { result ≡ book_test self }
-        ensures shelved { result ≡ true → Shelved self }
+    pub fn sound(&self) -> bool
+        ensures tested { result ≡ book_test self.now }
+        ensures shelved { result ≡ true → Shelved self.now }
     {
-        let accounts = self.accounts;
-        let accounts_sound = accounts.sound();
-        let invoices = self.invoices;
-        let invoices_sound = invoices.sound();
-        let offers = self.offers;
-        let settings = self.settings;
-        let offers_sound = offers.sound(settings.edition);
-        let totals = self.totals;
-        let totals_sound = totals.sound();
-        let settings_sound = settings.sound();
-        accounts_sound & invoices_sound & offers_sound & totals_sound & settings_sound
+        let accounts = self.accounts.sound();
+        let invoices = self.invoices.sound();
+        let offers = self.offers.sound(self.settings.edition);
+        let totals = self.totals.sound();
+        accounts & invoices & offers & totals & self.settings.sound()
     }
 
-    // The step on a sound book: it tests nothing of the book again. The rows that the command names are seen, turned and stored.
-    fn obey(mut self, c: Command) -> Step
-        requires { Shelved self }
-        ensures { result ≡ answered step_of (model_of self) (commanded (model_of self) c) }
+    // The step on a sound book, which it leaves as it was where the command is refused; it tests nothing of the book again. The rows
+    // that the command names are seen, turned and stored.
+    pub fn obey(&mut self, c: Command) -> Result<(), Refusal>
+        requires { Shelved self.old }
+        ensures answer { result ≡ passing (commanded (model_of self.old) c).checks }
+        ensures book { self.new ≡ stored (after (model_of self.old) (commanded (model_of self.old) c)) }
     {
         let names = c.names();
-        let id = names.offer;
-        let offers = self.offers;
-        let deal = offers.see(id);
-        let row = deal.row;
-        let offer = row.offer;
-        let p = names.paper;
-        let key = p.key(offer.invoice);
-        let invoices = self.invoices;
-        let paper = invoices.see(key);
-        let invoice = paper.row;
-        let second = names.second;
-        let other = second.key(offer.lender, invoice.originator);
-        let caller = names.first;
-        let accounts = self.accounts;
-        let seen = accounts.see(caller);
-        let b = accounts.see(other);
-        let one = caller.same(other);
-        let parties = Parties {
-            first: seen,
-            second: b,
-            one,
-        };
-        let totals = self.totals;
-        let settings = self.settings;
+        let deal = self.offers.see(names.offer);
+        let key = names.paper.key(deal.row.offer.invoice);
+        let paper = self.invoices.see(key);
+        let other = names
+            .second
+            .key(deal.row.offer.lender, paper.row.originator);
         let near = Near {
-            parties,
+            parties: Parties {
+                first: self.accounts.see(names.first),
+                second: self.accounts.see(other),
+                one: table::same(names.first, other),
+            },
             paper,
             deal,
-            totals,
-            settings,
+            totals: self.totals,
+            settings: self.settings,
         };
         let rows = Counts {
-            accounts: accounts.count,
-            invoices: invoices.count,
-            offers: offers.count,
+            accounts: self.accounts.count,
+            invoices: self.invoices.count,
+            offers: self.offers.count,
         };
-        let turn = near.turn(c, rows);
-        let after = turn.near;
-        let both = after.parties;
-        let first = both.first;
-        let y = both.second;
-        let z = y.row;
-        let more = accounts.store(caller, other, first, z);
-        self.accounts = more;
-        let papers = invoices.store(key, after.paper);
-        self.invoices = papers;
-        let deals = offers.store(id, after.deal);
-        self.offers = deals;
-        let sums = after.totals;
-        self.totals = sums;
-        let set = after.settings;
-        self.settings = set;
-        Step {
-            answer: turn.answer,
-            book: self,
-        }
+        let after = near.turn(c, rows)?;
+        self.accounts.store(
+            names.first,
+            other,
+            after.parties.first,
+            after.parties.second.row,
+        );
+        self.invoices.store(key, after.paper);
+        self.offers.store(names.offer, after.deal);
+        self.totals = after.totals;
+        self.settings = after.settings;
+        Ok(())
     }
 
     // Any command on any book: 15 and the book as it was where it is not sound.
-    pub fn apply(self, c: Command) -> Step
+    pub fn apply(mut self, c: Command) -> Step
         ensures { result ≡ answers self c }
     {
         if !self.sound() {
             return Step {
-                answer: refusal::BOOK_UNSOUND,
+                answer: Refusal::BookUnsound.number(),
                 book: self,
             };
         }
-        self.obey(c)
+        let answer = number_of(self.obey(c));
+        Step { answer, book: self }
     }
 
     // The caller opens an account.

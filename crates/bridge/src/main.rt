@@ -10,8 +10,9 @@ ghost use Rattle.bridge.specs.Whole.{refused_by, whole_record};
 
 use book::{Book, Step};
 use journal::Decoded;
+use refusal::Refusal;
 use replay::Listed;
-use rescue::Rescued;
+use rescue::Clean;
 use snapshot::{Loaded, Written};
 
 // What a request asks.
@@ -39,13 +40,6 @@ const RESCUE: u64 = 11;
 
 // A snapshot of so many bytes follows its frame in so many.
 const SMALL: u64 = 4096;
-
-// The book after a request, and whether another may follow.
-#[derive(Clone, Copy)]
-struct Turn {
-    pub book: Book,
-    pub more: bool,
-}
 
 fn malformed(book: Book) -> Step
     ensures { result ≡ refused_by book }
@@ -79,16 +73,7 @@ fn apply(book: Book, s: &[u8]) -> Step
 }
 
 // Sends an answer that ends at a place.
-fn send(out: &[u8; 65536], at: usize) {
-    send_part(out, at);
-}
-
-// The same of a buffer for snapshots.
-fn send_wide(out: &[u8; 81920], at: usize) {
-    send_part(out, at);
-}
-
-fn send_part(out: &[u8], at: usize) {
+fn send(out: &[u8], at: usize) {
     if at <= out.len() {
         io::write_all(1, &out[..at]);
     }
@@ -124,8 +109,7 @@ fn applied(book: Book, frame: [u8; 128]) -> Book {
     let end = 32 + n as usize;
     let t = apply(book, &frame[32..end]);
     send_number(t.answer);
-    let next = t.book;
-    next
+    t.book
 }
 
 fn shown(book: Book) {
@@ -178,17 +162,13 @@ fn listing_of(data: &[u8], n: usize, out: &mut [u8; 65536]) -> usize {
     }
 }
 
-fn listing_in(data: &[u8; 65536], n: usize, out: &mut [u8; 65536]) -> usize {
-    listing_of(data, n, out)
-}
-
 // The listing of a journal: its length, then its bytes.
 fn listing(frame: [u8; 128]) {
     let n = wire::number(&frame, 8);
     let mut data: [u8; 65536] = io::large_buffer();
     io::read_full(0, &mut data);
     let mut out: [u8; 65536] = io::large_buffer();
-    let k = listing_in(&data, n as usize, &mut out);
+    let k = listing_of(&data, n as usize, &mut out);
     send_number(k as u64);
     send(&out, k);
 }
@@ -205,21 +185,12 @@ fn listing_on(book: Book, data: &[u8], n: usize, out: &mut [u8; 65536]) -> usize
     }
 }
 
-fn listing_on_in(book: Book, data: &[u8; 65536], n: usize, out: &mut [u8; 65536]) -> usize {
-    listing_on(book, data, n, out)
-}
-
 // The book that such a journal leaves.
 fn book_after(book: Book, data: &[u8], n: usize) -> Book {
     if data.len() < n {
         return book;
     }
-    let o = replay::replay_from(book, &data[..n]);
-    o.book
-}
-
-fn book_after_in(book: Book, data: &[u8; 65536], n: usize) -> Book {
-    book_after(book, data, n)
+    replay::replay_from(book, &data[..n]).book
 }
 
 fn continued(book: Book, frame: [u8; 128]) -> Book {
@@ -227,10 +198,10 @@ fn continued(book: Book, frame: [u8; 128]) -> Book {
     let mut data: [u8; 65536] = io::large_buffer();
     io::read_full(0, &mut data);
     let mut out: [u8; 65536] = io::large_buffer();
-    let k = listing_on_in(book, &data, n as usize, &mut out);
+    let k = listing_on(book, &data, n as usize, &mut out);
     send_number(k as u64);
     send(&out, k);
-    book_after_in(book, &data, n as usize)
+    book_after(book, &data, n as usize)
 }
 
 // Writes the book's snapshot into the first bytes of a buffer.
@@ -244,17 +215,13 @@ fn save_part(book: Book, room: usize, out: &mut [u8]) -> Written {
     snapshot::write(book, &mut out[..room])
 }
 
-fn save_in(book: Book, room: usize, out: &mut [u8; 81920]) -> Written {
-    save_part(book, room, out)
-}
-
 // A snapshot: its number and its size, then its bytes.
 fn saved(book: Book, frame: [u8; 128]) {
     let room = wire::number(&frame, 8);
     let mut out: [u8; 81920] = [0; 81920];
-    let w = save_in(book, room as usize, &mut out);
+    let w = save_part(book, room as usize, &mut out);
     send_pair(w.number, w.size as u64);
-    send_wide(&out, w.size);
+    send(&out, w.size);
 }
 
 // What the first n bytes are a snapshot of.
@@ -265,24 +232,16 @@ fn read_part(data: &[u8], n: usize) -> Loaded {
     snapshot::read(&data[..n])
 }
 
-fn read_from_large(data: &[u8; 81920], n: usize) -> Loaded {
-    read_part(data, n)
-}
-
-fn read_from_small(data: &[u8; 4096], n: usize) -> Loaded {
-    read_part(data, n)
-}
-
 fn read_large(n: usize) -> Loaded {
     let mut data: [u8; 81920] = [0; 81920];
     io::read_full(0, &mut data);
-    read_from_large(&data, n)
+    read_part(&data, n)
 }
 
 fn read_small(n: usize) -> Loaded {
     let mut data: [u8; 4096] = [0; 4096];
     io::read_full(0, &mut data);
-    read_from_small(&data, n)
+    read_part(&data, n)
 }
 
 fn read_of(n: u64) -> Loaded {
@@ -299,8 +258,7 @@ fn restored(book: Book, frame: [u8; 128]) -> Book {
     if l.number != 0 {
         return book;
     }
-    let next = l.book;
-    next
+    l.book
 }
 
 fn send_four(one: u64, two: u64, three: u64, four: u64) {
@@ -321,15 +279,15 @@ fn rescue_part(
     room: usize,
     report: &mut [u64],
     most: usize,
-) -> Rescued {
+) -> Result<Clean, Refusal> {
     if data.len() < n {
-        return Rescued::Short;
+        return Err(Refusal::BufferShort);
     }
     if out.len() < room {
-        return Rescued::Short;
+        return Err(Refusal::BufferShort);
     }
     if report.len() < most {
-        return Rescued::Short;
+        return Err(Refusal::BufferShort);
     }
     rescue::rescue(&data[..n], &mut out[..room], &mut report[..most])
 }
@@ -341,20 +299,16 @@ fn rescue_in(
     room: usize,
     report: &mut [u64; 8192],
     most: usize,
-) -> Rescued {
+) -> Result<Clean, Refusal> {
     rescue_part(data, n, out, room, report, most)
 }
 
 // Sends the first n offsets of a report.
 fn send_offsets(report: &[u64; 8192], n: usize) {
     let mut out: [u8; 65536] = io::large_buffer();
-    let mut at: usize = 0;
-    let mut i: usize = 0;
-    while i < 8192 {
-        if i < n {
-            at = bridge_words::put(&mut out, at, report[i]);
-        }
-        i += 1;
+    let mut at = 0;
+    for offset in report.iter().take(n) {
+        at = bridge_words::put(&mut out, at, *offset);
     }
     send(&out, at);
 }
@@ -378,85 +332,57 @@ fn rescued(frame: [u8; 128]) {
         most as usize,
     );
     match r {
-        Rescued::Clean(size, dropped, left) => {
-            send_four(0, size as u64, dropped as u64, left as u64);
-            send(&out, size);
-            send_offsets(&report, dropped);
+        Ok(clean) => {
+            send_four(
+                0,
+                clean.size as u64,
+                clean.dropped as u64,
+                clean.left as u64,
+            );
+            send(&out, clean.size);
+            send_offsets(&report, clean.dropped);
         }
-        Rescued::Malformed => {
-            send_four(refusal::JOURNAL_MALFORMED, 0, 0, 0);
-        }
-        Rescued::Short => {
-            send_four(refusal::BUFFER_SHORT, 0, 0, 0);
-        }
+        Err(refusal) => send_four(refusal.number(), 0, 0, 0),
     }
 }
 
 fn fresh(edition: u64) -> Book {
-    let opened = Book::fresh(bridge_words::half(edition));
-    opened.book
+    Book::fresh(bridge_words::half(edition)).book
 }
 
 fn served(book: Book, frame: [u8; 128]) -> Book {
-    let what = wire::number(&frame, 0);
-    if what == FRESH {
-        return fresh(wire::number(&frame, 8));
-    }
-    if what == LOAD {
-        return loaded();
-    }
-    if what == APPLY {
-        return applied(book, frame);
-    }
-    if what == SHOW {
-        shown(book);
-    }
-    if what == LIST {
-        list(book, frame);
-    }
-    if what == ASK {
-        asked(book, frame);
-    }
-    if what == LISTING {
-        listing(frame);
-    }
-    if what == WRITE {
-        saved(book, frame);
-    }
-    if what == READ {
-        return restored(book, frame);
-    }
-    if what == LISTING_FROM {
-        return continued(book, frame);
-    }
-    if what == RESCUE {
-        rescued(frame);
+    match wire::number(&frame, 0) {
+        FRESH => return fresh(wire::number(&frame, 8)),
+        LOAD => return loaded(),
+        APPLY => return applied(book, frame),
+        SHOW => shown(book),
+        LIST => list(book, frame),
+        ASK => asked(book, frame),
+        LISTING => listing(frame),
+        WRITE => saved(book, frame),
+        READ => return restored(book, frame),
+        LISTING_FROM => return continued(book, frame),
+        RESCUE => rescued(frame),
+        _ => {}
     }
     book
 }
 
-fn take_turn(book: Book) -> Turn {
+// The book after a request, where there is one.
+fn take_turn(book: Book) -> Option<Book> {
     let mut frame: [u8; 128] = [0; 128];
-    let n = io::read_full(0, &mut frame);
-    if n < 128 {
-        return Turn { book, more: false };
+    if io::read_full(0, &mut frame) < 128 {
+        return None;
     }
-    let next = served(book, frame);
-    Turn {
-        book: next,
-        more: true,
-    }
+    Some(served(book, frame))
 }
 
 fn main() {
     let mut book = Book::of_edition(edition::FIRST);
-    let mut left: u64 = 18446744073709551615;
-    while left > 0 {
-        let s = take_turn(book);
-        if !s.more {
+    for _ in 0..u64::MAX {
+        let Some(next) = take_turn(book) else {
             return;
-        }
-        book = s.book;
-        left -= 1;
+        };
+        book = next;
     }
 }

@@ -3,11 +3,11 @@
 #![tactic(auto)]
 
 use book::Book;
-use lists::{Listed, OfferNumbers, Wanted};
-use query::{
-    InstallmentDue, LenderAnswer, NegotiationAnswer, NumberAnswer, OfferAnswer, ScheduleAnswer,
-    TotalsAnswer,
-};
+use installments::Due;
+use lists::{OfferNumbers, Wanted};
+use negotiation::Negotiation;
+use query::{LenderNumbers, ScheduleNumbers, TotalsNumbers};
+use refusal::Refusal;
 
 fn head(out: &mut [u8; 65536], number: u64, written: u64, follow: u64) -> usize {
     let mut p = bridge_words::put(out, 8, number);
@@ -15,8 +15,18 @@ fn head(out: &mut [u8; 65536], number: u64, written: u64, follow: u64) -> usize 
     bridge_words::put(out, p, follow)
 }
 
-fn refused(out: &mut [u8; 65536], number: u64) -> usize {
-    head(out, number, 0, 0)
+fn refused(out: &mut [u8; 65536], r: Refusal) -> usize {
+    head(out, r.number(), 0, 0)
+}
+
+// Numbers after their head.
+fn numbers(out: &mut [u8; 65536], values: &[u64]) -> usize {
+    let n = values.len() as u64;
+    let mut p = head(out, 0, n, n);
+    for &v in values {
+        p = bridge_words::put(out, p, v);
+    }
+    p
 }
 
 // ── Lists ──
@@ -31,198 +41,118 @@ fn status(a: u64) -> u32 {
 
 // The list query of a code and its arguments.
 pub fn wanted(query: u64, a: u64, b: u64) -> Wanted {
-    if query == 1 {
-        return Wanted::Invoice(a);
-    }
-    if query == 2 {
-        return Wanted::Lender(a);
-    }
     if query == 3 {
         return Wanted::Status(status(a));
     }
-    if query == 4 {
-        return Wanted::PendingOf(a);
-    }
-    if query == 5 {
-        return Wanted::All;
-    }
-    Wanted::Page(a, b)
+    Wanted::asked(query, a, b).unwrap_or(Wanted::Page(a, b))
 }
 
-fn listed(out: &mut [u8; 65536], l: Listed, room: u64) -> usize {
+fn listed(out: &mut [u8; 65536], l: Result<usize, Refusal>, room: u64) -> usize {
     match l {
-        Listed::Offers(n) => head(out, 0, n as u64, room),
-        Listed::Unlisted => head(out, refusal::INVALID_INPUT, 0, room),
-        Listed::Short => head(out, refusal::BUFFER_SHORT, 0, room),
-        Listed::Unsound => head(out, refusal::BOOK_UNSOUND, 0, room),
+        Ok(n) => head(out, 0, n as u64, room),
+        Err(r) => head(out, r.number(), 0, room),
     }
-}
-
-fn all(out: &mut [u8; 65536], at: usize, xs: [u64; 704], n: usize) -> usize {
-    let mut p = at;
-    let mut i: usize = 0;
-    while i < 704 {
-        if n <= i {
-            return p;
-        }
-        p = bridge_words::put(out, p, xs[i]);
-        i += 1;
-    }
-    p
 }
 
 // The buffer has `room` numbers, each of which is `fill` before the query.
 pub fn list(out: &mut [u8; 65536], book: Book, w: Wanted, room: u64, fill: u64) -> usize {
     if 704 < room {
-        return refused(out, refusal::INVALID_INPUT);
+        return refused(out, Refusal::InvalidInput);
     }
     let n = room as usize;
     let mut numbers: [u64; 704] = [fill; 704];
     let l = query::list(book, w, &mut numbers[..n]);
-    let at = listed(out, l, room);
-    all(out, at, numbers, n)
+    let mut p = listed(out, l, room);
+    for &v in &numbers[..n] {
+        p = bridge_words::put(out, p, v);
+    }
+    p
 }
 
 // ── Single reads ──
 
-fn number(out: &mut [u8; 65536], a: NumberAnswer) -> usize {
+fn number(out: &mut [u8; 65536], a: Result<u64, Refusal>) -> usize {
     match a {
-        NumberAnswer::Number(n) => {
-            let p = head(out, 0, 1, 1);
-            bridge_words::put(out, p, n)
-        }
-        NumberAnswer::Unsound => refused(out, refusal::BOOK_UNSOUND),
+        Ok(n) => numbers(out, &[n]),
+        Err(r) => refused(out, r),
     }
 }
 
-fn two(out: &mut [u8; 65536], a: NumberAnswer, b: NumberAnswer) -> usize {
-    let NumberAnswer::Number(x) = a else {
-        return refused(out, refusal::BOOK_UNSOUND);
+fn two(out: &mut [u8; 65536], a: Result<u64, Refusal>, b: Result<u64, Refusal>) -> usize {
+    match (a, b) {
+        (Ok(x), Ok(y)) => numbers(out, &[x, y]),
+        (Err(r), _) | (_, Err(r)) => refused(out, r),
+    }
+}
+
+fn due(out: &mut [u8; 65536], a: Result<Due, Refusal>) -> usize {
+    match a {
+        Ok(d) => numbers(out, &[d.number, d.owed]),
+        Err(r) => refused(out, r),
+    }
+}
+
+fn offer(out: &mut [u8; 65536], a: Result<OfferNumbers, Refusal>) -> usize {
+    match a {
+        Ok(n) => numbers(out, &n.in_order()),
+        Err(r) => refused(out, r),
+    }
+}
+
+fn schedule(out: &mut [u8; 65536], a: Result<Option<ScheduleNumbers>, Refusal>) -> usize {
+    match a {
+        Ok(Some(n)) => numbers(out, &[n.count, n.code, n.installment, n.first, n.kind]),
+        Ok(None) => head(out, 0, 0, 0),
+        Err(r) => refused(out, r),
+    }
+}
+
+fn lender(out: &mut [u8; 65536], a: Result<LenderNumbers, Refusal>) -> usize {
+    match a {
+        Ok(n) => numbers(out, &[n.offered, n.accepted, n.pending, n.repaid]),
+        Err(r) => refused(out, r),
+    }
+}
+
+fn totals(out: &mut [u8; 65536], a: Result<TotalsNumbers, Refusal>) -> usize {
+    match a {
+        Ok(n) => numbers(out, &[n.offers, n.financed, n.repaid, n.fees]),
+        Err(r) => refused(out, r),
+    }
+}
+
+// The deadline, and five numbers for each round; a deadline of 0 and no round where it is refused.
+fn negotiation(out: &mut [u8; 65536], a: Result<Negotiation, Refusal>) -> usize {
+    let (answer, g) = match a {
+        Ok(g) => (0, g),
+        Err(r) => (r.number(), Negotiation::none()),
     };
-    let NumberAnswer::Number(y) = b else {
-        return refused(out, refusal::BOOK_UNSOUND);
-    };
-    let mut p = head(out, 0, 2, 2);
-    p = bridge_words::put(out, p, x);
-    bridge_words::put(out, p, y)
-}
-
-fn due(out: &mut [u8; 65536], a: InstallmentDue) -> usize {
-    match a {
-        InstallmentDue::Due(n, x) => {
-            let mut p = head(out, 0, 2, 2);
-            p = bridge_words::put(out, p, n);
-            bridge_words::put(out, p, x)
-        }
-        InstallmentDue::Unsound => refused(out, refusal::BOOK_UNSOUND),
-    }
-}
-
-fn four(out: &mut [u8; 65536], a: u64, b: u64, c: u64, d: u64) -> usize {
-    let mut p = head(out, 0, 4, 4);
-    p = bridge_words::put(out, p, a);
-    p = bridge_words::put(out, p, b);
-    p = bridge_words::put(out, p, c);
-    bridge_words::put(out, p, d)
-}
-
-fn ten(out: &mut [u8; 65536], n: OfferNumbers) -> usize {
-    let mut p = head(out, 0, 10, 10);
-    p = bridge_words::put(out, p, n.id);
-    p = bridge_words::put(out, p, n.invoice);
-    p = bridge_words::put(out, p, n.lender);
-    p = bridge_words::put(out, p, n.amount);
-    p = bridge_words::put(out, p, n.rate);
-    p = bridge_words::put(out, p, n.duration);
-    p = bridge_words::put(out, p, n.expires);
-    p = bridge_words::put(out, p, n.status);
-    p = bridge_words::put(out, p, n.funded);
-    bridge_words::put(out, p, n.repaid)
-}
-
-fn offer(out: &mut [u8; 65536], a: OfferAnswer) -> usize {
-    match a {
-        OfferAnswer::Offer(n) => ten(out, n),
-        OfferAnswer::Absent => refused(out, refusal::NOT_FOUND),
-        OfferAnswer::Unsound => refused(out, refusal::BOOK_UNSOUND),
-    }
-}
-
-fn schedule(out: &mut [u8; 65536], a: ScheduleAnswer) -> usize {
-    match a {
-        ScheduleAnswer::Schedule(n) => {
-            let mut p = head(out, 0, 5, 5);
-            p = bridge_words::put(out, p, n.count);
-            p = bridge_words::put(out, p, n.code);
-            p = bridge_words::put(out, p, n.installment);
-            p = bridge_words::put(out, p, n.first);
-            bridge_words::put(out, p, n.kind)
-        }
-        ScheduleAnswer::Absent => head(out, 0, 0, 0),
-        ScheduleAnswer::Unsound => refused(out, refusal::BOOK_UNSOUND),
-    }
-}
-
-fn lender(out: &mut [u8; 65536], a: LenderAnswer) -> usize {
-    match a {
-        LenderAnswer::Lender(n) => four(out, n.offered, n.accepted, n.pending, n.repaid),
-        LenderAnswer::Unsound => refused(out, refusal::BOOK_UNSOUND),
-    }
-}
-
-fn totals(out: &mut [u8; 65536], a: TotalsAnswer) -> usize {
-    match a {
-        TotalsAnswer::Totals(n) => four(out, n.offers, n.financed, n.repaid, n.fees),
-        TotalsAnswer::Unsound => refused(out, refusal::BOOK_UNSOUND),
-    }
-}
-
-// The deadline, and five numbers for each round.
-fn negotiation(out: &mut [u8; 65536], a: NegotiationAnswer) -> usize {
-    let g = a.negotiation;
-    let n = 1 + 5 * bridge_words::least(g.len as usize, 16);
-    let mut p = head(out, a.answer, n as u64, n as u64);
+    let n = 1 + 5 * (g.len as usize).min(16);
+    let mut p = head(out, answer, n as u64, n as u64);
     p = bridge_words::put(out, p, g.deadline);
-    let rows = g.rounds;
-    bridge_words::rounds(out, p, rows, g.len)
+    bridge_words::rounds(out, p, g.rounds, g.len)
 }
 
 fn of_offer(out: &mut [u8; 65536], book: Book, query: u64, id: u64, now: u64) -> usize {
-    if query == 7 {
-        return offer(out, query::get_offer(book, id));
+    match query {
+        7 => offer(out, query::get_offer(book, id)),
+        8 => schedule(out, query::get_schedule(book, id)),
+        9 => negotiation(out, query::get_negotiation(book, id)),
+        10 => number(out, query::get_negotiation_status(book, now, id)),
+        _ => due(out, query::get_installment_due(book, now, id)),
     }
-    if query == 8 {
-        return schedule(out, query::get_schedule(book, id));
-    }
-    if query == 9 {
-        return negotiation(out, query::get_negotiation(book, id));
-    }
-    if query == 10 {
-        return number(out, query::get_negotiation_status(book, now, id));
-    }
-    due(out, query::get_installment_due(book, now, id))
 }
 
 fn of_book(out: &mut [u8; 65536], book: Book, query: u64, id: u64) -> usize {
-    if query == 12 {
-        return lender(out, query::get_lender_stats(book, id));
+    match query {
+        12 => lender(out, query::get_lender_stats(book, id)),
+        13 => number(out, query::get_lender_active_total(book, id)),
+        14 => number(out, query::get_offers_count(book)),
+        15 => totals(out, query::get_stats(book)),
+        16 => number(out, query::get_negotiation_window(book)),
+        17 => two(out, query::get_signers(book), query::get_threshold(book)),
+        _ => number(out, query::contract_is_paused(book)),
     }
-    if query == 13 {
-        return number(out, query::get_lender_active_total(book, id));
-    }
-    if query == 14 {
-        return number(out, query::get_offers_count(book));
-    }
-    if query == 15 {
-        return totals(out, query::get_stats(book));
-    }
-    if query == 16 {
-        return number(out, query::get_negotiation_window(book));
-    }
-    if query == 17 {
-        return two(out, query::get_signers(book), query::get_threshold(book));
-    }
-    number(out, query::contract_is_paused(book))
 }
 
 // The answer to a question, written as words.

@@ -6,29 +6,11 @@ use book::Book;
 use invoice::Invoice;
 use money::of_bits;
 use negotiation::{Negotiation, Round};
-use offer::{Deal, Offer};
+use offer::Offer;
 use settings::Settings;
 use shelves::{Accounts, Invoices, Offers};
 use terms::{Schedule, Terms};
 use totals::Totals;
-
-#[derive(Clone, Copy)]
-struct AccountsRead {
-    pub table: Accounts,
-    pub at: usize,
-}
-
-#[derive(Clone, Copy)]
-struct InvoicesRead {
-    pub table: Invoices,
-    pub at: usize,
-}
-
-#[derive(Clone, Copy)]
-struct NegotiationRead {
-    pub row: Negotiation,
-    pub at: usize,
-}
 
 fn settings(s: &[u8; 65536]) -> Settings {
     Settings {
@@ -70,26 +52,17 @@ fn count(s: &[u8; 65536], at: usize) -> usize {
     bridge_words::get(s, at, 0) as usize
 }
 
-fn accounts(s: &[u8; 65536], at: usize) -> AccountsRead {
-    let n = count(s, at);
-    let m = bridge_words::least(n, 64);
-    let none = Account::none();
+fn accounts(s: &[u8; 65536], at: usize) -> (Accounts, usize) {
+    let count = count(s, at);
     let mut ids = [0u64; 64];
-    let mut rows = [none; 64];
+    let mut rows = [Account::none(); 64];
     let mut p = bridge_words::on(at, 1);
-    let mut i: usize = 0;
-    while i < m {
-        ids[i] = bridge_words::get(s, p, 0);
-        rows[i] = account(s, p);
+    for (id, row) in ids.iter_mut().zip(&mut rows).take(count) {
+        *id = bridge_words::get(s, p, 0);
+        *row = account(s, p);
         p = bridge_words::on(p, 8);
-        i += 1;
     }
-    let table = Accounts {
-        ids,
-        rows,
-        count: n,
-    };
-    AccountsRead { table, at: p }
+    (Accounts { ids, rows, count }, p)
 }
 
 fn invoice(s: &[u8; 65536], at: usize) -> Invoice {
@@ -100,26 +73,17 @@ fn invoice(s: &[u8; 65536], at: usize) -> Invoice {
     }
 }
 
-fn invoices(s: &[u8; 65536], at: usize) -> InvoicesRead {
-    let n = count(s, at);
-    let m = bridge_words::least(n, 64);
-    let none = Invoice::none();
+fn invoices(s: &[u8; 65536], at: usize) -> (Invoices, usize) {
+    let count = count(s, at);
     let mut ids = [0u64; 64];
-    let mut rows = [none; 64];
+    let mut rows = [Invoice::none(); 64];
     let mut p = bridge_words::on(at, 1);
-    let mut i: usize = 0;
-    while i < m {
-        ids[i] = bridge_words::get(s, p, 0);
-        rows[i] = invoice(s, p);
+    for (id, row) in ids.iter_mut().zip(&mut rows).take(count) {
+        *id = bridge_words::get(s, p, 0);
+        *row = invoice(s, p);
         p = bridge_words::on(p, 4);
-        i += 1;
     }
-    let table = Invoices {
-        ids,
-        rows,
-        count: n,
-    };
-    InvoicesRead { table, at: p }
+    (Invoices { ids, rows, count }, p)
 }
 
 fn offer(s: &[u8; 65536], at: usize) -> Offer {
@@ -162,79 +126,55 @@ fn round(s: &[u8; 65536], at: usize) -> Round {
 }
 
 // The negotiation of the offer at a place, and the place past that offer.
-fn negotiation(s: &[u8; 65536], at: usize) -> NegotiationRead {
-    let n = bridge_words::half(bridge_words::get(s, at, 19));
-    let m = bridge_words::least(n as usize, 16);
-    let none = Round {
-        amount: 0,
-        duration: 0,
-        time: 0,
-        rate: 0,
-        party: 0,
-    };
-    let mut rows = [none; 16];
+fn negotiation(s: &[u8; 65536], at: usize) -> (Negotiation, usize) {
+    let len = bridge_words::half(bridge_words::get(s, at, 19));
+    let mut rounds = Negotiation::none().rounds;
     let mut p = bridge_words::on(at, 20);
-    let mut i: usize = 0;
-    while i < m {
-        rows[i] = round(s, p);
+    for row in rounds.iter_mut().take(len as usize) {
+        *row = round(s, p);
         p = bridge_words::on(p, 5);
-        i += 1;
     }
     let row = Negotiation {
-        rounds: rows,
+        rounds,
         deadline: bridge_words::get(s, at, 11),
-        len: n,
+        len,
         outcome: bridge_words::half(bridge_words::get(s, at, 10)),
     };
-    NegotiationRead { row, at: p }
+    (row, p)
 }
 
 fn offers(s: &[u8; 65536], at: usize) -> Offers {
-    let n = count(s, at);
-    let m = bridge_words::least(n, 64);
-    let none = Deal::none();
-    let no_offer = none.offer;
-    let no_negotiation = none.negotiation;
-    let no_schedule = none.schedule;
-    let mut ids = [0u64; 64];
-    let mut rows = [no_offer; 64];
-    let mut negotiations = [no_negotiation; 64];
-    let mut schedules = [no_schedule; 64];
+    let count = count(s, at);
+    let none = Offers::none();
+    let mut ids = none.ids;
+    let mut rows = none.rows;
+    let mut negotiations = none.negotiations;
+    let mut schedules = none.schedules;
     let mut p = bridge_words::on(at, 1);
-    let mut i: usize = 0;
-    while i < m {
+    for i in 0..count.min(64) {
         ids[i] = bridge_words::get(s, p, 0);
         rows[i] = offer(s, p);
         schedules[i] = schedule(s, p);
-        let g = negotiation(s, p);
-        let row = g.row;
-        negotiations[i] = row;
-        p = g.at;
-        i += 1;
+        (negotiations[i], p) = negotiation(s, p);
     }
     Offers {
         ids,
         rows,
         negotiations,
         schedules,
-        count: n,
+        count,
     }
 }
 
 // The book that words give, row by row.
 pub fn book(s: &[u8; 65536]) -> Book {
-    let settings = settings(s);
-    let totals = totals(s);
-    let a = accounts(s, 88);
-    let i = invoices(s, a.at);
-    let offers = offers(s, i.at);
-    let accounts = a.table;
-    let invoices = i.table;
+    let (accounts, past) = accounts(s, 88);
+    let (invoices, past) = invoices(s, past);
     Book {
         accounts,
         invoices,
-        offers,
-        totals,
-        settings,
+        offers: offers(s, past),
+        totals: totals(s),
+        settings: settings(s),
     }
 }

@@ -13,11 +13,11 @@ use totals::Totals;
 
 fn settings(out: &mut [u8; 65536], at: usize, s: Settings) -> usize {
     let mut p = bridge_words::put(out, at, s.edition as u64);
-    p = bridge_words::put(out, p, bridge_words::flag(s.paused));
+    p = bridge_words::put(out, p, u64::from(s.paused));
     p = bridge_words::put(out, p, s.window);
     p = bridge_words::put(out, p, s.seats as u64);
     p = bridge_words::put(out, p, s.threshold as u64);
-    p = bridge_words::put(out, p, bridge_words::flag(s.appointed));
+    p = bridge_words::put(out, p, u64::from(s.appointed));
     bridge_words::put(out, p, s.repayer)
 }
 
@@ -28,68 +28,47 @@ fn totals(out: &mut [u8; 65536], at: usize, t: Totals) -> usize {
     bridge_words::put(out, p, money::bits(t.fees))
 }
 
-fn account(out: &mut [u8; 65536], at: usize, id: u64, a: Account) -> usize {
-    let purse = a.purse;
+fn account(out: &mut [u8; 65536], at: usize, id: u64, a: &Account) -> usize {
     let mut p = bridge_words::put(out, at, id);
-    p = bridge_words::put(out, p, money::bits(purse.balance));
-    p = bridge_words::put(out, p, money::bits(purse.allowance));
-    p = bridge_words::put(out, p, money::bits(purse.offered));
-    p = bridge_words::put(out, p, money::bits(purse.accepted));
+    p = bridge_words::put(out, p, money::bits(a.purse.balance));
+    p = bridge_words::put(out, p, money::bits(a.purse.allowance));
+    p = bridge_words::put(out, p, money::bits(a.purse.offered));
+    p = bridge_words::put(out, p, money::bits(a.purse.accepted));
     p = bridge_words::put(out, p, a.pending as u64);
     p = bridge_words::put(out, p, a.repaid as u64);
-    bridge_words::put(out, p, bridge_words::flag(a.blacklisted))
+    bridge_words::put(out, p, u64::from(a.blacklisted))
 }
 
-fn accounts(
-    out: &mut [u8; 65536],
-    at: usize,
-    ids: [u64; 64],
-    rows: [Account; 64],
-    n: usize,
-) -> usize {
-    let mut p = bridge_words::put(out, at, n as u64);
-    let mut i: usize = 0;
-    while i < 64 {
-        if n <= i {
-            return p;
-        }
-        p = account(out, p, ids[i], rows[i]);
-        i += 1;
+fn accounts(out: &mut [u8; 65536], at: usize, t: Accounts) -> usize {
+    let mut p = bridge_words::put(out, at, t.count as u64);
+    for (id, row) in t.ids.iter().zip(&t.rows).take(t.count) {
+        p = account(out, p, *id, row);
     }
     p
 }
 
-fn invoices(
-    out: &mut [u8; 65536],
-    at: usize,
-    ids: [u64; 64],
-    rows: [Invoice; 64],
-    n: usize,
-) -> usize {
-    let mut p = bridge_words::put(out, at, n as u64);
-    let mut i: usize = 0;
-    while i < 64 {
-        if n <= i {
-            return p;
-        }
-        let row = rows[i];
-        p = bridge_words::put(out, p, ids[i]);
-        p = bridge_words::put(out, p, row.originator);
-        p = bridge_words::put(out, p, money::bits(row.amount));
-        p = bridge_words::put(out, p, row.status as u64);
-        i += 1;
+fn invoice(out: &mut [u8; 65536], at: usize, id: u64, i: &Invoice) -> usize {
+    let mut p = bridge_words::put(out, at, id);
+    p = bridge_words::put(out, p, i.originator);
+    p = bridge_words::put(out, p, money::bits(i.amount));
+    bridge_words::put(out, p, i.status as u64)
+}
+
+fn invoices(out: &mut [u8; 65536], at: usize, t: Invoices) -> usize {
+    let mut p = bridge_words::put(out, at, t.count as u64);
+    for (id, row) in t.ids.iter().zip(&t.rows).take(t.count) {
+        p = invoice(out, p, *id, row);
     }
     p
 }
 
 fn offer(out: &mut [u8; 65536], at: usize, id: u64, o: Offer) -> usize {
-    let t = o.terms;
     let mut p = bridge_words::put(out, at, id);
     p = bridge_words::put(out, p, o.invoice);
     p = bridge_words::put(out, p, o.lender);
-    p = bridge_words::put(out, p, money::bits(t.amount));
-    p = bridge_words::put(out, p, t.rate as u64);
-    p = bridge_words::put(out, p, t.duration);
+    p = bridge_words::put(out, p, money::bits(o.terms.amount));
+    p = bridge_words::put(out, p, o.terms.rate as u64);
+    p = bridge_words::put(out, p, o.terms.duration);
     p = bridge_words::put(out, p, o.expires);
     p = bridge_words::put(out, p, o.status as u64);
     p = bridge_words::put(out, p, o.funded);
@@ -112,57 +91,23 @@ fn apart(out: &mut [u8; 65536], at: usize, g: Negotiation, s: Schedule) -> usize
     p = bridge_words::put(out, p, g.deadline);
     p = schedule(out, p, s);
     p = bridge_words::put(out, p, g.len as u64);
-    let rows = g.rounds;
-    bridge_words::rounds(out, p, rows, g.len)
+    bridge_words::rounds(out, p, g.rounds, g.len)
 }
 
-fn offers(
-    out: &mut [u8; 65536],
-    at: usize,
-    ids: [u64; 64],
-    rows: [Offer; 64],
-    negotiations: [Negotiation; 64],
-    schedules: [Schedule; 64],
-    n: usize,
-) -> usize {
-    let mut p = bridge_words::put(out, at, n as u64);
-    let mut i: usize = 0;
-    while i < 64 {
-        if n <= i {
-            return p;
-        }
-        p = offer(out, p, ids[i], rows[i]);
-        p = apart(out, p, negotiations[i], schedules[i]);
-        i += 1;
+fn offers(out: &mut [u8; 65536], at: usize, t: Offers) -> usize {
+    let mut p = bridge_words::put(out, at, t.count as u64);
+    for i in 0..t.count.min(64) {
+        p = offer(out, p, t.ids[i], t.rows[i]);
+        p = apart(out, p, t.negotiations[i], t.schedules[i]);
     }
     p
-}
-
-fn accounts_of(out: &mut [u8; 65536], at: usize, t: Accounts) -> usize {
-    let ids = t.ids;
-    let rows = t.rows;
-    accounts(out, at, ids, rows, t.count)
-}
-
-fn invoices_of(out: &mut [u8; 65536], at: usize, t: Invoices) -> usize {
-    let ids = t.ids;
-    let rows = t.rows;
-    invoices(out, at, ids, rows, t.count)
-}
-
-fn offers_of(out: &mut [u8; 65536], at: usize, t: Offers) -> usize {
-    let ids = t.ids;
-    let rows = t.rows;
-    let negotiations = t.negotiations;
-    let schedules = t.schedules;
-    offers(out, at, ids, rows, negotiations, schedules, t.count)
 }
 
 // All of a book, written as words.
 pub fn book(out: &mut [u8; 65536], at: usize, b: Book) -> usize {
     let mut p = settings(out, at, b.settings);
     p = totals(out, p, b.totals);
-    p = accounts_of(out, p, b.accounts);
-    p = invoices_of(out, p, b.invoices);
-    offers_of(out, p, b.offers)
+    p = accounts(out, p, b.accounts);
+    p = invoices(out, p, b.invoices);
+    offers(out, p, b.offers)
 }

@@ -1,5 +1,5 @@
 -- The columns: a field of one number, by the type that a book holds it in.
-use Rattle.std.specs.Prelude.{◌≡◌, refl, Bool, true, false, cond, ℕ, zero, suc, ◌-◌, ◌^◌, ◌≤◌, eqb, ℤ}
+use Rattle.std.specs.Prelude.{◌≡◌, refl, Bool, cond, ℕ, zero, suc, ◌-◌, ◌^◌, ◌≤◌, eqb, ℤ}
 use Rattle.std.proofs.Common.{arith}
 use Rattle.money.specs.Range.{of_bits, bits_of}
 use Rattle.money.specs.Facts.{bits_of_bits}

@@ -3,7 +3,7 @@ use Rattle.std.proofs.Math.Path.{◌≡◌, refl, sym, ap}
 use Rattle.std.proofs.Common.{◌∙◌, le-leb, eq-eqb}
 use Rattle.std.specs.Prelude.{Bool, ◌&&◌, List, [], ◌∷◌, ◌++◌, length, drop, leb, ℤ}
 use Rattle.std.proofs.Math.Bool.{true, false}
-use Prim.Native.Nat.{ℕ, zero, suc, ◌+◌, ◌-◌, ◌^◌, ◌≤◌, ◌<◌}
+use Prim.Native.Nat.{ℕ, ◌+◌, ◌-◌, ◌^◌, ◌≤◌, ◌<◌}
 use native.Mathlib.Omega.{arith}
 use Rattle.std.proofs.Math.Numerals.{add-one}
 use Rattle.std.proofs.Math.ListN.{length-append}
@@ -16,7 +16,7 @@ use Rattle.wire.specs.Field.{begins, number_at}
 use Rattle.money.specs.Range.{of_bits, bits_of}
 use Rattle.money.specs.Facts.{bits_of_bits}
 use Rattle.codec.specs.Codec.{Got, got, no, marked, mark_true, mark_bind, bind, Codec, column_in, column, count_in, some_in, some_last, rows_in, rows, pair_in, via_in, ◌then◌, via, given, led, led_in, rest_in}
-use Rattle.codec.specs.Columns.{whole, signed, flag, is_one, one_if, flag_back}
+use Rattle.codec.specs.Columns.{signed, flag, is_one, one_if, flag_back}
 use Rattle.codec.specs.Cursor.{cursor, landed, next_of, count_of}
 use Rattle.codec.specs.declared.Cursor.{Cursor}
 

@@ -1,18 +1,17 @@
 -- The walk of a pen through the fields: a value is written, and it is one that can be read back. Assumes nothing.
-use Rattle.std.specs.Prelude.{◌≡◌, Bool, ℕ, ◌+◌, ◌-◌, ◌^◌, ◌≤◌, ◌<◌, ℤ, length}
+use Rattle.std.specs.Prelude.{◌≡◌, Bool, ℕ, ◌^◌, ◌≤◌, ◌<◌, ℤ, length}
 use Rattle.std.proofs.Math.Path.{refl}
-use Rattle.std.proofs.Common.{sym, ap, ◌∙◌, arith, length-append}
+use Rattle.std.proofs.Common.{sym, arith}
 use Rattle.std.proofs.Math.Bool.{true, false}
 use mathlib.Core.List.{List, [], ◌∷◌, ◌++◌, append-nil, append_assoc}
 use Rattle.money.specs.Range.{of_bits, bits_of}
-use Rattle.money.specs.Facts.{bits_of_bits}
 use Rattle.refusal.specs.Choice.{pick}
 use Rattle.sheet.specs.declared.Pen.{Pen}
 use Rattle.sheet.specs.Sheet.{Wrote}
 use Rattle.sheet.specs.SheetLaws.{next, retext, none, kept}
 use Rattle.wire.specs.Field.{bytes_of, field_of}
 use Rattle.codec.specs.Codec.{Codec, column, ◌then◌, via, given, all_out, AllFit, rows, led}
-use Rattle.codec.specs.Columns.{whole, signed, flag, is_one, one_if, flag_back}
+use Rattle.codec.specs.Columns.{whole, signed, flag, one_if}
 
 -- x was written by the codec a
 pub record Puts {A : Type 0} (ink : Bool) (a : Codec A) (x : A) (l : List ℕ) (p : Pen) (m : List ℕ) (q : Pen) : Type 0 where
@@ -22,32 +21,32 @@ pub record Puts {A : Type 0} (ink : Bool) (a : Codec A) (x : A) (l : List ℕ) (
 pub puts_kept : {A : Type 0} {ink : Bool} {a : Codec A} {x : A} {l m : List ℕ} {p q : Pen} → Puts ink a x l p m q → length m ≡ length l
 puts_kept g = kept g.wrote
 
+-- x has the number w in each column of its type
+pub record Held {A : Type 0} (column : ℕ → Codec A) (x : A) (w : ℕ) : Type 0 where
+  pub out : (tag : ℕ) → (column tag).out x ≡ field_of tag (bytes_of 8 w)
+  pub fits : (tag : ℕ) → (column tag).Fits x
+
+pub puts_held : {A : Type 0} {column : ℕ → Codec A} {x : A} {w : ℕ} {ink : Bool} {l m : List ℕ} {p q : Pen} (tag : ℕ) → Held column x w → Wrote ink (field_of tag (bytes_of 8 w)) l p m q → Puts ink (column tag) x l p m q
+puts_held tag h w = record { wrote = retext w (sym (h.out tag)); fits = h.fits tag }
+
+pub held_column : (top : ℕ) {v : ℕ} → v ≤ top → v < 2 ^ 64 → Held (λ tag. column tag top) v v
+unfolding column
+held_column top h k = record { out = λ tag. refl; fits = λ tag. (h, k) }
+
+pub held_signed : {z : ℤ} {w : ℕ} → w ≡ bits_of z → bits_of z < 2 ^ 64 → of_bits (bits_of z) ≡ z → Held signed z w
+unfolding signed via column
+held_signed e h i = record { out = λ tag. rw e refl; fits = λ tag. ((omega (arith, h), h), i) }
+
+pub held_flag : (b : Bool) → Held flag b (one_if b)
+unfolding flag via column
+held_flag true = record { out = λ tag. refl; fits = λ tag. ((omega arith, omega arith), refl) }
+held_flag false = record { out = λ tag. refl; fits = λ tag. ((omega arith, omega arith), refl) }
+
 -- ── Columns ───────────────────────────────────────────────────────
 module _ {ink : Bool} {l m : List ℕ} {p q : Pen} (tag : ℕ) where
-  pub puts_column : {top v : ℕ} → v ≤ top → v < 2 ^ 64 → Wrote ink (field_of tag (bytes_of 8 v)) l p m q → Puts ink (column tag top) v l p m q
-  unfolding column
-  puts_column h k w = record { wrote = w; fits = (h, k) }
-
-  -- a number that fits a narrower column
-  pub puts_within : {top v : ℕ} → v ≤ top → Puts ink (whole tag) v l p m q → Puts ink (column tag top) v l p m q
-  unfolding column
-  puts_within h g = record { wrote = g.wrote; fits = (h, g.fits.1) }
-
-  pub puts_signed : {v : ℕ} {z : ℤ} → v ≡ bits_of z → of_bits (bits_of z) ≡ z → Puts ink (whole tag) v l p m q → Puts ink (signed tag) z l p m q
-  unfolding signed via column
-  puts_signed {v} {z} e i g = let h : Puts ink (whole tag) (bits_of z) l p m q = rw e at g in record { wrote = h.wrote; fits = (h.fits, i) }
-
   -- a signed argument is known by its bits
   pub as_signed : {z : ℤ} → of_bits (bits_of z) ≡ z → Puts ink (signed tag) (of_bits (bits_of z)) l p m q → Puts ink (signed tag) z l p m q
   as_signed e g = rw e at g
-
-  pub puts_flag : {v : ℕ} {b : Bool} → v ≡ one_if b → Puts ink (column tag 1) v l p m q → Puts ink (flag tag) b l p m q
-  unfolding flag via column
-  puts_flag {v} {b} e g = let h : Puts ink (column tag 1) (one_if b) l p m q = rw e at g in record { wrote = h.wrote; fits = (h.fits, same b) }
-    where
-      same : (b : Bool) → is_one (one_if b) ≡ b
-      same true = refl
-      same false = refl
 
 -- ── One after the other ───────────────────────────────────────────
 module _ {A B : Type 0} {ink : Bool} where

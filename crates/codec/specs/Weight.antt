@@ -1,6 +1,6 @@
 -- How many bytes a value takes at most, by its codec. Assumes nothing.
-use Rattle.std.specs.Prelude.{◌≡◌, Bool, true, false, ℕ, zero, suc, ◌+◌, ◌*◌, ◌-◌, ◌^◌, ◌≤◌, ℤ, length}
-use mathlib.Core.List.{List, [], ◌∷◌, ◌++◌}
+use Rattle.std.specs.Prelude.{◌≡◌, Bool, true, false, ℕ, ◌+◌, ◌*◌, ◌-◌, ◌^◌, ◌≤◌, length}
+use mathlib.Core.List.{List, [], ◌∷◌}
 use native.Mathlib.Omega.{arith}
 use Rattle.std.proofs.Math.Nat.{mul-le-mul_right}
 use Rattle.std.proofs.Math.ListN.{length-append}
@@ -8,7 +8,7 @@ use Rattle.refusal.specs.Choice.{pick}
 use Rattle.wire.specs.Field.{bytes_of, field_of}
 use Rattle.wire.specs.FieldLaws.{length_field}
 use Rattle.codec.specs.Codec.{Codec, column, ◌then◌, via, given, all_out, AllFit, rows, led}
-use Rattle.codec.specs.Columns.{whole, signed, flag}
+use Rattle.codec.specs.Columns.{signed, flag}
 
 pub record Weighs {A : Type 0} (a : Codec A) (n : ℕ) : Type 0 where
   pub most : (x : A) → a.Fits x → length (a.out x) ≤ n

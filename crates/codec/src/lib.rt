@@ -1,11 +1,12 @@
 // Fields of one number, read by a cursor and written by a pen.
 #![tactic(auto)]
 
-ghost use Rattle.std.specs.Prelude.{◌≡◌, true, ◌-◌, ◌^◌};
+ghost use Rattle.std.specs.Prelude.{◌≡◌, ℕ, true};
 ghost use Rattle.codec.specs.Cursor.{cursor};
 ghost use Rattle.codec.specs.Cursors.{Next, Count};
 ghost use Rattle.codec.specs.Columns.{whole, half, signed, flag};
-ghost use Rattle.codec.specs.Puts.{Puts};
+ghost use Rattle.codec.specs.Codec.{Codec};
+ghost use Rattle.codec.specs.Puts.{Puts, Held};
 
 use sheet::Pen;
 
@@ -43,38 +44,27 @@ impl Cursor {
 pub fn next(s: &[u8], c: Cursor, tag: u8, top: u64) -> Cursor
     ensures { Next s.now c tag top result }
 {
-    let at = c.at;
     if c.code != 0 {
-        return Cursor {
-            code: c.code,
-            at,
-            ok: c.ok,
-            x: 0,
-        };
+        return Cursor { x: 0, ..c };
     }
-    if !wire::begins(s, at, tag, 8) {
+    if !wire::begins(s, c.at, tag, 8) {
         return Cursor {
             code: refusal::JOURNAL_MALFORMED,
-            at,
-            ok: c.ok,
             x: 0,
+            ..c
         };
     }
-    let x = wire::number(s, at + 3);
+    let x = wire::number(s, c.at + 3);
+    let at = c.at + 11;
     if top < x {
         return Cursor {
-            code: 0,
-            at: at + 11,
+            at,
             ok: false,
             x: 0,
+            ..c
         };
     }
-    Cursor {
-        code: 0,
-        at: at + 11,
-        ok: c.ok,
-        x,
-    }
+    Cursor { at, x, ..c }
 }
 
 // The number of a table's rows; past the limit the cursor refuses at once.
@@ -93,34 +83,53 @@ pub fn count(s: &[u8], c: Cursor, tag: u8, most: u64) -> Cursor
     k
 }
 
-// A field of a number.
-pub fn put(out: &mut [u8], pen: Pen, ink: bool, tag: u8, v: u64) -> Pen
-    ensures { Puts ink (whole tag) v out.old pen out.new result }
-{
-    let w = wire::field(tag, v);
-    sheet::put(out, pen, ink, &w)
+/// What a column holds, by the type that a book holds it in.
+pub trait Column: Copy {
+    ghost column: { ℕ → Codec Self };
+
+    /// The number that its field has.
+    fn word(self) -> u64
+        ensures { Held column self result };
 }
 
-// The same of a number of 32 bits.
-pub fn put_half(out: &mut [u8], pen: Pen, ink: bool, tag: u8, v: u32) -> Pen
-    ensures { Puts ink (half tag) v out.old pen out.new result }
-{
-    put(out, pen, ink, tag, v as u64)
-}
+impl Column for u64 {
+    ghost column = { whole };
 
-// The same of a signed number, by its two's complement.
-pub fn put_signed(out: &mut [u8], pen: Pen, ink: bool, tag: u8, v: i64) -> Pen
-    ensures { Puts ink (signed tag) v out.old pen out.new result }
-{
-    put(out, pen, ink, tag, money::bits(v))
-}
-
-// The same of a flag: 1 or 0.
-pub fn put_flag(out: &mut [u8], pen: Pen, ink: bool, tag: u8, v: bool) -> Pen
-    ensures { Puts ink (flag tag) v out.old pen out.new result }
-{
-    if v {
-        return put(out, pen, ink, tag, 1);
+    fn word(self) -> u64 {
+        self
     }
-    put(out, pen, ink, tag, 0)
+}
+
+impl Column for u32 {
+    ghost column = { half };
+
+    fn word(self) -> u64 {
+        self.into()
+    }
+}
+
+/// A signed number, by its two's complement.
+impl Column for i64 {
+    ghost column = { signed };
+
+    fn word(self) -> u64 {
+        money::bits(self)
+    }
+}
+
+/// A flag: 1 or 0.
+impl Column for bool {
+    ghost column = { flag };
+
+    fn word(self) -> u64 {
+        u64::from(self)
+    }
+}
+
+/// A field of a value's number.
+pub fn put<V: Column>(out: &mut [u8], pen: Pen, ink: bool, tag: u8, v: V) -> Pen
+    ensures { Puts ink (V.column tag) v out.old pen out.new result }
+{
+    let w = wire::field(tag, v.word());
+    sheet::put(out, pen, ink, &w)
 }

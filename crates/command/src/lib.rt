@@ -1,10 +1,11 @@
 // The 24 commands of document 01's journal, each with its fields in the order of their tags. What an edition's records lack is read as 0.
 #![tactic(auto)]
 
-ghost use Rattle.std.specs.Prelude.{◌≡◌};
+ghost use Rattle.std.specs.Prelude.{◌≡◌, None, Some};
+ghost use Rattle.command.specs.declared.Other.TheVariants as Others;
+ghost use Rattle.command.specs.declared.Paper.TheVariants as Papers;
 ghost use Rattle.command.specs.Names.{called, uncalled, names_of, paper_key, other_key};
 
-use table::Named;
 use terms::Terms;
 
 #[derive(Clone, Copy)]
@@ -169,26 +170,28 @@ pub enum Other {
 pub struct Names {
     pub called: bool,
     pub pausable: bool,
-    pub first: Named,
+    pub first: Option<u64>,
     pub second: Other,
     pub paper: Paper,
-    pub offer: Named,
+    pub offer: Option<u64>,
 }
 
-fn called(caller: u64, second: Other, paper: Paper, offer: Named) -> Names
+// By a caller, whose account must be there, and not while the book is paused.
+fn called(caller: u64, second: Other, paper: Paper, offer: Option<u64>) -> Names
     ensures { result ≡ called caller second paper offer }
 {
     Names {
         called: true,
         pausable: true,
-        first: Named::Id(caller),
+        first: Some(caller),
         second,
         paper,
         offer,
     }
 }
 
-fn uncalled(pausable: bool, first: Named) -> Names
+// By nobody whose account must be there.
+fn uncalled(pausable: bool, first: Option<u64>) -> Names
     ensures { result ≡ uncalled pausable first }
 {
     Names {
@@ -197,174 +200,97 @@ fn uncalled(pausable: bool, first: Named) -> Names
         first,
         second: Other::Nobody,
         paper: Paper::Nothing,
-        offer: Named::Nothing,
+        offer: None,
     }
+}
+
+// By a caller who sees no other row than his account.
+fn alone(caller: u64) -> Names
+    ensures { result ≡ called caller Others.Nobody Papers.Nothing None }
+{
+    called(caller, Other::Nobody, Paper::Nothing, None)
+}
+
+// By a caller who sees the invoice that he names.
+fn on_invoice(caller: u64, id: u64) -> Names
+    ensures { result ≡ called caller Others.Nobody (Papers.Id id) None }
+{
+    called(caller, Other::Nobody, Paper::Id(id), None)
+}
+
+// By a caller who sees the offer that he names, its invoice, and one of its parties or nobody.
+fn on_offer(caller: u64, second: Other, id: u64) -> Names
+    ensures { result ≡ called caller second Papers.OfOffer (Some id) }
+{
+    called(caller, second, Paper::OfOffer, Some(id))
 }
 
 impl Paper {
     // The key of the invoice, where the command's offer is on the invoice `invoice`.
-    pub fn key(self, invoice: u64) -> Named
+    pub fn key(self, invoice: u64) -> Option<u64>
         ensures { result ≡ paper_key self invoice }
     {
         match self {
-            Paper::Nothing => Named::Nothing,
-            Paper::Id(i) => Named::Id(i),
-            Paper::OfOffer => Named::Id(invoice),
+            Paper::Nothing => None,
+            Paper::Id(i) => Some(i),
+            Paper::OfOffer => Some(invoice),
         }
     }
 }
 
 impl Other {
     // The key of the account, where the command's offer has these parties.
-    pub fn key(self, lender: u64, originator: u64) -> Named
+    pub fn key(self, lender: u64, originator: u64) -> Option<u64>
         ensures { result ≡ other_key self lender originator }
     {
         match self {
-            Other::Nobody => Named::Nothing,
-            Other::Account(a) => Named::Id(a),
-            Other::Lender => Named::Id(lender),
-            Other::Originator => Named::Id(originator),
+            Other::Nobody => None,
+            Other::Account(a) => Some(a),
+            Other::Lender => Some(lender),
+            Other::Originator => Some(originator),
         }
     }
 }
 
 impl Command {
     // What the command names, whatever the book holds.
+    #[tactic(auto, unfolding(crate::specs::Shape::shape_of, crate::specs::Names::names_for, crate::specs::Names::account_names, crate::specs::Names::offer_names, crate::specs::Names::settings_names))]
     pub fn names(self) -> Names
         ensures { result ≡ names_of self }
     {
         match self {
-            Command::OpenAccount { now: _, caller } => uncalled(true, Named::Id(caller)),
-            Command::Deposit {
-                now: _,
-                caller,
-                amount: _,
-            } => called(caller, Other::Nobody, Paper::Nothing, Named::Nothing),
-            Command::Payout {
-                now: _,
-                caller,
-                amount: _,
-            } => called(caller, Other::Nobody, Paper::Nothing, Named::Nothing),
-            Command::Approve {
-                now: _,
-                caller,
-                amount: _,
-            } => called(caller, Other::Nobody, Paper::Nothing, Named::Nothing),
-            Command::RegisterInvoice {
-                now: _,
-                caller,
-                id,
-                amount: _,
-            } => called(caller, Other::Nobody, Paper::Id(id), Named::Nothing),
-            Command::CancelInvoice { now: _, caller, id } => called(
-                caller,
-                Other::Nobody,
-                Paper::Id(id),
-                Named::Nothing,
-            ),
+            Command::OpenAccount { caller, .. } => uncalled(true, Some(caller)),
+            Command::Deposit { caller, .. }
+            | Command::Payout { caller, .. }
+            | Command::Approve { caller, .. }
+            | Command::UpdateTotalsRepaid { caller, .. } => alone(caller),
+            Command::RegisterInvoice { caller, id, .. }
+            | Command::CancelInvoice { caller, id, .. } => on_invoice(caller, id),
             Command::CreateOffer {
-                now: _,
                 caller,
                 id,
                 invoice,
-                terms: _,
-                expires: _,
-            } => called(caller, Other::Nobody, Paper::Id(invoice), Named::Id(id)),
-            Command::WithdrawOffer { now: _, caller, id } => called(
+                ..
+            } => called(caller, Other::Nobody, Paper::Id(invoice), Some(id)),
+            Command::WithdrawOffer { caller, id, .. }
+            | Command::RejectOffer { caller, id, .. }
+            | Command::CloseNegotiation { caller, id, .. }
+            | Command::ScheduleRepayment { caller, id, .. }
+            | Command::UpdateStatus { caller, id, .. }
+            | Command::UpdateRepaid { caller, id, .. } => on_offer(caller, Other::Nobody, id),
+            Command::AcceptOffer { caller, id, .. } | Command::CounterOffer { caller, id, .. } =>
+                on_offer(caller, Other::Lender, id),
+            Command::AmendOffer { caller, id, .. } => on_offer(caller, Other::Originator, id),
+            Command::UpdateLenderRepaid { caller, id, .. } => called(
                 caller,
-                Other::Nobody,
-                Paper::OfOffer,
-                Named::Id(id),
+                Other::Account(id),
+                Paper::Nothing,
+                None,
             ),
-            Command::AcceptOffer { now: _, caller, id } => called(
-                caller,
-                Other::Lender,
-                Paper::OfOffer,
-                Named::Id(id),
-            ),
-            Command::RejectOffer { now: _, caller, id } => called(
-                caller,
-                Other::Nobody,
-                Paper::OfOffer,
-                Named::Id(id),
-            ),
-            Command::AmendOffer {
-                now: _,
-                caller,
-                id,
-                terms: _,
-                round: _,
-            } => called(caller, Other::Originator, Paper::OfOffer, Named::Id(id)),
-            Command::CounterOffer {
-                now: _,
-                caller,
-                id,
-                terms: _,
-                round: _,
-            } => called(caller, Other::Lender, Paper::OfOffer, Named::Id(id)),
-            Command::CloseNegotiation { now: _, caller, id } => called(
-                caller,
-                Other::Nobody,
-                Paper::OfOffer,
-                Named::Id(id),
-            ),
-            Command::ScheduleRepayment {
-                now: _,
-                caller,
-                id,
-                count: _,
-                code: _,
-                first: _,
-                kind: _,
-            } => called(caller, Other::Nobody, Paper::OfOffer, Named::Id(id)),
-            Command::UpdateStatus {
-                now: _,
-                caller,
-                id,
-                code: _,
-            } => called(caller, Other::Nobody, Paper::OfOffer, Named::Id(id)),
-            Command::UpdateRepaid {
-                now: _,
-                caller,
-                id,
-                amount: _,
-            } => called(caller, Other::Nobody, Paper::OfOffer, Named::Id(id)),
-            Command::UpdateLenderRepaid {
-                now: _,
-                caller,
-                id,
-                code: _,
-            } => called(caller, Other::Account(id), Paper::Nothing, Named::Nothing),
-            Command::UpdateTotalsRepaid {
-                now: _,
-                caller,
-                amount: _,
-                fee: _,
-            } => called(caller, Other::Nobody, Paper::Nothing, Named::Nothing),
-            Command::Pause { now: _, seats: _ } => uncalled(false, Named::Nothing),
-            Command::Unpause { now: _, seats: _ } => uncalled(false, Named::Nothing),
-            Command::SetWindow {
-                now: _,
-                seats: _,
-                window: _,
-            } => uncalled(true, Named::Nothing),
-            Command::SetRepaymentAccount {
-                now: _,
-                id,
-                seats: _,
-            } => uncalled(true, Named::Id(id)),
-            Command::SetBlacklisted {
-                now: _,
-                id,
-                code: _,
-                seats: _,
-            } => uncalled(true, Named::Id(id)),
-            Command::SetSeats {
-                now: _,
-                seats: _,
-                threshold: _,
-                next: _,
-            } => uncalled(true, Named::Nothing),
+            Command::Pause { .. } | Command::Unpause { .. } => uncalled(false, None),
+            Command::SetWindow { .. } | Command::SetSeats { .. } => uncalled(true, None),
+            Command::SetRepaymentAccount { id, .. } | Command::SetBlacklisted { id, .. } =>
+                uncalled(true, Some(id)),
         }
     }
 }

@@ -23,9 +23,10 @@ pub fn failed() -> ExitCode {
 // The status of a program: where anything was wrong, which was said, that of one that failed.
 pub fn status(went_well: bool) -> ExitCode {
     if went_well {
-        return ExitCode::SUCCESS;
+        ExitCode::SUCCESS
+    } else {
+        failed()
     }
-    failed()
 }
 
 pub fn say(words: &[u8]) {
@@ -46,7 +47,7 @@ pub fn complain(path: &[u8], words: &[u8]) {
 
 // Whether a word is --help or -h.
 pub fn asks_help(word: &[u8]) -> bool {
-    check::same(word, b"--help") | check::same(word, b"-h")
+    check::same(word, b"--help") || check::same(word, b"-h")
 }
 
 // The word at a place of those that a program was started with; its length, 0 where there is none or it is too long.
@@ -116,6 +117,7 @@ pub fn open<R: Files>(rt: &R, path: &[u8]) -> Option<R::File> {
 }
 
 // Reads until the buffer is full, the file ends or a read fails; how many bytes of it are at the start of the buffer.
+// The reader says how far it came, so that there is no index to count.
 pub fn read_full(file: &mut impl Read, buf: &mut [u8]) -> usize
     ensures { IsPrefixLen result buf.new }
 {

@@ -6,8 +6,7 @@ use Rattle.refusal.specs.Refusal.{Check, ◌gives◌, invalid_input, not_found, 
 use Rattle.refusal.specs.Rule.{Rule}
 use Rattle.terms.specs.declared.Terms.{Terms}
 use Rattle.invoice.specs.declared.Invoice.{Invoice}
-use Rattle.invoice.specs.declared.SeenInvoice.{SeenInvoice}
-use Rattle.invoice.specs.declared.InvoicePosted.{InvoicePosted}
+use Rattle.table.specs.declared.Seen.{Seen}
 
 -- status: 0 Pending, 1 Financed, 2 Cancelled
 abbrev pub no_invoice : Invoice
@@ -41,15 +40,12 @@ invoice_sound r = in_amount r.amount && leb r.status invoice_cancelled
 unfoldable pub invoice_zero : Invoice → Bool
 invoice_zero r = (eqb r.originator 0 && is_zero r.amount) && eqb r.status 0
 
-abbrev pub posted : ℕ → Invoice → InvoicePosted
-posted n r = record { answer = n; row = r }
-
 -- register invoice amount 3, 5, 12
 abbrev pub register_checks : ℤ → Bool → Bool → List Check
 register_checks x exists full = (not (in_amount x) gives invalid_input) ∷ (exists gives already_exists) ∷ (full gives no_room) ∷ []
 
 -- cancel 4, not originator 6, not Pending 7
-abbrev pub cancel_of : SeenInvoice → ℕ → Rule Invoice
+abbrev pub cancel_of : Seen Invoice → ℕ → Rule Invoice
 cancel_of s caller = record {
   checks =
       (not s.here gives not_found)

@@ -1,5 +1,5 @@
 -- What the loops over a record's fields go by. Assumes nothing.
-use Rattle.std.specs.Prelude.{◌≡◌, refl, Bool, true, false, ◌&&◌, ℕ, suc, ◌+◌, ◌≤◌, ◌<◌, length, get_or, set}
+use Rattle.std.specs.Prelude.{◌≡◌, refl, Bool, true, false, ◌&&◌, ℕ, suc, ◌+◌, ◌≤◌, ◌<◌, length, get_or, set, Some, None}
 use Rattle.std.proofs.Math.Path.{sym, ap}
 use Rattle.std.proofs.Common.{◌∙◌, add-one}
 use mathlib.Core.List.{List, ◌∷◌}
@@ -37,6 +37,9 @@ module _ (fs s : List ℕ) (p : ℕ) where
     pub well : well_in fs (drop p s) ≡ well_in (drop i fs) (drop q s)
     pub same : numbers_in zeros fs (drop p s) ≡ numbers_in v (drop i fs) (drop q s)
 
+  pub going_start : {q : ℕ} → q ≡ p → Going 0 q zeros
+  going_start e = rw e record { well = refl; same = refl }
+
   pub going_on : (i q f : ℕ) {v : List ℕ} → i < length fs → get_or fs i 0 ≡ f → field_in f (drop q s) ≡ true → Going i q v → Going (i + 1) (q + 11) (set v f (number_at 8 (drop (q + 3) s)))
   unfolding well_in numbers_in
   going_on i q f {v} h k e g = record {
@@ -44,12 +47,12 @@ module _ (fs s : List ℕ) (p : ℕ) where
     same = g.same ∙ ap (λ (l : List ℕ). numbers_in v l (drop q s)) (drop-cons fs i 0 h ∙ ap (λ (x : ℕ). x ∷ drop (suc i) fs) k) ∙ rw (add-one i, ← drop-drop 11 q s, ← drop-drop 3 q s);
   }
 
-  pub going_out : (i q f : ℕ) {v : List ℕ} → i < length fs → get_or fs i 0 ≡ f → field_in f (drop q s) ≡ false → Going i q v → (false, zeros) ≡ gathered_in fs (drop p s)
+  pub going_out : (i q f : ℕ) {v : List ℕ} → i < length fs → get_or fs i 0 ≡ f → field_in f (drop q s) ≡ false → Going i q v → None ≡ gathered_in fs (drop p s)
   unfolding well_in gathered_in
   going_out i q f h k e g = sym (pick_off _ _ (g.well ∙ rw (drop-cons fs i 0 h, k, e)))
 
-  pub going_done : (i q : ℕ) {v : List ℕ} → i ≡ length fs → Going i q v → (true, v) ≡ gathered_in fs (drop p s)
+  pub going_done : (i q : ℕ) {v : List ℕ} → i ≡ length fs → Going i q v → Some v ≡ gathered_in fs (drop p s)
   unfolding well_in numbers_in gathered_in
   going_done i q {v} e g =
       let n : numbers_in zeros fs (drop p s) ≡ v = g.same ∙ rw (e, drop-length fs) in
-      sym (pick_on _ _ (g.well ∙ rw (e, drop-length fs)) ∙ ap (λ (l : List ℕ). (true, l)) n)
+      sym (pick_on _ _ (g.well ∙ rw (e, drop-length fs)) ∙ ap (λ (l : List ℕ). Some l) n)

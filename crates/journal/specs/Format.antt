@@ -1,12 +1,11 @@
 -- Document 01, "Journal and replay": the header, what stands at a place of a journal, and the bytes of a command.
-use Rattle.std.specs.Prelude.{Bool, true, false, ◌&&◌, List, [], ◌∷◌, ◌++◌, ℕ, ◌+◌, ◌*◌, length, get_or, drop, set, replicate, leb}
+use Rattle.std.specs.Prelude.{Bool, true, ◌&&◌, List, [], ◌∷◌, ◌++◌, ℕ, ◌+◌, ◌*◌, length, get_or, drop, set, replicate, leb, Option, Some, None}
 use Rattle.refusal.specs.Choice.{pick}
 use Rattle.refusal.specs.Refusal.{number, buffer_short}
 use Rattle.edition.specs.Edition.{listed}
 use Rattle.command.specs.declared.Command.{Command}
 use Rattle.wire.specs.Field.{number_at, bytes_of, begins, field_of}
 use Rattle.journal.specs.Answers.{Opening, good_header, bad_header, Reading, ended, malformed}
-use Rattle.journal.specs.declared.reading.Gathered.{Gathered}
 use Rattle.journal.specs.Table.{fields_of, top_of, named, made, parts_of}
 
 -- first comes tag 10, length 2 and the edition; anything else, and an edition that there is not, gives 13 at offset 0. The records follow
@@ -35,9 +34,9 @@ numbers_in v (f ∷ fs) b = numbers_in (set v f (number_at 8 (drop 3 b))) fs (dr
 abbrev pub zeros : List ℕ
 zeros = replicate 32 0
 
--- both, as the code takes them
-unfoldable pub gathered_in : List ℕ → List ℕ → Gathered
-gathered_in fs b = pick (well_in fs b) (true, numbers_in zeros fs b) (false, zeros)
+-- the numbers where the fields stand there
+unfoldable pub gathered_in : List ℕ → List ℕ → Option (List ℕ)
+gathered_in fs b = pick (well_in fs b) (Some (numbers_in zeros fs b)) None
 
 -- what stands at a place in an edition: a record of tag t with exactly the fields fs, or 13 at the tag
 unfoldable pub record_at : ℕ → ℕ → List ℕ → List ℕ → ℕ → Reading

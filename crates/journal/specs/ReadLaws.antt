@@ -1,12 +1,11 @@
 -- What reading goes by at each of its answers. Assumes nothing.
-use Rattle.std.specs.Prelude.{◌≡◌, refl, Bool, false, ◌&&◌, List, [], ◌∷◌, ℕ, zero, suc, ◌+◌, ◌*◌, ◌≤◌, ◌<◌, get_or, drop, set, leb}
+use Rattle.std.specs.Prelude.{◌≡◌, refl, Bool, false, ◌&&◌, List, [], ◌∷◌, ℕ, zero, suc, ◌+◌, ◌*◌, ◌≤◌, ◌<◌, get_or, drop, set, leb, Some, None}
 use Rattle.std.proofs.Math.Path.{sym}
 use Rattle.std.proofs.Common.{ap, ◌∙◌, arith, le-leb, leb-true}
 use Rattle.std.proofs.Math.Bool.{true}
 use Rattle.std.proofs.Math.ListN.{length}
 use Rattle.std.proofs.Math.Seq.{drop-drop}
 use Rattle.std.proofs.lemmas.Bool.{lt-leb}
-use Rattle.refusal.specs.Choice.{pick}
 use Rattle.refusal.specs.ChoiceLaws.{pick_on, pick_off}
 use Rattle.wire.specs.Field.{number_at, begins}
 use Rattle.wire.specs.FieldLaws.{and_left, and_right}
@@ -15,7 +14,6 @@ use Rattle.journal.specs.Table.{fields_of, top_of, named, made}
 use Rattle.journal.specs.TableLaws.{zeros_at}
 use Rattle.journal.specs.Format.{field_in, well_in, numbers_in, zeros, gathered_in, record_at, read_at}
 use Rattle.journal.specs.FieldLaws.{and_off}
-use Rattle.journal.specs.declared.reading.Gathered.{Gathered}
 
 pub at-end : (e : ℕ) (s : List ℕ) (at : ℕ) → length s ≤ at → ended ≡ read_at e s at
 unfolding read_at
@@ -25,34 +23,39 @@ pub at_record_lem : (e : ℕ) (s : List ℕ) (at : ℕ) → at < length s → {r
 unfolding read_at
 at_record_lem e s at h q = q ∙ sym (pick_off _ _ (lt-leb (length s) at h))
 
-well_is : (fs b : List ℕ) → (gathered_in fs b).0 ≡ well_in fs b
-unfolding gathered_in pick
-well_is fs b = go (well_in fs b)
-  where
-    go : (t : Bool) → (pick {A = Gathered} t (true, numbers_in zeros fs b) (false, zeros)).0 ≡ t
-    go true = refl
-    go false = refl
-
-numbers_are : (fs b : List ℕ) → well_in fs b ≡ true → (gathered_in fs b).1 ≡ numbers_in zeros fs b
+-- by whether the fields stand there
+gathered : (fs b : List ℕ) {v : List ℕ} → gathered_in fs b ≡ Some v → (well_in fs b ≡ true) × (numbers_in zeros fs b ≡ v)
 unfolding gathered_in
-numbers_are fs b e = ap (λ (g : Gathered). g.1) (pick_on _ _ e)
+gathered fs b {v} h = go (well_in fs b) refl
+  where
+    go : (t : Bool) → well_in fs b ≡ t → (well_in fs b ≡ true) × (numbers_in zeros fs b ≡ v)
+    go true e = let q : Some (numbers_in zeros fs b) ≡ Some v = sym (pick_on _ _ e) ∙ h in (e, cc)
+    go false e = let q : None ≡ Some v = sym (pick_off _ _ e) ∙ h in absurd (cc)
+
+scattered : (fs b : List ℕ) → gathered_in fs b ≡ None → well_in fs b ≡ false
+unfolding gathered_in
+scattered fs b h = go (well_in fs b) refl
+  where
+    go : (t : Bool) → well_in fs b ≡ t → well_in fs b ≡ false
+    go true e = let q : Some (numbers_in zeros fs b) ≡ None = sym (pick_on _ _ e) ∙ h in absurd (cc)
+    go false e = e
 
 module _ (e t : ℕ) (fs s : List ℕ) (at : ℕ) where
   pub no_head : begins t (11 * length fs) (drop at s) ≡ false → malformed at ≡ record_at e t fs (drop at s) at
   unfolding record_at
   no_head q = sym (pick_off _ _ (ap (λ (x : Bool). x && well_in fs (drop 3 (drop at s))) q))
 
-  pub not_well : (gathered_in fs (drop (at + 3) s)).0 ≡ false → malformed at ≡ record_at e t fs (drop at s) at
+  pub not_well : gathered_in fs (drop (at + 3) s) ≡ None → malformed at ≡ record_at e t fs (drop at s) at
   unfolding record_at
-  not_well q = sym (pick_off _ _ (ap (λ (x : Bool). begins t (11 * length fs) (drop at s) && x) (rw (drop-drop 3 at s) (sym (well_is fs (drop (at + 3) s)) ∙ q)) ∙ and_off (begins t (11 * length fs) (drop at s))))
+  not_well q = sym (pick_off _ _ (ap (λ (x : Bool). begins t (11 * length fs) (drop at s) && x) (rw (drop-drop 3 at s) (scattered fs (drop (at + 3) s) q)) ∙ and_off (begins t (11 * length fs) (drop at s))))
 
-  pub whole : begins t (11 * length fs) (drop at s) ≡ true → (gathered_in fs (drop (at + 3) s)).0 ≡ true
-      → made e t (named (gathered_in fs (drop (at + 3) s)).1) at (at + (3 + 11 * length fs)) ≡ record_at e t fs (drop at s) at
+  pub whole : {v : List ℕ} → begins t (11 * length fs) (drop at s) ≡ true → gathered_in fs (drop (at + 3) s) ≡ Some v
+      → made e t (named v) at (at + (3 + 11 * length fs)) ≡ record_at e t fs (drop at s) at
   unfolding record_at
   whole q k =
-      let w : well_in fs (drop (at + 3) s) ≡ true = sym (well_is fs (drop (at + 3) s)) ∙ k in
-      rw (numbers_are fs (drop (at + 3) s) w, ← drop-drop 3 at s)
-      (sym (pick_on _ _ (ap (λ (x : Bool). x && well_in fs (drop 3 (drop at s))) q ∙ rw (drop-drop 3 at s) w)))
+      let g = gathered fs (drop (at + 3) s) k in
+      rw (← g.1, ← drop-drop 3 at s)
+      (sym (pick_on _ _ (ap (λ (x : Bool). x && well_in fs (drop 3 (drop at s))) q ∙ rw (drop-drop 3 at s) g.0)))
 
 -- each number is in its range
 set_le : (v : List ℕ) (f x k m : ℕ) → (k ≡ f → x ≤ m) → get_or v k 0 ≤ m → get_or (set v f x) k 0 ≤ m
@@ -70,5 +73,5 @@ tops v (f ∷ fs) b h e k =
     let l : number_at 8 (drop 3 b) ≤ top_of f = leb-true (number_at 8 (drop 3 b)) (top_of f) i in
     tops (set v f (number_at 8 (drop 3 b))) fs (drop 11 b) (λ j. set_le v f (number_at 8 (drop 3 b)) j (top_of j) (λ q. rw q l) (h j)) (and_right (field_in f b) (well_in fs (drop 11 b)) e) k
 
-pub all_tops : (fs b : List ℕ) → (gathered_in fs b).0 ≡ true → (k : ℕ) → get_or (gathered_in fs b).1 k 0 ≤ top_of k
-all_tops fs b e k = let w : well_in fs b ≡ true = sym (well_is fs b) ∙ e in rw (numbers_are fs b w) (tops zeros fs b (λ j. omega (arith, zeros_at 32 j)) w k)
+pub all_tops : (fs b : List ℕ) {v : List ℕ} → gathered_in fs b ≡ Some v → (k : ℕ) → get_or v k 0 ≤ top_of k
+all_tops fs b h k = let g = gathered fs b h in rw (← g.1) (tops zeros fs b (λ j. omega (arith, zeros_at 32 j)) g.0 k)

@@ -6,9 +6,7 @@ use Rattle.money.specs.Range.{of_bits, bits_of}
 use Rattle.terms.specs.declared.Terms.{Terms}
 use Rattle.command.specs.declared.Command.{Command}
 use Rattle.command.specs.declared.Command.TheVariants.{OpenAccount, Deposit, Payout, Approve, RegisterInvoice, CancelInvoice, CreateOffer, WithdrawOffer, AcceptOffer, RejectOffer, AmendOffer, CounterOffer, CloseNegotiation, ScheduleRepayment, UpdateStatus, UpdateRepaid, UpdateLenderRepaid, UpdateTotalsRepaid, Pause, Unpause, SetWindow, SetRepaymentAccount, SetBlacklisted, SetSeats}
-use Rattle.journal.specs.declared.tables.Listed.{Listed}
 use Rattle.journal.specs.declared.reading.Values.{Values}
-use Rattle.journal.specs.declared.writing.Parts.{Parts}
 use Rattle.journal.specs.Answers.{Reading, found, malformed}
 
 -- the fields' names: v holds the number of each field at the place of its tag. 05 amount and 0F fee are two's complement
@@ -141,8 +139,5 @@ parts_of e c = parts_in (keeps_terms e) c
 unfoldable pub padded : List ℕ → List ℕ
 padded l = l ++ replicate (9 - length l) 0
 
-abbrev pub row_fields : List ℕ → Listed
-row_fields l = (length l, padded l)
-
-abbrev pub sent : ℕ × List ℕ → Parts
+abbrev pub sent : ℕ × List ℕ → ℕ × List ℕ
 sent p = (p.0, padded p.1)

@@ -77,6 +77,9 @@ low_at [] n k e = omega (arith, zeros_at n k)
 low_at (x ∷ l) n zero e = ltb-true x 32 (and_left (ltb x 32) (low_all l) e)
 low_at (x ∷ l) n (suc k) e = low_at l n k (and_right (ltb x 32) (low_all l) e)
 
+pub low_field : (e t k : ℕ) → get_or (fields_of e t) k 0 < 32
+low_field e t k = rw append-nil at (low_at (fields_of e t) 0 k (and_right (leb (length (fields_of e t)) 9) (low_all (fields_of e t)) (fine e t)))
+
 pub low : (e t k : ℕ) → get_or (padded (fields_of e t)) k 0 < 32
 unfolding padded
 low e t k = low_at (fields_of e t) (9 - length (fields_of e t)) k (and_right (leb (length (fields_of e t)) 9) (low_all (fields_of e t)) (fine e t))

@@ -11,10 +11,7 @@ use Rattle.wire.specs.Field.{bytes_of, head_of, field_of}
 use Rattle.refusal.specs.Placed.{placed, laid}
 use Rattle.wire.specs.FieldLaws.{length_field}
 use Rattle.refusal.specs.PlacedLaws.{laid_out, laid_in, placed_twice}
-use Rattle.journal.specs.Table.{fields_of, parts_of, padded, row_fields, sent}
-use Rattle.journal.specs.declared.tables.Listed.{Listed}
-use Rattle.journal.specs.declared.writing.Parts.{Parts}
-use Rattle.journal.specs.TableLaws.{take_padded}
+use Rattle.journal.specs.Table.{fields_of, parts_of, padded, sent}
 use Rattle.journal.specs.Format.{fields_out, record_of, bytes_for, writing}
 
 pub length_fields : (fs vs : List ℕ) → length (fields_out fs vs) ≡ 11 * length fs
@@ -53,32 +50,24 @@ fields_zeros (f ∷ fs) [] (suc n) = ap (λ (l : List ℕ). field_of f (bytes_of
 fields_zeros (f ∷ fs) (v ∷ vs) n = ap (λ (l : List ℕ). field_of f (bytes_of 8 v) ++ l) (fields_zeros fs vs n)
 
 -- a record: its head, then its fields
-record_placed : (t : ℕ) (fs vs l : List ℕ) (at : ℕ) → at + (3 + 11 * length fs) ≤ length l
-    → placed (at + 3) (fields_out (take (length fs) (padded fs)) vs) (placed at (head_of t (11 * length fs)) l) ≡ placed at (field_of t (fields_out fs vs)) l
+pub record_placed : (t : ℕ) (fs vs l : List ℕ) (at : ℕ) → at + (3 + 11 * length fs) ≤ length l
+    → placed (at + 3) (fields_out fs vs) (placed at (head_of t (11 * length fs)) l) ≡ placed at (field_of t (fields_out fs vs)) l
 unfolding field_of head_of bytes_of
 record_placed t fs vs l at h =
     let e : length (fields_out fs vs) ≡ 11 * length fs = length_fields fs vs in
-    rw (take_padded fs, ← e) (placed_twice at (head_of t (length (fields_out fs vs))) (fields_out fs vs) l (omega (arith, e)))
-
--- what encode leaves in a buffer, of the row that it was given
-abbrev pub stored : List ℕ → ℕ → ℕ → List ℕ → Listed → List ℕ
-stored l at t vs r = placed (at + 3) (fields_out (take r.0 r.1) vs) (placed at (head_of t (11 * r.0)) l)
-
-pub parts_placed : (e t : ℕ) (vs l : List ℕ) (at : ℕ) {r : Listed} → r ≡ row_fields (fields_of e t) → at + (3 + 11 * r.0) ≤ length l → stored l at t vs r ≡ placed at (record_of e t vs) l
-parts_placed e t vs l at {r} d h =
-    ap (λ (q : Listed). stored l at t vs q) d ∙ record_placed t (fields_of e t) vs l at (omega (arith, ap (λ (q : Listed). q.0) d))
+    rw (← e) (placed_twice at (head_of t (length (fields_out fs vs))) (fields_out fs vs) l (omega (arith, e)))
 
 pub length_record : (e t : ℕ) (vs : List ℕ) → length (record_of e t vs) ≡ 3 + 11 * length (fields_of e t)
 unfolding field_of head_of bytes_of
 length_record e t vs = omega (arith, length_fields (fields_of e t) vs)
 
 -- the numbers in an array give the same record
-pub record_sent : (e : ℕ) (x : ℕ × List ℕ) {p : Parts} → p ≡ sent x → record_of e p.0 p.1 ≡ record_of e x.0 x.1
+pub record_sent : (e : ℕ) (x : ℕ × List ℕ) {p : ℕ × List ℕ} → p ≡ sent x → record_of e p.0 p.1 ≡ record_of e x.0 x.1
 unfolding padded
 record_sent e x {p} d =
-    ap (λ (q : Parts). record_of e q.0 q.1) d ∙ ap (λ (w : List ℕ). field_of x.0 w) (fields_zeros (fields_of e x.0) x.1 (9 - length x.1))
+    ap (λ (q : ℕ × List ℕ). record_of e q.0 q.1) d ∙ ap (λ (w : List ℕ). field_of x.0 w) (fields_zeros (fields_of e x.0) x.1 (9 - length x.1))
 
-pub command_parts : (e : ℕ) (c : Command) {p : Parts} → p ≡ sent (parts_of e c) → record_of e p.0 p.1 ≡ bytes_for e c
+pub command_parts : (e : ℕ) (c : Command) {p : ℕ × List ℕ} → p ≡ sent (parts_of e c) → record_of e p.0 p.1 ≡ bytes_for e c
 unfolding bytes_for
 command_parts e c d = record_sent e (parts_of e c) d
 

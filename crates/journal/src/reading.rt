@@ -1,5 +1,5 @@
 // From the bytes of a record to its command.
-ghost use Rattle.std.specs.Prelude.{◌≡◌, ℕ, ◌+◌, ◌*◌, ◌≤◌, ◌<◌, length, get_or, take, drop};
+ghost use Rattle.std.specs.Prelude.{◌≡◌, ℕ, ◌+◌, ◌*◌, ◌≤◌, ◌<◌, length, get_or, drop};
 ghost use Rattle.journal.specs.Answers.{reading};
 ghost use Rattle.journal.specs.Table.{top_of, named, made};
 ghost use Rattle.journal.specs.Format.{gathered_in};
@@ -9,37 +9,24 @@ use command::Command;
 use money::of_bits;
 use terms::Terms;
 
-fn place(f: u8) -> usize
-    ensures { result ≡ f }
+// The numbers of the fields, each at the place of its tag, where the fields stand there.
+pub(crate) fn gather(s: &[u8], p: usize, tags: &[u8]) -> Option<[u64; 32]>
+    requires { (p + 11 * length tags.now ≤ length s.now) × ((k : ℕ) → get_or tags.now k 0 < 32) }
+    ensures { result ≡ gathered_in tags.now (drop p s.now) }
 {
-    f as usize
-}
-
-// Whether the fields stand there, and their numbers, each at the place of its tag.
-#[derive(Clone, Copy)]
-pub(crate) struct Gathered(pub(crate) bool, pub(crate) [u64; 32]);
-
-pub(crate) fn gather(s: &[u8], p: usize, n: usize, tags: [u8; 9]) -> Gathered
-    requires { ((n ≤ 9) × (p + 11 * n ≤ length s.now)) × ((k : ℕ) → get_or tags k 0 < 32) }
-    ensures { result ≡ gathered_in (take n tags) (drop p s.now) }
-{
-    let mut v = [0u64; 32];
-    let mut i: usize = 0;
-    let mut q = p;
-    while i < n {
-        let f = tags[i];
-        if !wire::begins(s, q, f, 8) {
-            return Gathered(false, [0u64; 32]);
+    let mut v = [0; 32];
+    for (i, tag) in tags.iter().enumerate() {
+        let q = p + 11 * i;
+        if !wire::begins(s, q, *tag, 8) {
+            return None;
         }
         let x = wire::number(s, q + 3);
-        if tables::top(f) < x {
-            return Gathered(false, [0u64; 32]);
+        if tables::top(*tag) < x {
+            return None;
         }
-        v[place(f)] = x;
-        q += 11;
-        i += 1;
+        v[usize::from(*tag)] = x;
     }
-    Gathered(true, v)
+    Some(v)
 }
 
 // The numbers of a record by the names of their fields; 0 for a field that the record has not.
@@ -93,29 +80,35 @@ pub(crate) fn named(v: [u64; 32]) -> Values
 }
 
 // The command of a tag and its fields in an edition.
+#[tactic(auto, unfolding(crate::specs::Table::made, crate::specs::Table::made_in, refusal::specs::Choice::pick))]
 pub(crate) fn build(edition: u32, tag: u8, f: Values, at: usize, past: usize) -> Decoded
     ensures { reading result ≡ made edition tag f at past }
 {
-    let now = f.now;
-    let caller = f.caller;
-    let id = f.id;
-    let invoice = f.invoice;
-    let amount = f.amount;
+    let Values {
+        now,
+        caller,
+        id,
+        invoice,
+        amount,
+        rate,
+        duration,
+        expires,
+        round,
+        count,
+        code,
+        first,
+        seats,
+        threshold,
+        fee,
+        window,
+        next,
+        kind,
+    } = f;
     let terms = Terms {
         amount,
-        rate: f.rate,
-        duration: f.duration,
+        rate,
+        duration,
     };
-    let expires = f.expires;
-    let round = f.round;
-    let count = f.count;
-    let code = f.code;
-    let first = f.first;
-    let seats = f.seats;
-    let threshold = f.threshold;
-    let fee = f.fee;
-    let window = f.window;
-    let kind = f.kind;
     match tag {
         0x21 => Decoded::Command(Command::OpenAccount { now, caller }, past),
         0x22 => Decoded::Command(
@@ -253,7 +246,7 @@ pub(crate) fn build(edition: u32, tag: u8, f: Values, at: usize, past: usize) ->
                 now,
                 seats,
                 threshold,
-                next: f.next,
+                next,
             },
             past,
         ),

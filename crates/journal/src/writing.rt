@@ -1,58 +1,61 @@
 // From a command to the bytes of its record.
-ghost use Rattle.std.specs.Prelude.{◌≡◌, ◌+◌, ◌*◌, ◌≤◌, length, take};
+ghost use Rattle.std.specs.Prelude.{◌≡◌, ◌+◌, ◌*◌, ◌≤◌, length};
 ghost use Rattle.refusal.specs.Choice.{pick};
 ghost use Rattle.refusal.specs.Placed.{placed};
-ghost use Rattle.journal.specs.Table.{sent, parts_of};
+ghost use Rattle.journal.specs.Table.{padded, sent, parts_of};
 ghost use Rattle.journal.specs.Format.{fields_out};
 
 use command::Command;
 use money::bits;
 
-// A command's tag and the numbers of its fields in order.
-#[derive(Clone, Copy)]
-pub struct Parts(pub u8, pub [u64; 9]);
+// Numbers in an array of nine, with zeros after them.
+fn padded(numbers: &[u64]) -> [u64; 9]
+    requires { length numbers.now ≤ 9 }
+    ensures { result ≡ padded numbers.now }
+{
+    let mut all = [0; 9];
+    all[..numbers.len()].copy_from_slice(numbers);
+    all
+}
 
 // The number of a field that only some editions' records have, or the 0 that follows a record's numbers.
+#[tactic(auto, unfolding(refusal::specs::Choice::pick))]
 fn also(has: bool, x: u64) -> u64
     ensures { result ≡ pick has x 0 }
 {
-    if has {
-        return x;
-    }
-    0
+    if has { x } else { 0 }
 }
 
-// A command's tag and the numbers of its fields in order, in an edition.
-pub fn split(edition: u32, c: Command) -> Parts
+// A command's tag and the numbers of its fields in order, in an edition, with zeros after them.
+// An array of nine, the longest record, with zeros behind: no heap.
+#[tactic(auto, unfolding(crate::specs::Table::parts_of, crate::specs::Table::parts_in, crate::specs::Table::padded))]
+pub fn split(edition: u32, c: Command) -> (u8, [u64; 9])
     ensures { result ≡ sent (parts_of edition c) }
 {
     match c {
-        Command::OpenAccount { now, caller } => Parts(0x21, [now, caller, 0, 0, 0, 0, 0, 0, 0]),
+        Command::OpenAccount { now, caller } => (0x21, padded(&[now, caller])),
         Command::Deposit {
             now,
             caller,
             amount,
-        } => Parts(0x22, [now, caller, bits(amount), 0, 0, 0, 0, 0, 0]),
+        } => (0x22, padded(&[now, caller, bits(amount)])),
         Command::Payout {
             now,
             caller,
             amount,
-        } => Parts(0x23, [now, caller, bits(amount), 0, 0, 0, 0, 0, 0]),
+        } => (0x23, padded(&[now, caller, bits(amount)])),
         Command::Approve {
             now,
             caller,
             amount,
-        } => Parts(0x24, [now, caller, bits(amount), 0, 0, 0, 0, 0, 0]),
+        } => (0x24, padded(&[now, caller, bits(amount)])),
         Command::RegisterInvoice {
             now,
             caller,
             id,
             amount,
-        } => Parts(0x25, [now, caller, id, bits(amount), 0, 0, 0, 0, 0]),
-        Command::CancelInvoice { now, caller, id } => Parts(
-            0x26,
-            [now, caller, id, 0, 0, 0, 0, 0, 0],
-        ),
+        } => (0x25, padded(&[now, caller, id, bits(amount)])),
+        Command::CancelInvoice { now, caller, id } => (0x26, padded(&[now, caller, id])),
         Command::CreateOffer {
             now,
             caller,
@@ -60,51 +63,39 @@ pub fn split(edition: u32, c: Command) -> Parts
             invoice,
             terms,
             expires,
-        } => Parts(
+        } => (
             0x31,
-            [
+            padded(&[
                 now,
                 caller,
                 id,
                 invoice,
                 bits(terms.amount),
-                terms.rate as u64,
+                u64::from(terms.rate),
                 terms.duration,
                 expires,
-                0,
-            ],
+            ]),
         ),
-        Command::WithdrawOffer { now, caller, id } => Parts(
-            0x32,
-            [now, caller, id, 0, 0, 0, 0, 0, 0],
-        ),
-        Command::AcceptOffer { now, caller, id } => Parts(
-            0x33,
-            [now, caller, id, 0, 0, 0, 0, 0, 0],
-        ),
-        Command::RejectOffer { now, caller, id } => Parts(
-            0x34,
-            [now, caller, id, 0, 0, 0, 0, 0, 0],
-        ),
+        Command::WithdrawOffer { now, caller, id } => (0x32, padded(&[now, caller, id])),
+        Command::AcceptOffer { now, caller, id } => (0x33, padded(&[now, caller, id])),
+        Command::RejectOffer { now, caller, id } => (0x34, padded(&[now, caller, id])),
         Command::AmendOffer {
             now,
             caller,
             id,
             terms,
             round,
-        } => Parts(
+        } => (
             0x35,
-            [
+            padded(&[
                 now,
                 caller,
                 id,
                 bits(terms.amount),
-                terms.rate as u64,
+                u64::from(terms.rate),
                 terms.duration,
-                round as u64,
-                0,
-                0,
-            ],
+                u64::from(round),
+            ]),
         ),
         Command::CounterOffer {
             now,
@@ -112,24 +103,19 @@ pub fn split(edition: u32, c: Command) -> Parts
             id,
             terms,
             round,
-        } => Parts(
+        } => (
             0x36,
-            [
+            padded(&[
                 now,
                 caller,
                 id,
                 bits(terms.amount),
-                terms.rate as u64,
+                u64::from(terms.rate),
                 terms.duration,
-                round as u64,
-                0,
-                0,
-            ],
+                u64::from(round),
+            ]),
         ),
-        Command::CloseNegotiation { now, caller, id } => Parts(
-            0x37,
-            [now, caller, id, 0, 0, 0, 0, 0, 0],
-        ),
+        Command::CloseNegotiation { now, caller, id } => (0x37, padded(&[now, caller, id])),
         Command::ScheduleRepayment {
             now,
             caller,
@@ -138,79 +124,67 @@ pub fn split(edition: u32, c: Command) -> Parts
             code,
             first,
             kind,
-        } => Parts(
+        } => (
             0x38,
-            [
+            padded(&[
                 now,
                 caller,
                 id,
-                count as u64,
-                code as u64,
+                u64::from(count),
+                u64::from(code),
                 first,
                 also(edition::keeps_terms(edition), kind),
-                0,
-                0,
-            ],
+            ]),
         ),
         Command::UpdateStatus {
             now,
             caller,
             id,
             code,
-        } => Parts(0x41, [now, caller, id, code as u64, 0, 0, 0, 0, 0]),
+        } => (0x41, padded(&[now, caller, id, u64::from(code)])),
         Command::UpdateRepaid {
             now,
             caller,
             id,
             amount,
-        } => Parts(0x42, [now, caller, id, bits(amount), 0, 0, 0, 0, 0]),
+        } => (0x42, padded(&[now, caller, id, bits(amount)])),
         Command::UpdateLenderRepaid {
             now,
             caller,
             id,
             code,
-        } => Parts(0x43, [now, caller, id, code as u64, 0, 0, 0, 0, 0]),
+        } => (0x43, padded(&[now, caller, id, u64::from(code)])),
         Command::UpdateTotalsRepaid {
             now,
             caller,
             amount,
             fee,
-        } => Parts(0x44, [now, caller, bits(amount), bits(fee), 0, 0, 0, 0, 0]),
-        Command::Pause { now, seats } => Parts(0x51, [now, seats, 0, 0, 0, 0, 0, 0, 0]),
-        Command::Unpause { now, seats } => Parts(0x52, [now, seats, 0, 0, 0, 0, 0, 0, 0]),
-        Command::SetWindow { now, seats, window } => Parts(
-            0x53,
-            [now, seats, window, 0, 0, 0, 0, 0, 0],
-        ),
-        Command::SetRepaymentAccount { now, id, seats } => Parts(
-            0x54,
-            [now, id, seats, 0, 0, 0, 0, 0, 0],
-        ),
+        } => (0x44, padded(&[now, caller, bits(amount), bits(fee)])),
+        Command::Pause { now, seats } => (0x51, padded(&[now, seats])),
+        Command::Unpause { now, seats } => (0x52, padded(&[now, seats])),
+        Command::SetWindow { now, seats, window } => (0x53, padded(&[now, seats, window])),
+        Command::SetRepaymentAccount { now, id, seats } => (0x54, padded(&[now, id, seats])),
         Command::SetBlacklisted {
             now,
             id,
             code,
             seats,
-        } => Parts(0x55, [now, id, code as u64, seats, 0, 0, 0, 0, 0]),
+        } => (0x55, padded(&[now, id, u64::from(code), seats])),
         Command::SetSeats {
             now,
             seats,
             threshold,
             next,
-        } => Parts(0x56, [now, seats, threshold as u64, next, 0, 0, 0, 0, 0]),
+        } => (0x56, padded(&[now, seats, u64::from(threshold), next])),
     }
 }
 
 // The fields one after the other from p on.
-pub(crate) fn put_fields(out: &mut [u8], p: usize, n: usize, tags: [u8; 9], values: [u64; 9])
-    requires { (n ≤ 9) × (p + 11 * n ≤ length out.old) }
-    ensures { out.new ≡ placed p (fields_out (take n tags) values) out.old }
+pub(crate) fn put_fields(out: &mut [u8], p: usize, tags: &[u8], values: [u64; 9])
+    requires { (length tags.now ≤ 9) × (p + 11 * length tags.now ≤ length out.old) }
+    ensures { out.new ≡ placed p (fields_out tags.now values) out.old }
 {
-    let mut i: usize = 0;
-    let mut q = p;
-    while i < n {
-        wire::put_field(&mut *out, q, tags[i], values[i]);
-        q += 11;
-        i += 1;
+    for (i, tag) in tags.iter().enumerate() {
+        wire::put_field(out, p + 11 * i, *tag, values[i]);
     }
 }

@@ -1,7 +1,7 @@
 -- What the loop over the rows goes by. Assumes nothing.
-use Rattle.std.specs.Prelude.{◌≡◌, length, get_or}
+use Rattle.std.specs.Prelude.{◌≡◌, Bool, true, false, length, get_or, min, ltb}
 use Rattle.std.proofs.Math.Path.{refl, ap}
-use Rattle.std.proofs.Common.{sym, arith, add-one}
+use Rattle.std.proofs.Common.{sym, arith, add-one, ltb-true, ltb-false}
 use mathlib.Core.List.{List, [], ◌∷◌, ◌++◌, append-nil, append_assoc}
 use Prim.Native.Nat.{ℕ, zero, suc, ◌+◌, ◌≤◌, ◌<◌}
 use Rattle.table.specs.Tables.{Table}
@@ -21,13 +21,21 @@ module _ {A : Type 0} where
   table_suc d (x ∷ ids) (r ∷ rows) (suc i) h k = ap (λ t. (x, r) ∷ t) (table_suc d ids rows i (omega arith) (omega arith))
 
   -- no more rows than there are
-  pub table_all : (ids : List ℕ) (rows : List A) (i n : ℕ) → length ids ≤ i → i ≤ n → table_of ids rows i ≡ table_of ids rows n
+  table_all : (ids : List ℕ) (rows : List A) (i n : ℕ) → length ids ≤ i → i ≤ n → table_of ids rows i ≡ table_of ids rows n
   unfolding table_of
   table_all [] rows i n h k = refl
   table_all (x ∷ ids) [] i n h k = refl
   table_all (x ∷ ids) (r ∷ rows) zero n h k = absurd (omega arith)
   table_all (x ∷ ids) (r ∷ rows) (suc i) zero h k = absurd (omega arith)
   table_all (x ∷ ids) (r ∷ rows) (suc i) (suc n) h k = ap (λ t. (x, r) ∷ t) (table_all ids rows i n (omega arith) (omega arith))
+
+  -- the least of n and the places there are
+  pub table_least : (ids : List ℕ) (rows : List A) (i n : ℕ) → length ids ≡ 64 → i ≡ min n 64 → table_of ids rows i ≡ table_of ids rows n
+  table_least ids rows i n l e = go (ltb 64 n) refl
+    where
+      go : (t : Bool) → ltb 64 n ≡ t → table_of ids rows i ≡ table_of ids rows n
+      go true k = let h : 64 < n = ltb-true 64 n k in table_all ids rows i n (omega arith) (omega arith)
+      go false k = let h : n ≤ 64 = ltb-false 64 n k in ap (table_of ids rows) (let q : i ≡ n = omega arith in q)
 
 lines-append : (s t : Table Account) → account_lines (s ++ t) ≡ account_lines s ++ account_lines t
 unfolding account_lines

@@ -42,11 +42,10 @@ pub fn put_account(out: &mut [u8], pen: Pen, ink: bool, id: u64, row: Account) -
     ensures { Wrote ink (account_line id row) out.old pen out.new result }
 {
     let past = sheet::put(out, pen, ink, b"account");
-    let purse = row.purse;
-    let balance = money::magnitude(purse.balance);
-    let allowance = money::magnitude(purse.allowance);
-    let offered = money::magnitude(purse.offered);
-    let accepted = money::magnitude(purse.accepted);
+    let balance = money::magnitude(row.purse.balance);
+    let allowance = money::magnitude(row.purse.allowance);
+    let offered = money::magnitude(row.purse.offered);
+    let accepted = money::magnitude(row.purse.accepted);
     let xs = [id, balance, allowance, offered, accepted];
     sheet::put_numbers(out, past, ink, &xs)
 }
@@ -54,7 +53,7 @@ pub fn put_account(out: &mut [u8], pen: Pen, ink: bool, id: u64, row: Account) -
 // The first n rows, or all of them.
 pub fn put_accounts(
     out: &mut [u8],
-    pen: Pen,
+    mut pen: Pen,
     ink: bool,
     ids: [u64; 64],
     rows: [Account; 64],
@@ -62,16 +61,10 @@ pub fn put_accounts(
 ) -> Pen
     ensures { Wrote ink (account_lines (table_of ids rows n)) out.old pen out.new result }
 {
-    let mut p = pen;
-    let mut i: usize = 0;
-    while i < 64 {
-        if n <= i {
-            return p;
-        }
-        p = put_account(out, p, ink, ids[i], rows[i]);
-        i += 1;
+    for i in 0..n.min(64) {
+        pen = put_account(out, pen, ink, ids[i], rows[i]);
     }
-    p
+    pen
 }
 
 // The listing's line of the totals.

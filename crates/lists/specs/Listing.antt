@@ -1,6 +1,7 @@
 -- Document 01, module 6: the offers asked for, ids ascending, into a lent buffer, each as ten 64-bit numbers; too short gives 14, and room past the answer is untouched.
-use Rattle.std.specs.Prelude.{ℕ, ◌*◌, ◌≤◌, ◌≡◌, Bool, not, List, [], ◌∷◌, length, ltb}
-use Rattle.refusal.specs.Refusal.{number, ◌gives◌, invalid_input, buffer_short, book_unsound}
+use Rattle.std.specs.Prelude.{ℕ, ◌*◌, ◌≤◌, ◌≡◌, Bool, not, Result, Ok, Err, List, [], ◌∷◌, length, ltb}
+use Rattle.refusal.specs.Refusal.{number, ◌gives◌, invalid_input, buffer_short}
+use Rattle.refusal.specs.declared.Refusal.{Refusal}
 use Rattle.refusal.specs.Rule.{Rule}
 use Rattle.money.specs.Range.{bits_of}
 use Rattle.table.specs.Tables.{Table}
@@ -9,8 +10,6 @@ use Rattle.offer.specs.declared.Offer.{Offer}
 use Rattle.lists.specs.declared.OfferRows.{OfferRows}
 use Rattle.lists.specs.declared.OfferNumbers.{OfferNumbers}
 use Rattle.lists.specs.declared.Wanted.{Wanted}
-use Rattle.lists.specs.declared.Listed.{Listed}
-use Rattle.lists.specs.declared.Listed.TheVariants.{Offers, Unlisted, Short, Unsound}
 use Rattle.refusal.specs.Placed.{placed}
 use Rattle.lists.specs.Taking.{pick_from, spread}
 use Rattle.lists.specs.Wanted.{wants, known}
@@ -73,8 +72,14 @@ Reply = ℕ × List ℕ
 abbrev pub told : ℕ → List ℕ × List ℕ → Reply × List ℕ
 told n x = ((n, x.0), x.1)
 
-abbrev pub listed_says : Listed → Reply
-listed_says (Offers n) = (0, n ∷ [])
-listed_says Unlisted = (number invalid_input, [])
-listed_says Short = (number buffer_short, [])
-listed_says Unsound = (number book_unsound, [])
+-- what is returned as a query's answer: 0 and the values of what it is, or the number of the refusal and none
+abbrev pub reply_of : {A : Type 0} → (A → List ℕ) → Result A Refusal → Reply
+reply_of values (Ok x) = (0, values x)
+reply_of values (Err r) = (number r, [])
+
+-- one number
+abbrev pub one_value : ℕ → List ℕ
+one_value n = n ∷ []
+
+abbrev pub listed_says : Result ℕ Refusal → Reply
+listed_says r = reply_of one_value r

@@ -1,7 +1,7 @@
 -- What the walks over the rows go by. Assumes nothing.
 use Prim.Native.Nat.{ℕ, zero, suc, ◌≤◌, ◌<◌}
-use Rattle.std.proofs.Common.{arith, sym, ap, ◌∙◌}
-use Rattle.std.specs.Prelude.{◌≡◌, Bool, true, false, ◌&&◌, ◌||◌, length, get_or, eqb}
+use Rattle.std.proofs.Common.{arith, sym, ap, ◌∙◌, ltb-true, ltb-false}
+use Rattle.std.specs.Prelude.{◌≡◌, Bool, true, false, ◌&&◌, ◌||◌, length, get_or, eqb, ltb, min}
 use Rattle.std.proofs.Math.Path.{refl}
 use mathlib.Core.List.{List, [], ◌∷◌}
 use Rattle.refusal.specs.Choice.{pick}
@@ -39,11 +39,18 @@ length_all (x ∷ ids) (r ∷ rows) (suc n) e h = ap suc (length_all ids rows n 
 
 -- ── How many rows are in use ──────────────────────────────────────
 module _ (t : OfferRows) (a : length t.ids ≡ 64) (b : length t.rows ≡ 64) where
-  pub use_some : t.count < 64 → InUse t t.count
+  use_some : t.count < 64 → InUse t t.count
   use_some h = record { ids_long = a; rows_long = b; counted = sym (length_table t.ids t.rows t.count (omega arith) (omega arith)); few = omega arith; most = omega arith }
 
-  pub use_all : 64 ≤ t.count → InUse t 64
+  use_all : 64 ≤ t.count → InUse t 64
   use_all h = record { ids_long = a; rows_long = b; counted = sym (length_all t.ids t.rows t.count (omega arith) (omega arith) ∙ b); few = omega arith; most = omega arith }
+
+  pub use_least : {n : ℕ} → n ≡ min t.count 64 → InUse t n
+  use_least {n} e = go (ltb t.count 64) refl
+    where
+      go : (s : Bool) → ltb t.count 64 ≡ s → InUse t n
+      go true h = let g = ltb-true t.count 64 h in let z : n ≡ t.count = omega (arith, e, g) in rw z (use_some g)
+      go false h = let g = ltb-false t.count 64 h in let z : n ≡ 64 = omega (arith, e, g) in rw z (use_all g)
 
 -- an offer adds its amount at most, and that is at most 10^12
 active_small : (lender : ℕ) (o : Offer) → in_amount o.terms.amount ≡ true → active_in lender o ≤ 1000000000000

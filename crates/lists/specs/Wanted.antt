@@ -1,13 +1,11 @@
 -- Document 01, module 6: which offers a list query asks for. The first offer stands at place 0.
-use Rattle.std.specs.Prelude.{ℕ, ◌-◌, Bool, true, ◌&&◌, leb, ltb, eqb}
+use Rattle.std.specs.Prelude.{ℕ, ◌-◌, Option, Some, None, Bool, true, ◌&&◌, leb, ltb, eqb}
 use Rattle.refusal.specs.Choice.{pick}
 use Rattle.terms.specs.Status.{status_pending, status_listed}
 use Rattle.offer.specs.declared.Offer.{Offer}
 use Rattle.lists.specs.declared.Wanted.{Wanted}
 use Rattle.lists.specs.declared.Wanted.TheVariants.{Invoice, Lender, Status, PendingOf, Page}
 use Rattle.lists.specs.declared.Wanted.TheVariants as Wants
-use Rattle.lists.specs.declared.Asked.{Asked}
-use Rattle.lists.specs.declared.Asked.TheVariants.{For, Unlisted}
 
 -- from the offset on, at most as many as the limit
 unfoldable pub paged : ℕ → ℕ → ℕ → Bool
@@ -32,11 +30,11 @@ known Wants.All = true
 known (Page offset limit) = true
 
 -- ── Lists of offers by a number: 1 by invoice, 2 by lender, 3 by status, 4 by invoice and Pending, 5 all, 6 a page; any other gives 3 ──
-unfoldable pub wanted_of : ℕ → ℕ → ℕ → Asked
+unfoldable pub wanted_of : ℕ → ℕ → ℕ → Option Wanted
 wanted_of kind a b =
-    pick (eqb kind 1) (For (Invoice a))
-    (pick (eqb kind 2) (For (Lender a))
-    (pick (eqb kind 3) (pick (ltb 4294967295 a) Unlisted (For (Status a)))
-    (pick (eqb kind 4) (For (PendingOf a))
-    (pick (eqb kind 5) (For Wants.All)
-    (pick (eqb kind 6) (For (Page a b)) Unlisted)))))
+    pick (eqb kind 1) (Some (Invoice a))
+    (pick (eqb kind 2) (Some (Lender a))
+    (pick (eqb kind 3) (pick (ltb 4294967295 a) None (Some (Status a)))
+    (pick (eqb kind 4) (Some (PendingOf a))
+    (pick (eqb kind 5) (Some Wants.All)
+    (pick (eqb kind 6) (Some (Page a b)) None)))))

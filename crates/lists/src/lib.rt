@@ -9,8 +9,10 @@ ghost use Rattle.lists.specs.Listing.{offers_of, InUse, numbers_of, in_order, li
 ghost use Rattle.lists.specs.Active.{active_in, active_of, InRange};
 
 use offer::Offer;
+use refusal::Refusal;
 
 // The offers alone, without their negotiations and schedules.
+// Two columns of the stored table and its count: no heap, and a book is one block of fixed memory.
 #[derive(Clone, Copy)]
 pub struct OfferRows {
     pub ids: [u64; 64],
@@ -44,41 +46,23 @@ pub enum Wanted {
     Page(u64, u64),
 }
 
-// Which offers are asked for, or that the number is not listed.
-#[derive(Clone, Copy)]
-pub enum Asked {
-    For(Wanted),
-    Unlisted,
-}
-
-// How many offers were written to the buffer, or why none was.
-#[derive(Clone, Copy)]
-pub enum Listed {
-    Offers(usize),
-    Unlisted,
-    Short,
-    Unsound,
-}
-
 impl OfferNumbers {
     // The ten numbers of an offer.
+    // Not a From: an offer's row does not hold its id.
     pub fn of(id: u64, o: Offer) -> OfferNumbers
         ensures { result ≡ numbers_of id o }
     {
-        let terms = o.terms;
-        let amount = money::bits(terms.amount);
-        let repaid = money::bits(o.repaid);
         OfferNumbers {
             id,
             invoice: o.invoice,
             lender: o.lender,
-            amount,
-            rate: terms.rate as u64,
-            duration: terms.duration,
+            amount: money::bits(o.terms.amount),
+            rate: o.terms.rate as u64,
+            duration: o.terms.duration,
             expires: o.expires,
             status: o.status as u64,
             funded: o.funded,
-            repaid,
+            repaid: money::bits(o.repaid),
         }
     }
 
@@ -101,34 +85,31 @@ impl OfferNumbers {
     }
 }
 
+#[tactic(auto, unfolding(crate::specs::Wanted::paged))]
 fn in_page(offset: u64, limit: u64, place: u64) -> bool
     ensures { result ≡ paged offset limit place }
 {
-    if place < offset {
-        return false;
-    }
-    place - offset < limit
+    offset <= place && place - offset < limit
 }
 
 impl Wanted {
     // Whether the offer `o`, which stands at `place` among all, is asked for.
+    #[tactic(auto, unfolding(crate::specs::Wanted::wants))]
     pub fn takes(self, place: u64, o: Offer) -> bool
         ensures { result ≡ wants self place o }
     {
-        let invoice = o.invoice;
-        let lender = o.lender;
-        let status = o.status;
         match self {
-            Wanted::Invoice(i) => invoice == i,
-            Wanted::Lender(l) => lender == l,
-            Wanted::Status(s) => status == s,
-            Wanted::PendingOf(i) => (invoice == i) & (status == terms::PENDING),
+            Wanted::Invoice(i) => o.invoice == i,
+            Wanted::Lender(l) => o.lender == l,
+            Wanted::Status(s) => o.status == s,
+            Wanted::PendingOf(i) => o.invoice == i && o.status == terms::PENDING,
             Wanted::All => true,
             Wanted::Page(offset, limit) => in_page(offset, limit, place),
         }
     }
 
     // Whether the status that is asked for, if one is, is a listed one.
+    #[tactic(auto, unfolding(crate::specs::Wanted::known))]
     pub fn is_known(self) -> bool
         ensures { result ≡ known self }
     {
@@ -137,61 +118,43 @@ impl Wanted {
             _ => true,
         }
     }
-}
 
-impl Asked {
-    // Which offers the number of a list asks for.
-    pub fn of(kind: u64, a: u64, b: u64) -> Asked
+    // Which offers the number of a list asks for, if that is a listed one.
+    #[tactic(auto, unfolding(crate::specs::Wanted::wanted_of, refusal::specs::Choice::pick))]
+    pub fn asked(kind: u64, a: u64, b: u64) -> Option<Wanted>
         ensures { result ≡ wanted_of kind a b }
     {
-        if kind == 1 {
-            return Asked::For(Wanted::Invoice(a));
+        match kind {
+            1 => Some(Wanted::Invoice(a)),
+            2 => Some(Wanted::Lender(a)),
+            3 => u32::try_from(a).ok().map(Wanted::Status),
+            4 => Some(Wanted::PendingOf(a)),
+            5 => Some(Wanted::All),
+            6 => Some(Wanted::Page(a, b)),
+            _ => None,
         }
-        if kind == 2 {
-            return Asked::For(Wanted::Lender(a));
-        }
-        if kind == 3 {
-            if a > 4294967295 {
-                return Asked::Unlisted;
-            }
-            return Asked::For(Wanted::Status(a as u32));
-        }
-        if kind == 4 {
-            return Asked::For(Wanted::PendingOf(a));
-        }
-        if kind == 5 {
-            return Asked::For(Wanted::All);
-        }
-        if kind == 6 {
-            return Asked::For(Wanted::Page(a, b));
-        }
-        Asked::Unlisted
     }
 }
 
 // Numbers over the buffer from a place on.
+#[tactic(auto, unfolding(refusal::specs::Placed::placed))]
 pub fn put(out: &mut [u64], at: usize, numbers: &[u64])
     requires { at + length numbers.now ≤ length out.old }
     ensures { out.new ≡ placed at numbers.now out.old }
 {
-    let mut j: usize = 0;
-    while j < numbers.len() {
-        out[at + j] = numbers[j];
-        j += 1;
-    }
+    out[at..at + numbers.len()].copy_from_slice(numbers);
 }
 
 // The offer's amount where the lender's money is out: Accepted or Financed.
+#[tactic(auto, unfolding(crate::specs::Active::active_in, refusal::specs::Choice::pick))]
 pub fn active(o: Offer, lender: u64) -> u64
     ensures { result ≡ active_in lender o }
 {
-    let l = o.lender;
-    let status = o.status;
-    if (l == lender) & ((status == terms::ACCEPTED) | (status == terms::FINANCED)) {
-        let terms = o.terms;
-        return money::magnitude(terms.amount);
+    if o.lender == lender && (o.status == terms::ACCEPTED || o.status == terms::FINANCED) {
+        money::magnitude(o.terms.amount)
+    } else {
+        0
     }
-    0
 }
 
 impl OfferRows {
@@ -199,11 +162,7 @@ impl OfferRows {
     pub fn in_use(self) -> usize
         ensures { InUse self result }
     {
-        let count = self.count;
-        if count < table::ROOM {
-            return count;
-        }
-        table::ROOM
+        self.count.min(table::ROOM)
     }
 
     // How many offers are asked for.
@@ -211,15 +170,11 @@ impl OfferRows {
         ensures counted { result ≡ length (listing w (offers_of self)) }
         ensures few { result ≤ 64 }
     {
-        let used = self.in_use();
         let mut n: usize = 0;
-        let mut i: usize = 0;
-        while i < used {
-            let row = self.rows[i];
-            if w.takes(i as u64, row) {
+        for i in 0..self.in_use() {
+            if w.takes(i as u64, self.rows[i]) {
                 n += 1;
             }
-            i += 1;
         }
         n
     }
@@ -228,35 +183,31 @@ impl OfferRows {
         requires { 10 * length (listing w (offers_of self)) ≤ length out.old }
         ensures { out.new ≡ filled w (offers_of self) out.old }
     {
-        let used = self.in_use();
         let mut n: usize = 0;
-        let mut i: usize = 0;
-        while i < used {
+        for i in 0..self.in_use() {
             let row = self.rows[i];
             if w.takes(i as u64, row) {
-                let id = self.ids[i];
-                let o = OfferNumbers::of(id, row);
-                let numbers = o.in_order();
+                let numbers = OfferNumbers::of(self.ids[i], row).in_order();
                 put(&mut *out, 10 * n, &numbers);
                 n += 1;
             }
-            i += 1;
         }
     }
 
     // The offers asked for, in the order of their ids, from the start of the buffer on. A buffer that they do not fit is left as it is.
-    pub fn list(self, w: Wanted, out: &mut [u64]) -> Listed
+    #[tactic(auto, unfolding(refusal::specs::Rule::answered, refusal::specs::Rule::after, refusal::specs::Refusal::first, refusal::specs::Choice::pick))]
+    pub fn list(self, w: Wanted, out: &mut [u64]) -> Result<usize, Refusal>
         ensures { (listed_says result, out.new) ≡ answered told ([], out.old) (list_rule w (offers_of self) out.old) }
     {
         if !w.is_known() {
-            return Listed::Unlisted;
+            return Err(Refusal::InvalidInput);
         }
         let n = self.count_of(w);
         if out.len() < 10 * n {
-            return Listed::Short;
+            return Err(Refusal::BufferShort);
         }
         self.write(w, out);
-        Listed::Offers(n)
+        Ok(n)
     }
 
     // What a lender has in Accepted and Financed offers.
@@ -264,13 +215,9 @@ impl OfferRows {
         requires { InRange self }
         ensures { result ≡ active_of lender (offers_of self) }
     {
-        let used = self.in_use();
         let mut sum: u64 = 0;
-        let mut i: usize = 0;
-        while i < used {
-            let row = self.rows[i];
-            sum += active(row, lender);
-            i += 1;
+        for i in 0..self.in_use() {
+            sum += active(self.rows[i], lender);
         }
         sum
     }

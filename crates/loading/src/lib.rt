@@ -43,10 +43,9 @@ fn read(path: &[u8], s: &[u8]) -> Given
     if l.number != 0 {
         refused(path, l.number, l.at);
     }
-    let book = l.book;
     Given {
         here: l.number == 0,
-        book,
+        book: l.book,
     }
 }
 

@@ -1,3 +1,6 @@
 pub mod Near
+pub mod Returns
 pub mod Steps
 pub mod Sides
+pub mod Settling
+pub mod Gate

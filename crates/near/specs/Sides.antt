@@ -2,9 +2,9 @@
 use Rattle.std.specs.Prelude.{ℕ, ◌≡◌, refl, Bool, true, false, not}
 use Rattle.std.proofs.Common.{sym, ap, ◌∙◌}
 use Rattle.refusal.specs.Choice.{pick}
-use Rattle.refusal.specs.Rule.{Rule, answered}
+use Rattle.refusal.specs.Rule.{Rule}
 use Rattle.table.specs.Tables.{Table, adjust}
-use Rattle.table.specs.declared.Named.TheVariants.{Id}
+use Rattle.std.specs.Prelude.{Some}
 use Rattle.account.specs.declared.Account.{Account}
 use Rattle.invoice.specs.Invoice.{financed}
 use Rattle.invoice.specs.Seen.{put_invoice}
@@ -21,26 +21,25 @@ use Rattle.rules.specs.Rules.{lender_of, originator_of, with_lender_round, count
 use Rattle.rules.specs.Agreeing.{amend_there, counter_there, amend_lender, amend_invoice, amend_originator, counter_lender, counter_invoice, counter_originator}
 use Rattle.rules.specs.Keys.{Keys, keys_by}
 use Rattle.near.specs.declared.Near.{Near}
-use Rattle.near.specs.declared.Turn.{Turn}
-use Rattle.near.specs.Near.{view_of, turn_of, deal_keys, sides_of}
+use Rattle.near.specs.Near.{Turn, view_of, turn_of, deal_keys, sides_of}
 use Rattle.near.specs.Steps.{near_by, paper_put, deal_put}
 
 -- ── Keys that are the same ────────────────────────────────────────
 module _ (m : Model) {k j : Keys} (e : k ≡ j) where
-  pub turn_at : {r : Turn} (u : Rule Model) → r ≡ answered (turn_of k) m u → r ≡ answered (turn_of j) m u
-  turn_at u h = h ∙ ap (λ z. answered (turn_of z) m u) e
+  pub turn_at : {r : Turn} (u : Rule Model) → r ≡ turn_of k u → r ≡ turn_of j u
+  turn_at u h = h ∙ ap (λ z. turn_of z u) e
 
   pub view_at : {n : Near} → n ≡ view_of k m → n ≡ view_of j m
   view_at h = h ∙ ap (λ z. view_of z m) e
 
 -- an offer seen by its parties, known by other names
-pub first_lends : (m : Model) (o a : ℕ) → lender_of m o ≡ a → deal_keys (Id a) (Id (originator_of m o)) m o ≡ sides_of true m o
+pub first_lends : (m : Model) (o a : ℕ) → lender_of m o ≡ a → deal_keys (Some a) (Some (originator_of m o)) m o ≡ sides_of true m o
 unfolding pick
-first_lends m o a e = ap (λ z. deal_keys (Id z) (Id (originator_of m o)) m o) (sym e)
+first_lends m o a e = ap (λ z. deal_keys (Some z) (Some (originator_of m o)) m o) (sym e)
 
-pub second_lends : (m : Model) (o a : ℕ) → originator_of m o ≡ a → deal_keys (Id a) (Id (lender_of m o)) m o ≡ sides_of false m o
+pub second_lends : (m : Model) (o a : ℕ) → originator_of m o ≡ a → deal_keys (Some a) (Some (lender_of m o)) m o ≡ sides_of false m o
 unfolding pick
-second_lends m o a e = ap (λ z. deal_keys (Id z) (Id (lender_of m o)) m o) (sym e)
+second_lends m o a e = ap (λ z. deal_keys (Some z) (Some (lender_of m o)) m o) (sym e)
 
 -- ── The two sides ─────────────────────────────────────────────────
 pub side_by : (lends : Bool) (a b : ℕ) (t : Table Account) → (side_of (parties_of (pick lends a b) (pick lends b a) t) lends ≡ seen_in t a) × (side_of (parties_of (pick lends a b) (pick lends b a) t) (not lends) ≡ seen_in t b)
@@ -76,17 +75,17 @@ module _ (lends : Bool) {n : Near} (m : Model) (o now : ℕ) (e : n ≡ view_of 
       ∙ ap (λ z. near_by (parties_of side1 side2 t) (invoice_in (left t y) (offer_in m o).row.offer.invoice) z y m.settings) (deal_put m.offers o (settled_deal now (offer_in m o).row))
 
 -- ── A round leaves the keys ───────────────────────────────────────
-keys_by_lem : {a a' b b' i i' : ℕ} (o : ℕ) → a ≡ a' → b ≡ b' → i ≡ i' → keys_by (Id a) (Id b) (Id i) (Id o) ≡ keys_by (Id a') (Id b') (Id i') (Id o)
-keys_by_lem {a} {a'} {b} {b'} {i} {i'} o p q r = ap (λ z. keys_by (Id z) (Id b) (Id i) (Id o)) p ∙ ap (λ z. keys_by (Id a') (Id z) (Id i) (Id o)) q ∙ ap (λ z. keys_by (Id a') (Id b') (Id z) (Id o)) r
+keys_by_lem : {a a' b b' i i' : ℕ} (o : ℕ) → a ≡ a' → b ≡ b' → i ≡ i' → keys_by (Some a) (Some b) (Some i) (Some o) ≡ keys_by (Some a') (Some b') (Some i') (Some o)
+keys_by_lem {a} {a'} {b} {b'} {i} {i'} o p q r = ap (λ z. keys_by (Some z) (Some b) (Some i) (Some o)) p ∙ ap (λ z. keys_by (Some a') (Some z) (Some i) (Some o)) q ∙ ap (λ z. keys_by (Some a') (Some b') (Some z) (Some o)) r
 
 module _ (m : Model) (now a o : ℕ) (t : Terms) (n : ℕ) where
-  pub amend_keys : first (amends_in m now a o t n) ≡ 0 → (r : Account) → deal_keys (Id a) (Id (originator_of m o)) m o ≡ sides_of true (with_lender_round m now a o r t) o
+  pub amend_keys : first (amends_in m now a o t n) ≡ 0 → (r : Account) → deal_keys (Some a) (Some (originator_of m o)) m o ≡ sides_of true (with_lender_round m now a o r t) o
   unfolding pick
   amend_keys h r =
       let e = amend_there m now a o t n h in
       keys_by_lem o (sym (amend_lender m now o t e.0 a r ∙ e.1)) (sym (amend_originator m now o t e.0 a r)) (sym (amend_invoice m now o t e.0 a r))
 
-  pub counter_keys : first (counters_in m now a o t n) ≡ 0 → deal_keys (Id a) (Id (lender_of m o)) m o ≡ sides_of false (countered_in m now o t) o
+  pub counter_keys : first (counters_in m now a o t n) ≡ 0 → deal_keys (Some a) (Some (lender_of m o)) m o ≡ sides_of false (countered_in m now o t) o
   unfolding pick
   counter_keys h =
       let e = counter_there m now a o t n h in

@@ -1,14 +1,18 @@
 -- What the crates above need of rounds and negotiations: which are zero, and that every change keeps a negotiation sound and whole. For any number of places and any limit of rounds. Assumes nothing.
-use Rattle.std.specs.Prelude.{ℕ, ◌+◌, ◌≡◌, refl, Bool, true, false, not, ◌&&◌, ◌||◌, List, get_or, set, replicate, leb, eqb, ℤ, pos}
-use Rattle.std.proofs.Common.{arith, sym, ◌∙◌, length-set, ext_get_or, eqb-true, leb-false, le-leb}
+use Rattle.std.specs.Prelude.{ℕ, zero, suc, ◌+◌, ◌<◌, ◌≡◌, refl, Bool, true, false, not, ◌&&◌, ◌||◌, List, [], ◌∷◌, length, get_or, set, replicate, leb, eqb, ℤ, pos}
+use Rattle.std.specs.Cmp.Lexicographic.{pointwise}
+use Rattle.std.specs.Ordering.{int_eq}
+use Rattle.std.proofs.Common.{arith, ap, sym, ◌∙◌, length-set, ext_get_or, eqb-true, leb-false, le-leb}
+use Rattle.std.proofs.lemmas.Bool.Decides.{Decides-int_eq}
 use Rattle.std.proofs.lemmas.List.{get_or-replicate}
 use Rattle.refusal.specs.Choice.{pick}
 use Rattle.refusal.specs.ChoiceLaws.{pick_off}
+use Rattle.money.specs.Range.{is_zero}
 use Rattle.money.specs.Facts.{both, zero_is}
 use Rattle.terms.specs.Terms.{terms_ok}
 use Rattle.terms.specs.declared.Terms.{Terms}
 use Rattle.table.specs.All.{all-at}
-use Rattle.table.specs.Test.{rows_test}
+use Rattle.table.specs.Test.{all_below, rows_test}
 use Rattle.table.proofs.TestMore.{rows_more}
 use Rattle.negotiation.specs.declared.Round.{Round}
 use Rattle.negotiation.specs.declared.Negotiation.{Negotiation}
@@ -135,3 +139,53 @@ accepted_whole slots n w = accepted_has (Whole slots) n w (closed_whole slots 3 
 
 pub accepted_sound : (slots limit : ℕ) (n : Negotiation) → negotiation_sound slots limit n ≡ true → negotiation_sound slots limit (accepted_of n) ≡ true
 accepted_sound slots limit n e = accepted_has (λ m. negotiation_sound slots limit m ≡ true) n e (closed_sound slots limit 3 n refl e)
+
+-- a row that does not fit makes a negotiation unsound
+pub misfit : (p : ℕ → Bool) {n i : ℕ} (a b : Bool) → i < n → p i ≡ false → false ≡ (a && all_below n p) && b
+misfit p {n} {i} a b h e = go (all_below n p) refl a
+  where
+    go : (t : Bool) → all_below n p ≡ t → (a : Bool) → false ≡ (a && all_below n p) && b
+    go false q true = rw q refl
+    go false q false = refl
+    go true q a = let z : true ≡ false = sym (all-at p n q i h) ∙ e in cc
+
+-- ── The empty one, by `==` ────────────────────────────────────────
+all_first : (p : ℕ → Bool) (n : ℕ) → all_below (suc n) p ≡ p 0 && all_below n (λ i. p (suc i))
+all_first p zero = go (p 0)
+  where
+    go : (t : Bool) → t ≡ t && true
+    go true = refl
+    go false = refl
+all_first p (suc n) = ap (λ t. t && p (suc n)) (all_first p n) ∙ go (p 0)
+  where
+    go : (t : Bool) → (t && all_below n (λ i. p (suc i))) && p (suc n) ≡ t && (all_below n (λ i. p (suc i)) && p (suc n))
+    go true = refl
+    go false = refl
+
+-- a list is all d where each of its rows is
+module _ {A : Type 0} (E : A → A → Bool) (z : A → Bool) (d : A) (is : (r : A) → E r d ≡ z r) where
+  pub all_empty : (n : ℕ) (rs : List A) → length rs ≡ n → pointwise E rs (replicate n d) ≡ all_below n (λ i. z (get_or rs i d))
+  all_empty zero [] e = refl
+  all_empty zero (r ∷ rs) e = absurd (omega (arith, e))
+  all_empty (suc n) [] e = absurd (omega (arith, e))
+  all_empty (suc n) (r ∷ rs) e = rw (is r, all_empty n rs (omega (arith, e))) (sym (all_first (λ i. z (get_or (r ∷ rs) i d)) n))
+
+pub and_last : (a b c d : Bool) → a && (b && (c && d)) ≡ ((a && b) && c) && d
+and_last true true c d = refl
+and_last true false c d = refl
+and_last false b c d = refl
+
+no_amount_is : (x : ℤ) → int_eq x (pos 0) ≡ is_zero x
+no_amount_is x = go (int_eq x (pos 0)) (is_zero x) (λ e. ap is_zero ((Decides-int_eq x (pos 0)).0 e)) (λ e. (Decides-int_eq x (pos 0)).1 (zero_is x e))
+  where
+    go : (s t : Bool) → (s ≡ true → t ≡ true) → (t ≡ true → s ≡ true) → s ≡ t
+    go true t f g = sym (f refl)
+    go false true f g = g refl
+    go false false f g = refl
+
+pub no_amount : (x : ℤ) (a b c d : Bool) → int_eq x (pos 0) && (a && (b && (c && d))) ≡ (((is_zero x && a) && b) && c) && d
+no_amount x a b c d = ap (λ t. t && (a && (b && (c && d)))) (no_amount_is x) ∙ more (is_zero x)
+  where
+    more : (t : Bool) → t && (a && (b && (c && d))) ≡ (((t && a) && b) && c) && d
+    more true = and_last a b c d
+    more false = refl

@@ -2,14 +2,16 @@
 #![tactic(auto)]
 
 ghost use Rattle.std.specs.Prelude.{◌≡◌, cond};
-ghost use Rattle.refusal.specs.Refusal.{first};
-ghost use Rattle.negotiation.specs.Rounds.{terms_of, round_of, deadline_of, status_of, negotiable, added_of, accepted_of, closed_as, agrees_of, round_slots, round_sound, round_zero, no_negotiation, negotiation_sound, negotiation_zero};
+ghost use Rattle.refusal.specs.Rule.{passing};
+ghost use Rattle.negotiation.specs.Rounds.{terms_of, round_of, deadline_of, status_of, negotiable, added_of, accepted_of, closed_as, agrees_of, round_slots, round_sound, round_zero, no_round, no_negotiation, negotiation_sound, negotiation_zero};
 ghost use Rattle.negotiation.specs.Whole.{Whole};
 
+use refusal::Refusal;
 use terms::Terms;
 
-// 32 bytes, so that a book of sixteen rounds an offer stays small.
-#[derive(Clone, Copy)]
+// 32 bytes, so that a book of sixteen rounds an offer stays small. The party is the number that a book stores, listed or not: a test of
+// the whole book answers for any number.
+#[derive(Clone, Copy, Debug, PartialEq, Eq)]
 pub struct Round {
     pub amount: i64,
     pub duration: u64,
@@ -26,7 +28,9 @@ pub const ORIGINATOR: u32 = 1;
 // An offer has places for this many rounds; how many of them it gets is its edition's.
 pub const ROUND_SLOTS: u32 = 16;
 
-#[derive(Clone, Copy)]
+// The outcome is the number that a book stores, listed or not, as a round's party is.
+// Sixteen places and how many are in use: fixed memory, no heap.
+#[derive(Clone, Copy, Debug, PartialEq, Eq)]
 pub struct Negotiation {
     pub rounds: [Round; 16],
     pub deadline: u64,
@@ -46,6 +50,19 @@ pub const ACCEPTED: u32 = 3;
 pub const EXPIRED: u32 = 4;
 
 impl Round {
+    // The row that is not in use.
+    fn none() -> Round
+        ensures { result ≡ no_round }
+    {
+        Round {
+            amount: 0,
+            duration: 0,
+            time: 0,
+            rate: 0,
+            party: 0,
+        }
+    }
+
     // A round that a party puts down now.
     pub fn new(now: u64, t: Terms, party: u32) -> Round
         ensures { result ≡ round_of now t party }
@@ -71,48 +88,39 @@ impl Round {
     }
 
     // In range, with rows past the rounds zero.
+    #[tactic(auto, unfolding(crate::specs::Rounds::round_sound))]
     pub fn sound(self) -> bool
         ensures { result ≡ round_sound self }
     {
-        let t = self.terms();
-        let party = self.party;
-        terms::terms_valid(t) & (party <= ORIGINATOR)
+        terms::terms_valid(self.terms()) && self.party <= ORIGINATOR
     }
 
     // Whether every number is 0.
+    #[tactic(auto, unfolding(crate::specs::Rounds::round_zero))]
     pub fn zero(self) -> bool
         ensures { result ≡ round_zero self }
     {
-        let zero = money::is_zero(self.amount);
-        let duration = self.duration;
-        let time = self.time;
-        let rate = self.rate;
-        let party = self.party;
-        zero & (duration == 0) & (time == 0) & (rate == 0) & (party == 0)
+        self == Round::none()
     }
 
     // Whether the row can stand at a place: sound where the place is in use, else zero.
     pub fn fits(self, used: bool) -> bool
         ensures { result ≡ cond used (round_sound self) (round_zero self) }
     {
-        if used {
-            return self.sound();
-        }
-        self.zero()
+        if used { self.sound() } else { self.zero() }
     }
 }
 
 // The end of the window that the first round opens; later rounds leave it.
+#[tactic(auto, unfolding(crate::specs::Rounds::deadline_of, refusal::specs::Choice::pick))]
 pub fn deadline_after(len: u32, now: u64, window: u64, old: u64) -> u64
     ensures { result ≡ deadline_of len now window old }
 {
-    if len != 0 {
-        return old;
+    if len == 0 {
+        now.saturating_add(window)
+    } else {
+        old
     }
-    if 18446744073709551615 - window < now {
-        return 18446744073709551615;
-    }
-    now + window
 }
 
 impl Negotiation {
@@ -120,16 +128,8 @@ impl Negotiation {
     pub fn none() -> Negotiation
         ensures { result ≡ no_negotiation }
     {
-        let r = Round {
-            amount: 0,
-            duration: 0,
-            time: 0,
-            rate: 0,
-            party: 0,
-        };
-        let rs = [r; 16];
         Negotiation {
-            rounds: rs,
+            rounds: [Round::none(); 16],
             deadline: 0,
             len: 0,
             outcome: 0,
@@ -137,79 +137,65 @@ impl Negotiation {
     }
 
     // Where the negotiation stands at a time.
+    #[tactic(auto, unfolding(crate::specs::Rounds::status_of, refusal::specs::Choice::pick))]
     pub fn status(self, pending: bool, now: u64) -> u32
         ensures { result ≡ status_of self pending now }
     {
-        let outcome = self.outcome;
-        if outcome != 0 {
-            return outcome;
+        if self.outcome != 0 {
+            self.outcome
+        } else if self.len == 0 {
+            NONE
+        } else if !pending {
+            CLOSED
+        } else if self.deadline < now {
+            EXPIRED
+        } else {
+            OPEN
         }
-        let count = self.len;
-        if count == 0 {
-            return NONE;
-        }
-        if !pending {
-            return CLOSED;
-        }
-        let deadline = self.deadline;
-        if deadline < now {
-            return EXPIRED;
-        }
-        OPEN
     }
 
-    // The number of what stands against one more round, 0 where nothing does.
-    pub fn refusal(self, limit: u32, pending: bool, now: u64, round: u32) -> u64
-        ensures { result ≡ first (negotiable limit self pending now round) }
+    // Whether one more round can be put down: the offer is Pending, the negotiation None or Open, and its rounds are as many as expected
+    // and fewer than the limit.
+    pub fn negotiable(self, limit: u32, pending: bool, now: u64, round: u32) -> Result<(), Refusal>
+        ensures { result ≡ passing (negotiable limit self pending now round) }
     {
         if !pending {
-            return refusal::INVALID_TRANSITION;
+            return Err(Refusal::InvalidTransition);
         }
-        let status = self.status(pending, now);
-        if OPEN < status {
-            return refusal::INVALID_TRANSITION;
+        if OPEN < self.status(pending, now) {
+            return Err(Refusal::InvalidTransition);
         }
-        let count = self.len;
-        if count != round {
-            return refusal::INVALID_INPUT;
+        if self.len != round {
+            return Err(Refusal::InvalidInput);
         }
-        if limit <= count {
-            return refusal::INVALID_TRANSITION;
+        if limit <= self.len {
+            return Err(Refusal::InvalidTransition);
         }
-        0
+        Ok(())
     }
 
     // One round more; the first sets the deadline.
+    #[tactic(auto, unfolding(crate::specs::Rounds::added_of, refusal::specs::Choice::pick))]
     pub fn added(mut self, r: Round, window: u64) -> Negotiation
         ensures { result ≡ added_of round_slots self r window }
     {
-        let count = self.len;
-        if ROUND_SLOTS <= count {
+        if ROUND_SLOTS <= self.len {
             return self;
         }
-        let i = count as usize;
-        let time = r.time;
-        let old = self.deadline;
-        let d = deadline_after(count, time, window, old);
-        self.rounds[i] = r;
-        self.len = count + 1;
-        self.deadline = d;
+        self.deadline = deadline_after(self.len, r.time, window, self.deadline);
+        self.rounds[self.len as usize] = r;
+        self.len += 1;
         self
     }
 
     // Accepted is stored where there are rounds and no outcome.
+    #[tactic(auto, unfolding(crate::specs::Rounds::accepted_of, refusal::specs::Choice::pick))]
     pub fn accepted(mut self) -> Negotiation
         ensures { result ≡ accepted_of self }
     {
-        let count = self.len;
-        if count == 0 {
-            return self;
+        if self.len != 0 && self.outcome == 0 {
+            self.outcome = ACCEPTED;
         }
-        let outcome = self.outcome;
-        if outcome != 0 {
-            return self;
-        }
-        self.outcome = ACCEPTED;
         self
     }
 
@@ -222,60 +208,43 @@ impl Negotiation {
     }
 
     // Whether the originator's latest round has these terms.
+    #[tactic(auto, unfolding(crate::specs::Rounds::agrees_of, crate::specs::Rounds::matches, refusal::specs::Choice::pick))]
     pub fn agrees(self, t: Terms) -> bool
         ensures { result ≡ agrees_of round_slots self t }
     {
-        let count = self.len;
-        if ROUND_SLOTS < count {
+        if ROUND_SLOTS < self.len {
             return false;
         }
-        let mut i = count as usize;
-        while 0 < i {
-            i -= 1;
+        for i in (0..self.len as usize).rev() {
             let r = self.rounds[i];
-            let party = r.party;
-            if party == ORIGINATOR {
-                let u = r.terms();
-                return terms::same_terms(u, t);
+            if r.party == ORIGINATOR {
+                return terms::same_terms(r.terms(), t);
             }
         }
         false
     }
 
     // In range, with at most so many rounds and rows past them zero.
+    #[tactic(auto, unfolding(crate::specs::Rounds::negotiation_sound))]
     pub fn sound(self, limit: u32) -> bool
         ensures tested { result ≡ negotiation_sound round_slots limit self }
         ensures whole { Whole round_slots self }
     {
-        let n = self.len as usize;
-        let mut ok = true;
-        let mut i = 0;
-        while i < 16 {
-            let r = self.rounds[i];
-            let fits = r.fits(i < n);
-            ok = ok & fits;
-            i += 1;
+        for (i, r) in self.rounds.iter().enumerate() {
+            if !r.fits(i < self.len as usize) {
+                return false;
+            }
         }
-        let outcome = self.outcome;
-        (n <= limit as usize) & ok & ((outcome == 0) | ((2 <= outcome) & (outcome <= 4)))
+        self.len <= limit
+            && (self.outcome == NONE || (CLOSED <= self.outcome && self.outcome <= EXPIRED))
     }
 
     // Whether every number is 0.
+    #[tactic(auto, unfolding(crate::specs::Rounds::negotiation_zero))]
     pub fn zero(self) -> bool
         ensures tested { result ≡ negotiation_zero round_slots self }
         ensures whole { Whole round_slots self }
     {
-        let mut ok = true;
-        let mut i = 0;
-        while i < 16 {
-            let r = self.rounds[i];
-            let zero = r.zero();
-            ok = ok & zero;
-            i += 1;
-        }
-        let deadline = self.deadline;
-        let count = self.len;
-        let outcome = self.outcome;
-        ok & (deadline == 0) & (count == 0) & (outcome == 0)
+        self == Negotiation::none()
     }
 }

@@ -20,9 +20,9 @@ use Rattle.negotiation.specs.Rounds.{round_slots, negotiable, round_of, added_of
 use Rattle.negotiation.specs.Laws.{stored, round_sound_lem, added_sound, added_whole, closed_sound, closed_whole, accepted_sound, accepted_whole}
 use Rattle.negotiation.specs.declared.Negotiation.{Negotiation}
 use Rattle.account.specs.declared.Account.{Account}
-use Rattle.invoice.specs.declared.SeenInvoice.{SeenInvoice}
+use Rattle.invoice.specs.Seen.{SeenInvoice}
 use Rattle.offer.specs.declared.Deal.{Deal}
-use Rattle.offer.specs.declared.SeenDeal.{SeenDeal}
+use Rattle.offer.specs.Seen.{SeenDeal}
 use Rattle.offer.specs.Offer.{pending, with_funded, with_status, with_repaid, with_terms, settled_deal, amended_deal, countered_deal}
 use Rattle.offer.specs.Rules.{withdraw_of, reject_of, amend_checks, counter_checks, standing, outcome_at, close_of, schedule_of, status_update_of, repaid_update_of}
 use Rattle.offer.specs.Laws.{DealKept, kept_ranges, offer_kept, negotiation_kept, schedule_kept}

@@ -11,7 +11,6 @@ use Rattle.negotiation.specs.Rounds.{round_slots, no_negotiation, round_of, adde
 use Rattle.negotiation.specs.declared.Negotiation.{Negotiation}
 use Rattle.offer.specs.declared.Offer.{Offer}
 use Rattle.offer.specs.declared.Deal.{Deal}
-use Rattle.offer.specs.declared.DealPosted.{DealPosted}
 
 abbrev pub no_offer : Offer
 no_offer = record { terms = record { amount = pos 0; rate = 0; duration = 0 }; invoice = 0; lender = 0; expires = 0; funded = 0; repaid = pos 0; status = 0 }
@@ -84,6 +83,3 @@ offer_zero o =
 
 unfoldable pub deal_zero : Deal → Bool
 deal_zero d = (offer_zero d.offer && negotiation_zero round_slots d.negotiation) && schedule_zero d.schedule
-
-abbrev pub posted : ℕ → Deal → DealPosted
-posted n d = record { answer = n; row = d }

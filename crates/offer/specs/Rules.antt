@@ -13,11 +13,11 @@ use Rattle.terms.specs.Installment.{installment_of, none_to_pay}
 use Rattle.terms.specs.declared.Terms.{Terms}
 use Rattle.negotiation.specs.Rounds.{status_of, negotiable, closed_as}
 use Rattle.account.specs.declared.Account.{Account}
-use Rattle.account.specs.declared.SeenAccount.{SeenAccount}
+use Rattle.account.specs.Seen.{SeenAccount}
 use Rattle.invoice.specs.Invoice.{invoice_pending, covers}
-use Rattle.invoice.specs.declared.SeenInvoice.{SeenInvoice}
+use Rattle.invoice.specs.Seen.{SeenInvoice}
 use Rattle.offer.specs.declared.Deal.{Deal}
-use Rattle.offer.specs.declared.SeenDeal.{SeenDeal}
+use Rattle.offer.specs.Seen.{SeenDeal}
 use Rattle.offer.specs.Offer.{pending, expired, with_offer, with_status, with_repaid, with_negotiation, with_schedule}
 
 -- The terms check has two parts: the ranges, and the amount against the invoice's, where it is held to it

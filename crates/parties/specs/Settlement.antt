@@ -5,7 +5,7 @@ use Rattle.refusal.specs.Rule.{Rule, next}
 use Rattle.terms.specs.declared.Terms.{Terms}
 use Rattle.table.specs.Tables.{Table, find, adjust}
 use Rattle.account.specs.declared.Account.{Account}
-use Rattle.account.specs.declared.SeenAccount.{SeenAccount}
+use Rattle.account.specs.Seen.{SeenAccount}
 use Rattle.account.specs.Rules.{debit_of, credit_of, accept_of}
 use Rattle.account.specs.Seen.{seen_account}
 

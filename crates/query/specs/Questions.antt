@@ -1,21 +1,20 @@
 -- Many questions of one book: each has a code and two arguments, an id and a time, and its reply is the one that the single query gives.
-use Rattle.std.specs.Prelude.{ℕ, zero, suc, ◌*◌, true, List, [], ◌∷◌, length, eqb, ltb, ◌≡◌}
+use Rattle.std.specs.Prelude.{ℕ, zero, suc, ◌*◌, true, Result, List, [], ◌∷◌, length, eqb, ltb, ◌≡◌}
 use Rattle.refusal.specs.Choice.{pick}
-use Rattle.refusal.specs.Refusal.{number, ◌gives◌, invalid_input, buffer_short, book_unsound}
+use Rattle.refusal.specs.declared.Refusal.{Refusal}
+use Rattle.refusal.specs.Refusal.{◌gives◌, invalid_input, buffer_short}
 use Rattle.refusal.specs.Rule.{Rule, sure, answered}
 use Rattle.refusal.specs.Placed.{placed}
 use Rattle.money.specs.Range.{bits_of}
 use Rattle.account.specs.declared.Account.{Account}
-use Rattle.account.specs.declared.SeenAccount.{SeenAccount}
-use Rattle.offer.specs.declared.SeenDeal.{SeenDeal}
+use Rattle.account.specs.Seen.{SeenAccount}
+use Rattle.offer.specs.Seen.{SeenDeal}
 use Rattle.totals.specs.declared.Totals.{Totals}
 use Rattle.settings.specs.declared.Settings.{Settings}
-use Rattle.lists.specs.Listing.{Reply, told}
+use Rattle.lists.specs.Listing.{Reply, reply_of, one_value, told}
 use Rattle.lists.specs.Taking.{spread}
 use Rattle.rules.specs.Model.{Model, account_in, offer_in}
 use Rattle.book.specs.declared.Book.{Book}
-use Rattle.query.specs.declared.Answered.{Answered}
-use Rattle.query.specs.declared.Answered.TheVariants as Told
 use Rattle.query.specs.Reads.{on_sound, reply, offer_read, lender_read, schedule_read, deadline_read, status_read, due_read, count_read, window_read, seats_read, threshold_read, pause_read, totals_read}
 
 -- an account's purse, zeros where it is unopened: balance, allowance, offered total, accepted total
@@ -105,10 +104,8 @@ answers_rule t m l = record {
 abbrev pub answers_read : Book → List ℕ → List ℕ → Reply × List ℕ
 answers_read b words l = answered told ([], l) (on_sound b (λ m. answers_rule (threes words) m l))
 
-abbrev pub answered_says : Answered → Reply
-answered_says (Told.Answers n) = (0, n ∷ [])
-answered_says Told.Short = (number buffer_short, [])
-answered_says Told.Unsound = (number book_unsound, [])
+abbrev pub answered_says : Result ℕ Refusal → Reply
+answered_says r = reply_of one_value r
 
 -- ── What is seen of a book for one question ──
 pub record Shows (m : Model) (id : ℕ) (deal : SeenDeal) (account : SeenAccount) (totals : Totals) (settings : Settings) (count : ℕ) : Type 0 where

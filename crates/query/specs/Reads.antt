@@ -9,7 +9,7 @@ use Rattle.table.specs.Tables.{Table}
 use Rattle.negotiation.specs.declared.Negotiation.{Negotiation}
 use Rattle.offer.specs.Rules.{standing}
 use Rattle.offer.specs.declared.Offer.{Offer}
-use Rattle.offer.specs.declared.SeenDeal.{SeenDeal}
+use Rattle.offer.specs.Seen.{SeenDeal}
 use Rattle.lists.specs.declared.Wanted.{Wanted}
 use Rattle.lists.specs.Listing.{Reply, ten_of, list_rule, told}
 use Rattle.lists.specs.Active.{active_of}

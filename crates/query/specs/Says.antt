@@ -1,53 +1,46 @@
 -- Document 01's number and values for each case of each answer
-use Rattle.std.specs.Prelude.{ℕ, Bool, not, [], ◌∷◌}
-use Rattle.refusal.specs.Refusal.{number, ◌gives◌, not_found, book_unsound}
-use Rattle.refusal.specs.Rule.{answered}
+use Rattle.std.specs.Prelude.{ℕ, Option, Some, None, Result, List, []}
+use Rattle.refusal.specs.declared.Refusal.{Refusal}
+use Rattle.refusal.specs.Rule.{said}
+use Rattle.installments.specs.declared.Due.{Due}
+use Rattle.negotiation.specs.Rounds.{no_negotiation}
 use Rattle.negotiation.specs.declared.Negotiation.{Negotiation}
-use Rattle.lists.specs.Listing.{Reply, in_order}
-use Rattle.query.specs.declared.NumberAnswer.{NumberAnswer}
-use Rattle.query.specs.declared.NumberAnswer.TheVariants as Number
-use Rattle.query.specs.declared.InstallmentDue.{InstallmentDue}
-use Rattle.query.specs.declared.InstallmentDue.TheVariants as Installment
-use Rattle.query.specs.declared.OfferAnswer.{OfferAnswer}
-use Rattle.query.specs.declared.OfferAnswer.TheVariants as Offer
-use Rattle.query.specs.declared.ScheduleAnswer.{ScheduleAnswer}
-use Rattle.query.specs.declared.ScheduleAnswer.TheVariants as Schedule
-use Rattle.query.specs.declared.LenderAnswer.{LenderAnswer}
-use Rattle.query.specs.declared.LenderAnswer.TheVariants as Lender
-use Rattle.query.specs.declared.TotalsAnswer.{TotalsAnswer}
-use Rattle.query.specs.declared.TotalsAnswer.TheVariants as Totals
-use Rattle.query.specs.declared.NegotiationAnswer.{NegotiationAnswer}
-use Rattle.query.specs.Reads.{reply, due_order, lender_order, schedule_order, totals_order}
+use Rattle.lists.specs.declared.OfferNumbers.{OfferNumbers}
+use Rattle.lists.specs.Listing.{Reply, reply_of, one_value, in_order}
+use Rattle.query.specs.declared.ScheduleNumbers.{ScheduleNumbers}
+use Rattle.query.specs.declared.LenderNumbers.{LenderNumbers}
+use Rattle.query.specs.declared.TotalsNumbers.{TotalsNumbers}
+use Rattle.query.specs.Reads.{due_order, lender_order, schedule_order, totals_order}
 
-abbrev pub number_says : NumberAnswer → Reply
-number_says (Number.Number n) = (0, n ∷ [])
-number_says Number.Unsound = (number book_unsound, [])
+abbrev pub number_says : Result ℕ Refusal → Reply
+number_says r = reply_of one_value r
 
-abbrev pub installment_says : InstallmentDue → Reply
-installment_says (Installment.Due n x) = (0, due_order (n, x))
-installment_says Installment.Unsound = (number book_unsound, [])
+abbrev pub due_values : Due → List ℕ
+due_values d = due_order (d.number, d.owed)
 
--- a number that is read of a sound book alone
-abbrev pub number_told : Bool → ℕ → Reply
-number_told sound n = answered reply [] (record { checks = (not sound gives book_unsound) ∷ []; done = n ∷ [] })
+abbrev pub installment_says : Result Due Refusal → Reply
+installment_says r = reply_of due_values r
 
-abbrev pub offer_says : OfferAnswer → Reply
-offer_says (Offer.Offer n) = (0, in_order n)
-offer_says Offer.Absent = (number not_found, [])
-offer_says Offer.Unsound = (number book_unsound, [])
+abbrev pub offer_says : Result OfferNumbers Refusal → Reply
+offer_says r = reply_of in_order r
 
-abbrev pub schedule_says : ScheduleAnswer → Reply
-schedule_says (Schedule.Schedule n) = (0, schedule_order n)
-schedule_says Schedule.Absent = (0, [])
-schedule_says Schedule.Unsound = (number book_unsound, [])
+-- no values where there is no schedule
+abbrev pub schedule_row : Option ScheduleNumbers → List ℕ
+schedule_row None = []
+schedule_row (Some n) = schedule_order n
 
-abbrev pub lender_says : LenderAnswer → Reply
-lender_says (Lender.Lender n) = (0, lender_order n)
-lender_says Lender.Unsound = (number book_unsound, [])
+abbrev pub schedule_says : Result (Option ScheduleNumbers) Refusal → Reply
+schedule_says r = reply_of schedule_row r
 
-abbrev pub totals_says : TotalsAnswer → Reply
-totals_says (Totals.Totals n) = (0, totals_order n)
-totals_says Totals.Unsound = (number book_unsound, [])
+abbrev pub lender_says : Result LenderNumbers Refusal → Reply
+lender_says r = reply_of lender_order r
 
-abbrev pub negotiation_told : ℕ → Negotiation → NegotiationAnswer
-negotiation_told n g = record { answer = n; negotiation = g }
+abbrev pub totals_says : Result TotalsNumbers Refusal → Reply
+totals_says r = reply_of totals_order r
+
+abbrev pub negotiation_told : ℕ → Negotiation → ℕ × Negotiation
+negotiation_told n g = (n, g)
+
+-- a refusal's number has an empty negotiation beside it
+abbrev pub negotiation_says : Result Negotiation Refusal → ℕ × Negotiation
+negotiation_says r = said negotiation_told no_negotiation r

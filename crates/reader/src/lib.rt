@@ -16,7 +16,7 @@ pub struct Reader<'a> {
 }
 
 // What stands at the reader's place.
-pub fn step<'a>(r: Reader<'a>) -> Decoded
+pub fn step(r: Reader<'_>) -> Decoded
     ensures { reading result ≡ read_at r.entry.edition r.entry.src.now r.entry.at }
 {
     journal::decode(r.edition, r.src, r.at)

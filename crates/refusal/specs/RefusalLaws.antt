@@ -1,25 +1,27 @@
 -- A refusal is no acceptance, and how a function that gives the first refusal answers.
 use Rattle.std.specs.Prelude.{ℕ, ◌≡◌, refl, Bool, true, false, List, [], ◌∷◌, eqb}
-use Rattle.refusal.specs.Refusal.{Refusal, paused, blacklisted, invalid_input, not_found, already_exists, unauthorized, invalid_transition, offer_expired, allowance_short, balance_short, out_of_range, no_room, journal_malformed, buffer_short, book_unsound, number, Check, ◌gives◌, first}
+use Rattle.refusal.specs.declared.Refusal.{Refusal}
+use Rattle.refusal.specs.declared.Refusal.TheVariants.{Paused, Blacklisted, InvalidInput, NotFound, AlreadyExists, Unauthorized, InvalidTransition, OfferExpired, AllowanceShort, BalanceShort, OutOfRange, NoRoom, JournalMalformed, BufferShort, BookUnsound}
+use Rattle.refusal.specs.Refusal.{number, Check, ◌gives◌, first}
 use Rattle.refusal.specs.ChoiceLaws.{on, off}
 
 -- a refusal is no acceptance
 pub refusal_not-0 : (n : Refusal) → eqb (number n) 0 ≡ false
-refusal_not-0 paused = refl
-refusal_not-0 blacklisted = refl
-refusal_not-0 invalid_input = refl
-refusal_not-0 not_found = refl
-refusal_not-0 already_exists = refl
-refusal_not-0 unauthorized = refl
-refusal_not-0 invalid_transition = refl
-refusal_not-0 offer_expired = refl
-refusal_not-0 allowance_short = refl
-refusal_not-0 balance_short = refl
-refusal_not-0 out_of_range = refl
-refusal_not-0 no_room = refl
-refusal_not-0 journal_malformed = refl
-refusal_not-0 buffer_short = refl
-refusal_not-0 book_unsound = refl
+refusal_not-0 Paused = refl
+refusal_not-0 Blacklisted = refl
+refusal_not-0 InvalidInput = refl
+refusal_not-0 NotFound = refl
+refusal_not-0 AlreadyExists = refl
+refusal_not-0 Unauthorized = refl
+refusal_not-0 InvalidTransition = refl
+refusal_not-0 OfferExpired = refl
+refusal_not-0 AllowanceShort = refl
+refusal_not-0 BalanceShort = refl
+refusal_not-0 OutOfRange = refl
+refusal_not-0 NoRoom = refl
+refusal_not-0 JournalMalformed = refl
+refusal_not-0 BufferShort = refl
+refusal_not-0 BookUnsound = refl
 
 -- how a function that gives the first refusal answers: a check that fails, one that passes, and none left
 pub fails : {t : Bool} (n : Refusal) (l : List Check) → t ≡ true → number n ≡ first ((t gives n) ∷ l)

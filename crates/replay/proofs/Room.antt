@@ -6,7 +6,9 @@ use Prim.Native.Nat.{ℕ, zero, suc, ◌+◌, ◌-◌, ◌*◌, ◌≤◌, ◌<�
 use Rattle.std.proofs.Math.ListN.{length-append}
 use Rattle.refusal.specs.Choice.{pick}
 use Rattle.refusal.specs.ChoiceLaws.{pick_on}
-use Rattle.refusal.specs.Refusal.{Refusal, paused, blacklisted, invalid_input, not_found, already_exists, unauthorized, invalid_transition, offer_expired, allowance_short, balance_short, out_of_range, no_room, journal_malformed, buffer_short, book_unsound, number, Check, first}
+use Rattle.refusal.specs.declared.Refusal.{Refusal}
+use Rattle.refusal.specs.declared.Refusal.TheVariants.{Paused, Blacklisted, InvalidInput, NotFound, AlreadyExists, Unauthorized, InvalidTransition, OfferExpired, AllowanceShort, BalanceShort, OutOfRange, NoRoom, JournalMalformed, BufferShort, BookUnsound}
+use Rattle.refusal.specs.Refusal.{number, Check, first}
 use Rattle.refusal.specs.Rule.{after}
 use Rattle.money.specs.Facts.{both}
 use Rattle.edition.specs.Edition.{first_edition, latest_edition, listed}
@@ -47,21 +49,21 @@ listing_room n = n + extra
 
 -- ── An answer has two digits at most ──────────────────────────────
 number_most : (n : Refusal) → number n < 100
-number_most paused = omega arith
-number_most blacklisted = omega arith
-number_most invalid_input = omega arith
-number_most not_found = omega arith
-number_most already_exists = omega arith
-number_most unauthorized = omega arith
-number_most invalid_transition = omega arith
-number_most offer_expired = omega arith
-number_most allowance_short = omega arith
-number_most balance_short = omega arith
-number_most out_of_range = omega arith
-number_most no_room = omega arith
-number_most journal_malformed = omega arith
-number_most buffer_short = omega arith
-number_most book_unsound = omega arith
+number_most Paused = omega arith
+number_most Blacklisted = omega arith
+number_most InvalidInput = omega arith
+number_most NotFound = omega arith
+number_most AlreadyExists = omega arith
+number_most Unauthorized = omega arith
+number_most InvalidTransition = omega arith
+number_most OfferExpired = omega arith
+number_most AllowanceShort = omega arith
+number_most BalanceShort = omega arith
+number_most OutOfRange = omega arith
+number_most NoRoom = omega arith
+number_most JournalMalformed = omega arith
+number_most BufferShort = omega arith
+number_most BookUnsound = omega arith
 
 first_by : (t : Bool) (n : Refusal) (k : ℕ) → k < 100 → pick t (number n) k < 100
 unfolding pick

@@ -1,5 +1,5 @@
 -- What a record that is read is: 25 bytes at least, and a command that lets in no id past 64 bits. Assumes nothing.
-use Rattle.std.specs.Prelude.{◌≡◌, refl, Bool, true, false, ◌&&◌, List, [], ◌∷◌, ℕ, ◌+◌, ◌*◌, ◌≤◌, ◌<◌, eqb, leb, length, get_or, drop}
+use Rattle.std.specs.Prelude.{◌≡◌, refl, Bool, true, false, ◌&&◌, List, [], ◌∷◌, ℕ, ◌+◌, ◌*◌, ◌≤◌, ◌<◌, eqb, leb, length, get_or, drop, Some}
 use Rattle.std.proofs.Common.{arith, leb-true}
 use Rattle.refusal.specs.Choice.{pick}
 use Rattle.table.specs.Tables.{Table, adjust, insert, keys}
@@ -139,8 +139,8 @@ made_weighs (r ∷ rs) t v at next (a ▸ l) e h w = go (eqb t r.tag) w (made_we
 caller_low : (fs b : List ℕ) → well_in fs b ≡ true → get_or (numbers_in zeros fs b) 0x02 0 < 18446744073709551616
 unfolding top_of gathered_in pick
 caller_low fs b e =
-    let l : true ≡ true → (k : ℕ) → get_or (numbers_in zeros fs b) k 0 ≤ top_of k = rw e at (all_tops fs b) in
-    omega (arith, l refl 0x02)
+    let h : gathered_in fs b ≡ Some (numbers_in zeros fs b) = rw e refl in
+    omega (arith, all_tops fs b h 0x02)
 
 record_weighs : (e t : ℕ) (b : List ℕ) (at : ℕ) → Weighs at (record_at e t (fields_of e t) b at)
 unfolding record_at made fields_of Weighs pick

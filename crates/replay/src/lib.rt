@@ -10,13 +10,8 @@ ghost use Rattle.replay.specs.Text.{book_text, text_of, listing_on, listing_of, 
 ghost use Rattle.replay.specs.Bounded.{Bounded};
 ghost use Rattle.sheet.specs.Shown.{listed_in, shown_in};
 
-use account::SeenAccount;
 use book::Book;
-use invoice::SeenInvoice;
-use journal::{Decoded, Opened};
-use near::{Counts, Near};
-use offer::{Deal, SeenDeal};
-use parties::Parties;
+use journal::Decoded;
 use sheet::Pen;
 
 // How many bytes were written, or that the buffer is too short, or that the given book is not sound.
@@ -80,150 +75,31 @@ fn finish(
     }
 }
 
-// The records from a place on. The tables are locals: the rows that a command names are read where they stand, turned, and written
-// back there, and a row that came is let in. Each step keeps the tables as they must be, so that soundness is never tested.
+// The records from a place on. Each step keeps the book's tables as they must be, so that soundness is never tested.
+// The step is the length of the record that was read, so that a `for` has nothing to go over.
 fn records(s: &[u8], out: &mut [u8], ink: bool, start: Pen, book: Book, first: usize) -> Told
     requires { (first ≤ length s.now) × Shelved book }
     ensures outcome { result.outcome ≡ outcome_of 0 (replay_from s.now first (model_of book)) }
     ensures wrote { Wrote ink (text_of 0 (replay_from s.now first (model_of book))) out.old start out.new result.pen }
 {
-    let mut accounts = book.accounts;
-    let mut invoices = book.invoices;
-    let mut offers = book.offers;
-    let mut totals = book.totals;
-    let mut settings = book.settings;
+    let mut book = book;
     let mut pen = start;
     let mut at = first;
     let mut k: usize = 0;
     loop {
-        let d = reader::read(settings.edition, s, at);
-        match d {
+        match reader::read(book.settings.edition, s, at) {
             Decoded::Command(c, next) => {
-                let names = c.names();
-                let id = names.offer;
-                let po = table::spot_by(&offers.ids, offers.count, id);
-                let io = po.at;
-                let mut deal = Deal::none();
-                if po.here {
-                    let o = offers.rows[io];
-                    let g = offers.negotiations[io];
-                    let p = offers.schedules[io];
-                    deal.offer = o;
-                    deal.negotiation = g;
-                    deal.schedule = p;
-                }
-                let x = SeenDeal {
-                    here: po.here,
-                    row: deal,
-                };
-                let np = names.paper;
-                let key = np.key(x.row.offer.invoice);
-                let pi = table::spot_by(&invoices.ids, invoices.count, key);
-                let ii = pi.at;
-                let v = invoices.rows[ii];
-                let seen = SeenInvoice::at(pi.here, v);
-                let ka = names.first;
-                let nb = names.second;
-                let kb = nb.key(x.row.offer.lender, seen.row.originator);
-                let pa = table::spot_by(&accounts.ids, accounts.count, ka);
-                let ia = pa.at;
-                let va = accounts.rows[ia];
-                let sa = SeenAccount::at(pa.here, va);
-                let pb = table::spot_by(&accounts.ids, accounts.count, kb);
-                let ib = pb.at;
-                let vb = accounts.rows[ib];
-                let sb = SeenAccount::at(pb.here, vb);
-                let one = ka.same(kb);
-                let near = Near {
-                    parties: Parties {
-                        first: sa,
-                        second: sb,
-                        one,
-                    },
-                    paper: seen,
-                    deal: x,
-                    totals,
-                    settings,
-                };
-                let rows = Counts {
-                    accounts: accounts.count,
-                    invoices: invoices.count,
-                    offers: offers.count,
-                };
-                let turn = near.turn(c, rows);
-                pen = lines::put_answer(out, pen, ink, (k + 1) as u64, turn.answer);
-                totals = turn.near.totals;
-                settings = turn.near.settings;
-                let rb = turn.near.parties.second.row;
-                let mb = rb.over(pb.here, vb);
-                accounts.rows[ib] = mb;
-                let old = accounts.rows[ia];
-                let ra = turn.near.parties.first.row;
-                let ma = ra.over(pa.here, old);
-                accounts.rows[ia] = ma;
-                let ri = turn.near.paper.row;
-                let mi = ri.over(pi.here, v);
-                invoices.rows[ii] = mi;
-                if po.here {
-                    let offer = turn.near.deal.row.offer;
-                    let talk = turn.near.deal.row.negotiation;
-                    let plan = turn.near.deal.row.schedule;
-                    offers.rows[io] = offer;
-                    offers.negotiations[io] = talk;
-                    offers.schedules[io] = plan;
-                }
-                if !pa.here & turn.near.parties.first.here {
-                    let more = accounts.let_in(ka.id(), ra);
-                    accounts = more;
-                }
-                if !pi.here & turn.near.paper.here {
-                    let more = invoices.let_in(key.id(), ri);
-                    invoices = more;
-                }
-                if !po.here & turn.near.deal.here {
-                    let count = offers.count;
-                    let slot = po.slot;
-                    let mut j = count;
-                    while slot < j {
-                        let i = j - 1;
-                        offers.ids[j] = offers.ids[i];
-                        offers.rows[j] = offers.rows[i];
-                        offers.negotiations[j] = offers.negotiations[i];
-                        offers.schedules[j] = offers.schedules[i];
-                        j = i;
-                    }
-                    let new_offer = turn.near.deal.row.offer;
-                    let new_talk = turn.near.deal.row.negotiation;
-                    let new_plan = turn.near.deal.row.schedule;
-                    offers.ids[j] = id.id();
-                    offers.rows[j] = new_offer;
-                    offers.negotiations[j] = new_talk;
-                    offers.schedules[j] = new_plan;
-                    offers.count = count + 1;
-                }
+                let answer = book::number_of(book.obey(c));
                 k += 1;
+                pen = lines::put_answer(out, pen, ink, k as u64, answer);
                 at = next;
             }
             Decoded::Malformed(tag) => {
                 let p = lines::put_mark(out, pen, ink, (k + 1) as u64, tag as u64);
-                let b = Book {
-                    accounts,
-                    invoices,
-                    offers,
-                    totals,
-                    settings,
-                };
-                return finish(out, p, ink, b, k, refusal::JOURNAL_MALFORMED, tag);
+                return finish(out, p, ink, book, k, refusal::JOURNAL_MALFORMED, tag);
             }
             Decoded::End => {
-                let b = Book {
-                    accounts,
-                    invoices,
-                    offers,
-                    totals,
-                    settings,
-                };
-                return finish(out, pen, ink, b, k, 0, 0);
+                return finish(out, pen, ink, book, k, 0, 0);
             }
         }
     }
@@ -239,12 +115,10 @@ fn walk(s: &[u8], out: &mut [u8], ink: bool, book: Book) -> Told
         at: 0,
         short: false,
     };
-    let settings = book.settings;
-    let h = journal::header(s);
-    if let Opened::Records(edition, first) = h {
-        if edition == settings.edition {
-            let past = lines::put_edition(out, pen, ink, edition as u64);
-            return records(s, out, ink, past, book, first);
+    if let Ok(header) = journal::header(s) {
+        if header.edition == book.settings.edition {
+            let past = lines::put_edition(out, pen, ink, header.edition as u64);
+            return records(s, out, ink, past, book, header.first);
         }
     }
     let p = lines::put_mark(out, pen, ink, 0, 0);
@@ -255,11 +129,10 @@ fn walk(s: &[u8], out: &mut [u8], ink: bool, book: Book) -> Told
 fn fresh_for(s: &[u8]) -> Book
     ensures { result ≡ stored (fresh_model (edition_of s.now)) }
 {
-    let h = journal::header(s);
-    let Opened::Records(edition, _) = h else {
+    let Ok(header) = journal::header(s) else {
         return Book::of_edition(edition::FIRST);
     };
-    Book::of_edition(edition)
+    Book::of_edition(header.edition)
 }
 
 // A fresh book of the journal's edition and then its commands, up to its end or to a malformed record.

@@ -11,7 +11,8 @@ use Rattle.std.proofs.Math.Dec.{eqb}
 use borrow.Author.Tests.{le-leb, lt-leb, eq-eqb, leb-true}
 use Rattle.refusal.specs.Choice.{pick}
 use Rattle.refusal.specs.ChoiceLaws.{on, off, not_on, not_off}
-use Rattle.refusal.specs.Refusal.{Refusal, number, journal_malformed, buffer_short}
+use Rattle.refusal.specs.declared.Refusal.{Refusal}
+use Rattle.refusal.specs.Refusal.{number, journal_malformed, buffer_short}
 use Rattle.refusal.specs.RefusalLaws.{refusal_not-0, fails, passes, none_left}
 use Rattle.refusal.specs.Placed.{placed}
 use Rattle.refusal.specs.PlacedLaws.{placed_twice, length-placed}

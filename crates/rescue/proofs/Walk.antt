@@ -1,5 +1,5 @@
 -- How the walk over the outer fields goes, and what a pass over them writes. Assumes nothing.
-use Rattle.std.specs.Prelude.{◌≡◌, Bool, List, [], ◌∷◌, ◌++◌, ℕ, zero, suc, ◌+◌, ◌-◌, ◌≤◌, ◌<◌, length, take, drop}
+use Rattle.std.specs.Prelude.{◌≡◌, Bool, List, [], ◌∷◌, ◌++◌, ℕ, zero, suc, ◌+◌, ◌-◌, ◌≤◌, ◌<◌, length, take, drop, Some, None}
 use Rattle.std.proofs.Math.Path.{refl, sym}
 use Rattle.std.proofs.Common.{ap, ◌∙◌, append_assoc, add-zero, arith, length-append, take-append-drop, length-take-le, drop-drop}
 use Rattle.std.proofs.Math.Bool.{true, false}
@@ -8,7 +8,10 @@ use borrow.Author.Tests.{le-leb, lt-leb, leb-true}
 use Rattle.wire.specs.Field.{number_at}
 use Rattle.refusal.specs.Choice.{pick}
 use Rattle.refusal.specs.ChoiceLaws.{pick_on, pick_off, either}
-use Rattle.journal.specs.Answers.{Reading}
+use Rattle.command.specs.declared.Command.{Command}
+use Rattle.journal.specs.Answers.{Reading, reading}
+use Rattle.journal.specs.declared.Decoded.{Decoded}
+use Rattle.journal.specs.declared.Decoded.TheVariants.{Command as Read, Malformed, End}
 use Rattle.journal.specs.Format.{read_at}
 use Rattle.rescue.specs.Rescue.{outer, fits, is_record, stands, Piece, piece_at, pieces_by, pieces_from, bytes_in, kept_in, lost_in}
 
@@ -29,38 +32,44 @@ module _ (s : List ℕ) (at : ℕ) where
   outer_at = rw (drop-drop 1 at s)
 
   -- what a step of the code answers: a field that does not fit, and one that does
-  pub no_step : {n : ℕ} → n ≡ outer (drop at s) → length s - at < n → 0 ≡ pick (fits (drop at s)) (outer (drop at s)) 0
+  pub no_step : {n : ℕ} → n ≡ outer (drop at s) → length s - at < n → None ≡ pick (fits (drop at s)) (Some (outer (drop at s))) None
   unfolding fits
   no_step e h = sym (pick_off _ _ (rw length-drop (lt-leb (outer (drop at s)) (length s - at) (omega arith))))
 
-  pub a_step : {n : ℕ} → n ≡ outer (drop at s) → n ≤ length s - at → n ≡ pick (fits (drop at s)) (outer (drop at s)) 0
+  pub a_step : {n : ℕ} → n ≡ outer (drop at s) → n ≤ length s - at → Some n ≡ pick (fits (drop at s)) (Some (outer (drop at s))) None
   unfolding fits
-  a_step e h = e ∙ sym (pick_on _ _ (rw length-drop (le-leb (outer (drop at s)) (length s - at) (omega arith))))
+  a_step e h = ap (λ (n : ℕ). Some n) e ∙ sym (pick_on _ _ (rw length-drop (le-leb (outer (drop at s)) (length s - at) (omega arith))))
 
 pub stands_is : (e : ℕ) (s : List ℕ) (at : ℕ) {r : Reading} → read_at e s at ≡ r → is_record r ≡ stands e s at
 unfolding stands
 stands_is e s at q = ap is_record (sym q)
+
+pub stands_not : (e : ℕ) (s : List ℕ) (at : ℕ) {d : Decoded} → read_at e s at ≡ reading d → ((c : Command) (n : ℕ) → d ≡ Read c n → ⊥) → false ≡ stands e s at
+unfolding stands
+stands_not e s at {d = Read c n} q h = absurd (h c n refl)
+stands_not e s at {d = Malformed n} q h = sym (ap is_record q)
+stands_not e s at {d = End} q h = sym (ap is_record q)
 
 -- a step of the code: it goes on by a field that fits, and stops where there is none
 pub record Steps (b : List ℕ) (n : ℕ) : Type 0 where
   pub fit : fits b ≡ true
   pub size : n ≡ outer b
 
-module _ (b : List ℕ) {n : ℕ} (e : n ≡ pick (fits b) (outer b) 0) where
-  pub stepped : (n ≡ 0 → ⊥) → Steps b n
+module _ (b : List ℕ) where
+  pub stepped : {n : ℕ} → Some n ≡ pick (fits b) (Some (outer b)) None → Steps b n
   unfolding pick
-  stepped h = go (fits b) refl e
+  stepped {n} e = go (fits b) refl e
     where
-      go : (t : Bool) → fits b ≡ t → n ≡ pick t (outer b) 0 → Steps b n
-      go true q r = record { fit = q; size = r }
-      go false q r = absurd (h r)
+      go : (t : Bool) → fits b ≡ t → Some n ≡ pick t (Some (outer b)) None → Steps b n
+      go true q r = record { fit = q; size = cc }
+      go false q r = absurd (cc)
 
-  pub stopped : n ≡ 0 → fits b ≡ false
-  unfolding pick outer
-  stopped h = go (fits b) refl e
+  pub stopped : None ≡ pick (fits b) (Some (outer b)) None → fits b ≡ false
+  unfolding pick
+  stopped e = go (fits b) refl e
     where
-      go : (t : Bool) → fits b ≡ t → n ≡ pick t (outer b) 0 → fits b ≡ false
-      go true q r = absurd (omega arith)
+      go : (t : Bool) → fits b ≡ t → None ≡ pick t (Some (outer b)) None → fits b ≡ false
+      go true q r = absurd (cc)
       go false q r = q
 
 pick_same : {A : Type 0} (t : Bool) (x y z : A) → (t ≡ true → x ≡ y) → pick t x z ≡ pick t y z

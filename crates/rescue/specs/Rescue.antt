@@ -1,13 +1,13 @@
 -- Document 02, k: what a rescue keeps of a journal, what it drops and where, what it leaves, and what it answers.
-use Rattle.std.specs.Prelude.{Bool, true, false, not, ◌&&◌, List, [], ◌∷◌, ◌++◌, ℕ, zero, suc, ◌+◌, length, take, drop, eqb, leb}
+use Rattle.std.specs.Prelude.{Bool, true, false, not, ◌&&◌, List, [], ◌∷◌, ◌++◌, ℕ, zero, suc, ◌+◌, length, take, drop, eqb, leb, Result, Ok, Err}
 use Rattle.refusal.specs.Choice.{pick}
 use Rattle.refusal.specs.Refusal.{number, journal_malformed, buffer_short, ◌gives◌, first}
 use Rattle.refusal.specs.Placed.{placed}
 use Rattle.wire.specs.Field.{number_at}
 use Rattle.journal.specs.Answers.{Reading, found, refused, ended}
 use Rattle.journal.specs.Format.{opening_of, read_at}
-use Rattle.rescue.specs.declared.Rescued.{Rescued}
-use Rattle.rescue.specs.declared.Rescued.TheVariants.{Clean, Malformed, Short}
+use Rattle.refusal.specs.declared.Refusal.{Refusal}
+use Rattle.rescue.specs.declared.Clean.{Clean}
 
 -- the size of the outer field that b begins with: tag, length and inside. A length that is cut counts as 0
 unfoldable pub outer : List ℕ → ℕ
@@ -105,10 +105,9 @@ pub record Answer : Type 0 where
 abbrev pub answer : ℕ → ℕ → ℕ → ℕ → Answer
 answer n size dropped left = record { number = n; size = size; dropped = dropped; left = left }
 
-abbrev pub said : Rescued → Answer
-said (Clean size dropped left) = answer 0 size dropped left
-said Malformed = answer (number journal_malformed) 0 0 0
-said Short = answer (number buffer_short) 0 0 0
+abbrev pub said : Result Clean Refusal → Answer
+said (Ok c) = answer 0 c.size c.dropped c.left
+said (Err r) = answer (number r) 0 0 0
 
 -- WHAT A RESCUE ANSWERS, and the two buffers at its end: as they were wherever it refuses
 unfoldable pub answer_for : List ℕ → List ℕ → List ℕ → Answer

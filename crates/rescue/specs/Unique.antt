@@ -1,19 +1,20 @@
 -- The numbers of an answer are those of one answer only: any two answers that the contract allows coincide. (The buffers stand in equations by themselves.)
-use Rattle.std.specs.Prelude.{◌≡◌, refl, eqb}
+use Rattle.std.specs.Prelude.{◌≡◌, refl, eqb, Result, Ok, Err}
 use Rattle.std.proofs.Common.{sym, ap, ◌∙◌}
 use Rattle.refusal.specs.Choice.{pick}
-use Rattle.rescue.specs.declared.Rescued.{Rescued}
-use Rattle.rescue.specs.declared.Rescued.TheVariants.{Clean, Malformed, Short}
+use Rattle.refusal.specs.declared.Refusal.{Refusal}
+use Rattle.refusal.specs.RefusalLaws.{refusal_not-0}
+use Rattle.journal.specs.Unique.{refusal_of, refusal_back}
+use Rattle.rescue.specs.declared.Clean.{Clean}
 use Rattle.rescue.specs.Rescue.{Answer, said}
 
-back : Answer → Rescued
-back a = pick (eqb a.number 0) (Clean a.size a.dropped a.left) (pick (eqb a.number 13) Malformed Short)
+back : Answer → Result Clean Refusal
+back a = pick (eqb a.number 0) (Ok (record { size = a.size; dropped = a.dropped; left = a.left })) (Err (refusal_of a.number))
 
-same : (r : Rescued) → back (said r) ≡ r
+same : (r : Result Clean Refusal) → back (said r) ≡ r
 unfolding back pick
-same (Clean n d l) = refl
-same Malformed = refl
-same Short = refl
+same (Ok c) = refl
+same (Err r) = rw (refusal_not-0 r, refusal_back r)
 
-pub one_rescued : {x y : Rescued} {a : Answer} → said x ≡ a → said y ≡ a → x ≡ y
+pub one_rescued : {x y : Result Clean Refusal} {a : Answer} → said x ≡ a → said y ≡ a → x ≡ y
 one_rescued {x} {y} e d = sym (same x) ∙ ap back (e ∙ sym d) ∙ same y

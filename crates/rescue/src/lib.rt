@@ -1,47 +1,43 @@
 // Rescue of a damaged journal: its well-formed records make a clean one, and the others are reported.
 #![tactic(auto)]
 
-ghost use Rattle.std.specs.Prelude.{◌≡◌, false, [], ◌∷◌, ◌+◌, ◌≤◌, ◌<◌, length, take, drop};
+ghost use Rattle.std.specs.Prelude.{◌≡◌, false, [], ◌∷◌, ◌+◌, ◌≤◌, ◌<◌, length, take, drop, Ok, Some, None};
 ghost use Rattle.refusal.specs.Choice.{pick};
 ghost use Rattle.refusal.specs.Placed.{placed};
 ghost use Rattle.rescue.specs.Rescue.{outer, fits, stands, pieces_from, dropped_in, said, answer_for, out_for, report_for};
 ghost use Rattle.rescue.specs.Swept.{Swept};
 
-use journal::{Decoded, Opened};
+use journal::Decoded;
+use refusal::Refusal;
 
-// How many bytes the clean journal has, how many records were dropped and how many bytes are left; or what is wrong.
-#[derive(Clone, Copy)]
-pub enum Rescued {
-    Clean(usize, usize, usize),
-    Malformed,
-    Short,
+// How many bytes the clean journal has, how many records were dropped and how many bytes are left.
+#[derive(Clone, Copy, Debug, PartialEq, Eq)]
+pub struct Clean {
+    pub size: usize,
+    pub dropped: usize,
+    pub left: usize,
 }
 
-// The size of the outer field at a place; 0 where its length is cut or runs past the end.
-fn step(s: &[u8], at: usize) -> usize
+// The size of the outer field at a place; none where its length is cut or runs past the end.
+fn step(s: &[u8], at: usize) -> Option<usize>
     requires { at ≤ length s.now }
-    ensures { result ≡ pick (fits (drop at s.now)) (outer (drop at s.now)) 0 }
+    ensures { result ≡ pick (fits (drop at s.now)) (Some (outer (drop at s.now))) None }
 {
     if s.len() - at < 3 {
-        return 0;
+        return None;
     }
     let size = 3 + wire::pair(s, at + 1) as usize;
-    if size <= s.len() - at {
-        return size;
+    if s.len() - at < size {
+        return None;
     }
-    0
+    Some(size)
 }
 
 // Whether a record of the edition stands at a place.
 fn stands(edition: u32, s: &[u8], at: usize) -> bool
     ensures { result ≡ stands edition s.now at }
 {
-    let d = journal::decode(edition, s, at);
-    match d {
-        Decoded::Command(_, _) => true,
-        Decoded::Malformed(_) => false,
-        Decoded::End => false,
-    }
+    matches!(journal::decode(edition, s, at), Decoded::Command(..))
 }
 
 // How many records a rescue drops from a place on.
@@ -50,24 +46,19 @@ fn count(edition: u32, s: &[u8], first: usize) -> usize
     ensures { result ≡ length (dropped_in (pieces_from edition s.now first)) }
 {
     let mut at = first;
-    let mut n: usize = 0;
-    loop {
-        let size = step(s, at);
-        if size == 0 {
-            return n;
-        }
-        n = n + missing(stands(edition, s, at));
+    let mut n = 0;
+    while let Some(size) = step(s, at) {
+        n += missing(stands(edition, s, at));
         at += size;
     }
+    n
 }
 
+#[tactic(auto, unfolding(refusal::specs::Choice::pick))]
 fn missing(good: bool) -> usize
     ensures { (result ≡ pick good 0 1) × (result ≤ 1) }
 {
-    if good {
-        return 0;
-    }
-    1
+    usize::from(!good)
 }
 
 // Writes a record that is kept at a place of the clean journal, and answers the place past it.
@@ -78,8 +69,7 @@ fn keep(s: &[u8], at: usize, size: usize, good: bool, out: &mut [u8], p: usize) 
     if !good {
         return p;
     }
-    let end = at + size;
-    copying::copy(&s[at..end], &mut out[p..]);
+    copying::copy(&s[at..at + size], &mut out[p..]);
     p + size
 }
 
@@ -96,39 +86,39 @@ fn note(report: &mut [u64], k: usize, good: bool, at: usize) -> usize
 }
 
 // The records from a place on: the kept go behind the header, and the offsets of the dropped into the report.
-fn sweep(edition: u32, s: &[u8], first: usize, out: &mut [u8], report: &mut [u64]) -> Rescued
+fn sweep(edition: u32, s: &[u8], first: usize, out: &mut [u8], report: &mut [u64]) -> Clean
     requires { ((first ≤ length s.now) × (length s.now ≤ length out.old)) × (length (dropped_in (pieces_from edition s.now first)) ≤ length report.old) }
-    ensures { Swept edition s.now first out.old report.old (said result) out.new report.new }
+    ensures { Swept edition s.now first out.old report.old (said (Ok result)) out.new report.new }
 {
     let mut at = first;
     let mut p = first;
-    let mut k: usize = 0;
-    loop {
-        let size = step(s, at);
-        if size == 0 {
-            return Rescued::Clean(p, k, s.len() - at);
-        }
+    let mut k = 0;
+    while let Some(size) = step(s, at) {
         let good = stands(edition, s, at);
         p = keep(s, at, size, good, out, p);
         k = note(report, k, good, at);
         at += size;
     }
+    Clean {
+        size: p,
+        dropped: k,
+        left: s.len() - at,
+    }
 }
 
 // Writes the clean journal of a damaged one into a lent buffer and the offset of each dropped record into another.
-pub fn rescue(s: &[u8], out: &mut [u8], report: &mut [u64]) -> Rescued
+pub fn rescue(s: &[u8], out: &mut [u8], report: &mut [u64]) -> Result<Clean, Refusal>
     ensures { (said result ≡ answer_for s.now out.old report.old) × ((out.new ≡ out_for s.now out.old report.old) × (report.new ≡ report_for s.now out.old report.old)) }
 {
-    let h = journal::header(s);
-    let Opened::Records(edition, first) = h else {
-        return Rescued::Malformed;
+    let Ok(header) = journal::header(s) else {
+        return Err(Refusal::JournalMalformed);
     };
     if out.len() < s.len() {
-        return Rescued::Short;
+        return Err(Refusal::BufferShort);
     }
-    if report.len() < count(edition, s, first) {
-        return Rescued::Short;
+    if report.len() < count(header.edition, s, header.first) {
+        return Err(Refusal::BufferShort);
     }
-    copying::copy(&s[..first], &mut *out);
-    sweep(edition, s, first, out, report)
+    copying::copy(&s[..header.first], out);
+    Ok(sweep(header.edition, s, header.first, out, report))
 }

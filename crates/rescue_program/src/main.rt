@@ -1,7 +1,7 @@
 // Writes a clean journal from a damaged one, and says what was dropped and what was left.
 #![tactic(auto)]
 
-use rescue::Rescued;
+use refusal::Refusal;
 use std::env::Env;
 use std::io::Error;
 use std::process::ExitCode;
@@ -76,16 +76,19 @@ fn bad_header(path: &[u8]) {
 fn save(rt: &(impl Files + Print), path: &[u8], s: &[u8], out: &[u8]) -> bool {
     let mut clean: [u8; 65536] = io::large_buffer();
     let mut report: [u64; 21843] = [0; 21843];
-    let r = rescue::rescue(s, &mut clean, &mut report);
-    match r {
-        Rescued::Clean(size, dropped, left) => {
-            put(rt, out, &clean[..size], &report[..dropped], left)
-        }
-        Rescued::Malformed => {
+    match rescue::rescue(s, &mut clean, &mut report) {
+        Ok(done) => put(
+            rt,
+            out,
+            &clean[..done.size],
+            &report[..done.dropped],
+            done.left,
+        ),
+        Err(Refusal::JournalMalformed) => {
             bad_header(path);
             false
         }
-        Rescued::Short => {
+        Err(_) => {
             files::complain(path, b"it is too long (14); nothing was written");
             false
         }

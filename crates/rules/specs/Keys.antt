@@ -1,6 +1,6 @@
 -- The keys of the rows that a command sees. They do not depend on what the rows hold, but for the invoice and the parties of its offer.
 use Rattle.std.specs.Prelude.{ℕ}
-use Rattle.table.specs.declared.Named.{Named}
+use Rattle.table.specs.Named.{Named}
 use Rattle.command.specs.Names.{names_of, paper_key, other_key}
 use Rattle.command.specs.declared.Command.{Command}
 use Rattle.command.specs.declared.Names.{Names}

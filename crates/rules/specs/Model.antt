@@ -3,13 +3,13 @@ use Rattle.std.specs.Prelude.{ℕ, []}
 use Rattle.refusal.specs.Rule.{Rule}
 use Rattle.table.specs.Tables.{Table, find, adjust}
 use Rattle.table.specs.Named.{find_by}
-use Rattle.table.specs.declared.Named.{Named}
+use Rattle.table.specs.Named.{Named}
 use Rattle.account.specs.declared.Account.{Account}
-use Rattle.account.specs.declared.SeenAccount.{SeenAccount}
+use Rattle.account.specs.Seen.{SeenAccount}
 use Rattle.invoice.specs.declared.Invoice.{Invoice}
-use Rattle.invoice.specs.declared.SeenInvoice.{SeenInvoice}
+use Rattle.invoice.specs.Seen.{SeenInvoice}
 use Rattle.offer.specs.declared.Deal.{Deal}
-use Rattle.offer.specs.declared.SeenDeal.{SeenDeal}
+use Rattle.offer.specs.Seen.{SeenDeal}
 use Rattle.settings.specs.declared.Settings.{Settings}
 use Rattle.totals.specs.declared.Totals.{Totals}
 use Rattle.settings.specs.Settings.{fresh_settings}

@@ -10,7 +10,7 @@ use Rattle.refusal.specs.RuleLaws.{both_pass}
 use Rattle.table.specs.Tables.{Table}
 use Rattle.table.specs.Touching.{Puts, Touched, put, let_in_lem}
 use Rattle.table.proofs.Touching.{untouched, at_first, at_second, puts_none, puts_first, puts_second, puts_swap}
-use Rattle.table.specs.declared.Named.TheVariants.{Id}
+use Rattle.std.specs.Prelude.{Some}
 use Rattle.account.specs.Rules.{reoffer_of}
 use Rattle.account.specs.declared.Account as Row
 use Rattle.invoice.specs.declared.Invoice.{Invoice}
@@ -28,27 +28,27 @@ use Rattle.rules.specs.Agreeing.{accept_caller, amend_there, amend_first, counte
 
 -- ── Settlement ────────────────────────────────────────────────────
 module _ (m : Model) (now o : ℕ) {t : Table Row.Account} where
-  settle_puts : Puts t m.accounts (Id (lender_of m o)) (Id (originator_of m o)) → Puts t (settling now o m).done.accounts (Id (lender_of m o)) (Id (originator_of m o))
+  settle_puts : Puts t m.accounts (Some (lender_of m o)) (Some (originator_of m o)) → Puts t (settling now o m).done.accounts (Some (lender_of m o)) (Some (originator_of m o))
   unfolding settling
   settle_puts p = puts_first (puts_second (puts_first p _) _) _
 
-  settle_at : {a b : ℕ} → lender_of m o ≡ a → originator_of m o ≡ b → Puts t m.accounts (Id a) (Id b) → Puts t (settling now o m).done.accounts (Id a) (Id b)
+  settle_at : {a b : ℕ} → lender_of m o ≡ a → originator_of m o ≡ b → Puts t m.accounts (Some a) (Some b) → Puts t (settling now o m).done.accounts (Some a) (Some b)
   settle_at {a} {b} x y p =
-      subst (λ z. Puts t (settling now o m).done.accounts (Id z) (Id b)) x
-      (subst (λ z. Puts t (settling now o m).done.accounts (Id (lender_of m o)) (Id z)) y
-      (settle_puts (subst (λ z. Puts t m.accounts (Id z) (Id (originator_of m o))) (sym x) (subst (λ z. Puts t m.accounts (Id a) (Id z)) (sym y) p))))
+      subst (λ z. Puts t (settling now o m).done.accounts (Some z) (Some b)) x
+      (subst (λ z. Puts t (settling now o m).done.accounts (Some (lender_of m o)) (Some z)) y
+      (settle_puts (subst (λ z. Puts t m.accounts (Some z) (Some (originator_of m o))) (sym x) (subst (λ z. Puts t m.accounts (Some a) (Some z)) (sym y) p))))
 
-  agree_at : (g : Bool) {a b : ℕ} → lender_of m o ≡ a → originator_of m o ≡ b → Puts t m.accounts (Id a) (Id b) → Puts t (agreeing g now o m).done.accounts (Id a) (Id b)
+  agree_at : (g : Bool) {a b : ℕ} → lender_of m o ≡ a → originator_of m o ≡ b → Puts t m.accounts (Some a) (Some b) → Puts t (agreeing g now o m).done.accounts (Some a) (Some b)
   unfolding agreeing concluding pick
   agree_at true x y p = settle_at x y p
   agree_at false x y p = p
 
-agree_paper : (g : Bool) (m : Model) (now o : ℕ) {t : Table Invoice} {i : ℕ} → (offer_in m o).row.offer.invoice ≡ i → m.invoices ≡ t → Puts t (agreeing g now o m).done.invoices (Id i) (Id i)
+agree_paper : (g : Bool) (m : Model) (now o : ℕ) {t : Table Invoice} {i : ℕ} → (offer_in m o).row.offer.invoice ≡ i → m.invoices ≡ t → Puts t (agreeing g now o m).done.invoices (Some i) (Some i)
 unfolding agreeing concluding settling pick
-agree_paper true m now o {t} {i} x e = subst (λ z. Puts t (settling now o m).done.invoices (Id z) (Id z)) x (subst (λ z. Puts z (settling now o m).done.invoices (Id (offer_in m o).row.offer.invoice) (Id (offer_in m o).row.offer.invoice)) e (puts_first (puts_none _ _) _))
-agree_paper false m now o {t} {i} x e = subst (λ z. Puts z m.invoices (Id i) (Id i)) e (puts_none (Id i) (Id i))
+agree_paper true m now o {t} {i} x e = subst (λ z. Puts t (settling now o m).done.invoices (Some z) (Some z)) x (subst (λ z. Puts z (settling now o m).done.invoices (Some (offer_in m o).row.offer.invoice) (Some (offer_in m o).row.offer.invoice)) e (puts_first (puts_none _ _) _))
+agree_paper false m now o {t} {i} x e = subst (λ z. Puts z m.invoices (Some i) (Some i)) e (puts_none (Some i) (Some i))
 
-agree_deal : (g : Bool) (m : Model) (now o : ℕ) {t : Table Deal} → Puts t m.offers (Id o) (Id o) → Puts t (agreeing g now o m).done.offers (Id o) (Id o)
+agree_deal : (g : Bool) (m : Model) (now o : ℕ) {t : Table Deal} → Puts t m.offers (Some o) (Some o) → Puts t (agreeing g now o m).done.offers (Some o) (Some o)
 unfolding agreeing concluding settling pick
 agree_deal true m now o p = puts_first p _
 agree_deal false m now o p = p
@@ -58,20 +58,20 @@ module _ (m : Model) (now a o : ℕ) (t : Terms) (n : ℕ) where
   abbrev row : Row.Account
   row = (reoffer_of (account_in m a).row (terms_in m o) t).done
 
-  amend_accounts : first (amending m now a o t n).checks ≡ 0 → Touched 64 m.accounts (amending m now a o t n).done.accounts (Id a) (Id (originator_of m o))
+  amend_accounts : first (amending m now a o t n).checks ≡ 0 → Touched 64 m.accounts (amending m now a o t n).done.accounts (Some a) (Some (originator_of m o))
   amend_accounts h =
       let e = amend_there m now a o t n (amend_first m now a o t n h) in
-      put (agree_at (amended_in m now a o t) now o _ (amend_lender m now o t e.0 a row ∙ e.1) (amend_originator m now o t e.0 a row) (puts_first (puts_none (Id a) (Id (originator_of m o))) _))
+      put (agree_at (amended_in m now a o t) now o _ (amend_lender m now o t e.0 a row ∙ e.1) (amend_originator m now o t e.0 a row) (puts_first (puts_none (Some a) (Some (originator_of m o))) _))
 
-  counter_accounts : first (countering m now a o t n).checks ≡ 0 → Touched 64 m.accounts (countering m now a o t n).done.accounts (Id a) (Id (lender_of m o))
+  counter_accounts : first (countering m now a o t n).checks ≡ 0 → Touched 64 m.accounts (countering m now a o t n).done.accounts (Some a) (Some (lender_of m o))
   counter_accounts h =
       let e = counter_there m now a o t n (counter_first m now a o t n h) in
-      put (puts_swap (agree_at (countered_in m now o t) now o _ (counter_lender m now o t e.0) (counter_originator m now o t e.0 ∙ e.1) (puts_none (Id (lender_of m o)) (Id a))))
+      put (puts_swap (agree_at (countered_in m now o t) now o _ (counter_lender m now o t e.0) (counter_originator m now o t e.0 ∙ e.1) (puts_none (Some (lender_of m o)) (Some a))))
 
-  amend_paper : first (amending m now a o t n).checks ≡ 0 → Touched 64 m.invoices (amending m now a o t n).done.invoices (Id (offer_in m o).row.offer.invoice) (Id (offer_in m o).row.offer.invoice)
+  amend_paper : first (amending m now a o t n).checks ≡ 0 → Touched 64 m.invoices (amending m now a o t n).done.invoices (Some (offer_in m o).row.offer.invoice) (Some (offer_in m o).row.offer.invoice)
   amend_paper h = put (agree_paper _ (amended_in m now a o t) now o (amend_invoice m now o t (amend_there m now a o t n (amend_first m now a o t n h)).0 a row) refl)
 
-  counter_paper : first (countering m now a o t n).checks ≡ 0 → Touched 64 m.invoices (countering m now a o t n).done.invoices (Id (offer_in m o).row.offer.invoice) (Id (offer_in m o).row.offer.invoice)
+  counter_paper : first (countering m now a o t n).checks ≡ 0 → Touched 64 m.invoices (countering m now a o t n).done.invoices (Some (offer_in m o).row.offer.invoice) (Some (offer_in m o).row.offer.invoice)
   counter_paper h = put (agree_paper _ (countered_in m now o t) now o (counter_invoice m now o t (counter_there m now a o t n (counter_first m now a o t n h)).0) refl)
 
 -- ── The rules, by their shapes ────────────────────────────────────
@@ -100,7 +100,7 @@ ruled_accounts m (registers a i x) h = untouched
 ruled_accounts m (cancels a i) h = untouched
 ruled_accounts m (creates a o i t e) h = at_first _
 ruled_accounts m (offer o u) h = untouched
-ruled_accounts m (accepts now a o) h = put (puts_swap (settle_at m now o refl (accept_caller m now a o (both_pass (accept_checks (offer_in m o) now a (paper_of m o)) (settling now o m).checks h).0) (puts_none (Id (lender_of m o)) (Id a))))
+ruled_accounts m (accepts now a o) h = put (puts_swap (settle_at m now o refl (accept_caller m now a o (both_pass (accept_checks (offer_in m o) now a (paper_of m o)) (settling now o m).checks h).0) (puts_none (Some (lender_of m o)) (Some a))))
 ruled_accounts m (amends now a o t n) h = amend_accounts m now a o t n h
 ruled_accounts m (counters now a o t n) h = counter_accounts m now a o t n h
 ruled_accounts m (totals a x f) h = untouched
@@ -129,8 +129,8 @@ ruled_offers m (cancels a i) h = untouched
 ruled_offers m (creates a o i t e) h = let_in_lem o _ refl (offer_room m a o i t e h) refl
 ruled_offers m (offer o u) h = touch_offer m o u
 ruled_offers m (accepts now a o) h = at_first _
-ruled_offers m (amends now a o t n) h = put (agree_deal _ (amended_in m now a o t) now o (puts_first (puts_none (Id o) (Id o)) _))
-ruled_offers m (counters now a o t n) h = put (agree_deal _ (countered_in m now o t) now o (puts_first (puts_none (Id o) (Id o)) _))
+ruled_offers m (amends now a o t n) h = put (agree_deal _ (amended_in m now a o t) now o (puts_first (puts_none (Some o) (Some o)) _))
+ruled_offers m (counters now a o t n) h = put (agree_deal _ (countered_in m now o t) now o (puts_first (puts_none (Some o) (Some o)) _))
 ruled_offers m (totals a x f) h = untouched
 ruled_offers m (settings u) h = untouched
 

@@ -5,7 +5,6 @@ use Rattle.refusal.specs.Rule.{Rule}
 use Rattle.edition.specs.Edition.{listed, fresh_window}
 use Rattle.seats.specs.Seats.{reaches_of, threshold_ok}
 use Rattle.settings.specs.declared.Settings.{Settings}
-use Rattle.settings.specs.declared.SettingsPosted.{SettingsPosted}
 
 -- seat 0 alone with threshold 1, no repayment account, not paused; the edition's window
 abbrev pub fresh_settings : ℕ → Settings
@@ -25,9 +24,6 @@ admin_passes s presented = reaches_of presented s.seats s.threshold
 -- the caller is the set repayment account
 unfoldable pub is_repayer : Settings → ℕ → Bool
 is_repayer s caller = s.appointed && eqb s.repayer caller
-
-abbrev pub posted : ℕ → Settings → SettingsPosted
-posted n s = record { answer = n; row = s }
 
 -- pause and unpause: seats 6
 abbrev pub pause_of : Settings → ℕ → Bool → Rule Settings

@@ -2,8 +2,10 @@
 #![tactic(auto)]
 
 ghost use Rattle.std.specs.Prelude.{◌≡◌};
-ghost use Rattle.refusal.specs.Rule.{answered};
-ghost use Rattle.settings.specs.Settings.{fresh_settings, settings_sound, admin_passes, is_repayer, posted, pause_of, window_of, repayer_of, seats_of};
+ghost use Rattle.refusal.specs.Rule.{outcome};
+ghost use Rattle.settings.specs.Settings.{fresh_settings, settings_sound, in_window, admin_passes, is_repayer, pause_of, window_of, repayer_of, seats_of};
+
+use refusal::Refusal;
 
 pub const SHORTEST_WINDOW: u64 = 3600;
 
@@ -21,44 +23,46 @@ pub struct Settings {
     pub paused: bool,
 }
 
+// Whether a window is in range.
+fn in_window(window: u64) -> bool
+    ensures { result ≡ in_window window }
+{
+    (SHORTEST_WINDOW..=LONGEST_WINDOW).contains(&window)
+}
+
 impl Settings {
     // Whether the seats presented reach the threshold.
+    #[tactic(auto, unfolding(crate::specs::Settings::admin_passes))]
     pub fn admin_passes(self, presented: u64) -> bool
         ensures { result ≡ admin_passes self presented }
     {
-        let seats = self.seats;
-        let threshold = self.threshold;
-        seats::reaches(presented, seats, threshold)
+        seats::reaches(presented, self.seats, self.threshold)
     }
 
     // Whether the caller is the appointed repayment account.
+    #[tactic(auto, unfolding(crate::specs::Settings::is_repayer))]
     pub fn is_repayer(self, caller: u64) -> bool
         ensures { result ≡ is_repayer self caller }
     {
-        let appointed = self.appointed;
-        let repayer = self.repayer;
-        appointed & (repayer == caller)
+        self.appointed && self.repayer == caller
     }
 
     // A listed edition, the window in range, and a threshold that the seats can reach.
+    #[tactic(auto, unfolding(crate::specs::Settings::settings_sound))]
     pub fn sound(self) -> bool
         ensures { result ≡ settings_sound self }
     {
-        let window = self.window;
-        let seats = self.seats as u64;
-        let threshold = self.threshold;
         let known = edition::is_listed(self.edition);
-        let reachable = seats::threshold_ok(seats, threshold);
-        known & ((SHORTEST_WINDOW <= window) & (window <= LONGEST_WINDOW) & reachable)
+        let reachable = seats::threshold_ok(u64::from(self.seats), self.threshold);
+        known && (in_window(self.window) && reachable)
     }
 
     // Seat 0 alone with threshold 1, no repayment account, not paused, and an edition's window.
     pub fn fresh(edition: u32) -> Settings
         ensures { result ≡ fresh_settings edition }
     {
-        let window = edition::fresh_window(edition);
         Settings {
-            window,
+            window: edition::fresh_window(edition),
             repayer: 0,
             seats: 1,
             threshold: 1,
@@ -69,85 +73,62 @@ impl Settings {
     }
 
     // The admins pause the desk or let it go on.
-    pub fn pause(mut self, presented: u64, paused: bool) -> SettingsPosted
-        ensures { result ≡ answered posted self (pause_of self presented paused) }
+    pub fn pause(mut self, presented: u64, paused: bool) -> Result<Settings, Refusal>
+        ensures { result ≡ outcome (pause_of self presented paused) }
     {
         if !self.admin_passes(presented) {
-            return refused(self, refusal::UNAUTHORIZED);
+            return Err(Refusal::Unauthorized);
         }
         self.paused = paused;
-        SettingsPosted {
-            answer: 0,
-            row: self,
-        }
+        Ok(self)
     }
 
     // How long a negotiation stays open after its first round.
-    pub fn set_window(mut self, presented: u64, window: u64) -> SettingsPosted
-        ensures { result ≡ answered posted self (window_of self presented window) }
+    pub fn set_window(mut self, presented: u64, window: u64) -> Result<Settings, Refusal>
+        ensures { result ≡ outcome (window_of self presented window) }
     {
         if !self.admin_passes(presented) {
-            return refused(self, refusal::UNAUTHORIZED);
+            return Err(Refusal::Unauthorized);
         }
-        if window < SHORTEST_WINDOW {
-            return refused(self, refusal::INVALID_INPUT);
-        }
-        if LONGEST_WINDOW < window {
-            return refused(self, refusal::INVALID_INPUT);
+        if !in_window(window) {
+            return Err(Refusal::InvalidInput);
         }
         self.window = window;
-        SettingsPosted {
-            answer: 0,
-            row: self,
-        }
+        Ok(self)
     }
 
     // Who may post repayments. `known`: whether the account that is appointed has a row.
-    pub fn set_repayer(mut self, presented: u64, id: u64, known: bool) -> SettingsPosted
-        ensures { result ≡ answered posted self (repayer_of self presented id known) }
+    pub fn set_repayer(mut self, presented: u64, id: u64, known: bool) -> Result<Settings, Refusal>
+        ensures { result ≡ outcome (repayer_of self presented id known) }
     {
         if !self.admin_passes(presented) {
-            return refused(self, refusal::UNAUTHORIZED);
+            return Err(Refusal::Unauthorized);
         }
         if !known {
-            return refused(self, refusal::NOT_FOUND);
+            return Err(Refusal::NotFound);
         }
         self.repayer = id;
         self.appointed = true;
-        SettingsPosted {
-            answer: 0,
-            row: self,
-        }
+        Ok(self)
     }
 
     // The seats and how many of them an admin command takes.
-    pub fn set_seats(mut self, presented: u64, threshold: u32, next: u64) -> SettingsPosted
-        ensures { result ≡ answered posted self (seats_of self presented threshold next) }
+    pub fn set_seats(
+        mut self,
+        presented: u64,
+        threshold: u32,
+        next: u64,
+    ) -> Result<Settings, Refusal>
+        ensures { result ≡ outcome (seats_of self presented threshold next) }
     {
         if !self.admin_passes(presented) {
-            return refused(self, refusal::UNAUTHORIZED);
+            return Err(Refusal::Unauthorized);
         }
         if !seats::threshold_ok(next, threshold) {
-            return refused(self, refusal::INVALID_INPUT);
+            return Err(Refusal::InvalidInput);
         }
         self.seats = (next % 4294967296) as u32;
         self.threshold = threshold;
-        SettingsPosted {
-            answer: 0,
-            row: self,
-        }
+        Ok(self)
     }
-}
-
-// An answer's number, 0 where the settings were changed, and the settings.
-#[derive(Clone, Copy)]
-pub struct SettingsPosted {
-    pub answer: u64,
-    pub row: Settings,
-}
-
-fn refused(row: Settings, answer: u64) -> SettingsPosted
-    ensures { result ≡ posted answer row }
-{
-    SettingsPosted { answer, row }
 }

@@ -1,7 +1,7 @@
 -- A row of the table of offers, looked up, put anew and let in: what becomes of the three arrays that hold its parts.
 use Rattle.std.specs.Prelude.{ℕ, ◌+◌, ◌<◌, ◌≡◌, refl, List, length, get_or, set, take}
 use Rattle.std.proofs.Common.{arith, sym, ap, ◌∙◌}
-use Rattle.table.specs.declared.Found.TheVariants.{At, Absent}
+use Rattle.std.specs.Prelude.{Ok, Err}
 use Rattle.table.specs.Find.{find_in}
 use Rattle.table.specs.Shift.{insert_at}
 use Rattle.table.specs.Tables.{here, held, find, adjust, insert}
@@ -31,17 +31,17 @@ module _ {a : Offers} (s : DealShelf a) where
   deals_kept = apart_join deal_parts_lem s.level (offers_of a.ids a.count) ∙ kept as_offers s.shelf
 
   module _ (i k : ℕ) where
-    pub deal_found : find_in (take a.count a.ids) i ≡ At k → (o : Offer) (n : Negotiation) (p : Schedule)
+    pub deal_found : find_in (take a.count a.ids) i ≡ Ok k → (o : Offer) (n : Negotiation) (p : Schedule)
         → find (deals_of a) i ≡ here (deal_of (get_or a.rows k o) (get_or a.negotiations k n) (get_or a.schedules k p))
     deal_found e o n p = at_found s.shelf i k e ∙ ap here (join_at deal_of a.rows a.negotiations a.schedules s.level k (omega (arith, offers_long, at_below s.shelf i k e)) no_deal o n p)
 
-    pub deal_put : (d : Deal) → find_in (take a.count a.ids) i ≡ At k
+    pub deal_put : (d : Deal) → find_in (take a.count a.ids) i ≡ Ok k
         → offers_of a.ids a.count (set a.rows k d.offer) (set a.negotiations k d.negotiation) (set a.schedules k d.schedule) ≡ stored_deals (adjust (deals_of a) i (λ old. d))
     deal_put d e = apart_set deal_parts_lem s.level (offers_of a.ids a.count) k d ∙ put_kept as_offers s.shelf i k d e
 
-    pub deal_absent : (d : Deal) → find_in (take a.count a.ids) i ≡ Absent k → a ≡ stored_deals (adjust (deals_of a) i (λ old. d))
+    pub deal_absent : (d : Deal) → find_in (take a.count a.ids) i ≡ Err k → a ≡ stored_deals (adjust (deals_of a) i (λ old. d))
     deal_absent d e = apart_join deal_parts_lem s.level (offers_of a.ids a.count) ∙ absent_kept as_offers s.shelf i k d e
 
-    pub deal_in : (d : Deal) → a.count < 64 → find_in (take a.count a.ids) i ≡ Absent k
+    pub deal_in : (d : Deal) → a.count < 64 → find_in (take a.count a.ids) i ≡ Err k
         → offers_of (insert_at k i a.ids) (a.count + 1) (insert_at k d.offer a.rows) (insert_at k d.negotiation a.negotiations) (insert_at k d.schedule a.schedules) ≡ stored_deals (insert (deals_of a) i d)
     deal_in d h e = apart_insert deal_parts_lem s.level (offers_of (insert_at k i a.ids) (a.count + 1)) k d ∙ in_kept as_offers s.shelf i k d h e

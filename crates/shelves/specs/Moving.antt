@@ -4,7 +4,7 @@ use Rattle.std.proofs.Common.{arith, ap, ◌∙◌}
 use Rattle.std.proofs.Math.ListN.{get_or-map}
 use Rattle.table.specs.Tables.{held, insert}
 use Rattle.table.specs.Find.{find_in}
-use Rattle.table.specs.declared.Found.TheVariants.{Absent}
+use Rattle.std.specs.Prelude.{Err}
 use Rattle.table.specs.Padded.{padded, pad_rest}
 use Rattle.table.specs.Shift.{insert_at, Lifts, lifts, lifts_on}
 use Rattle.table.proofs.Raising.{Between, ids_raised}
@@ -57,7 +57,7 @@ module _ {u w : Offers} {k i : ℕ} (m : Moves u k w i) where
         place = record { above = omega arith; within = omega (arith, m.place.within) };
       }
 
-  pub deal_let_in : DealShelf u → (x : ℕ) (d : Deal) → u.count < 64 → find_in (take u.count u.ids) x ≡ Absent k → i ≤ k
+  pub deal_let_in : DealShelf u → (x : ℕ) (d : Deal) → u.count < 64 → find_in (take u.count u.ids) x ≡ Err k → i ≤ k
       → offers_of (set w.ids i x) (u.count + 1) (set w.rows i d.offer) (set w.negotiations i d.negotiation) (set w.schedules i d.schedule) ≡ stored_deals (insert (deals_of u) x d)
   deal_let_in s x d h e l =
       let c = u.count + 1 in

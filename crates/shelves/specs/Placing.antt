@@ -9,10 +9,10 @@ use Rattle.table.specs.Named.{find_by, put_by}
 use Rattle.table.specs.Spots.{spot_of, spot_by, at_spot}
 use Rattle.table.proofs.SpotLaws.{spot_put, has_spot, on_spot, off_spot, written_new}
 use Rattle.table.proofs.NamedLaws.{never, fine_by}
-use Rattle.table.specs.declared.Named.{Named}
-use Rattle.table.specs.declared.Named.TheVariants.{Nothing, Id}
-use Rattle.table.specs.declared.Found as Places
-use Rattle.table.specs.declared.Found.TheVariants.{At, Absent}
+use Rattle.table.specs.Named.{Named}
+use Rattle.std.specs.Prelude.{None, Some}
+use Rattle.std.specs.Prelude.{Result}
+use Rattle.std.specs.Prelude.{Ok, Err}
 use Rattle.table.specs.declared.Spot.{Spot}
 use Rattle.table.proofs.ShelfLaws.{absent_found}
 use Rattle.account.specs.Account.{no_account}
@@ -25,7 +25,7 @@ use Rattle.offer.specs.declared.Offer.{Offer}
 use Rattle.offer.specs.Offer.{no_deal}
 use Rattle.offer.specs.Seen.{seen_deal}
 use Rattle.offer.specs.declared.Deal.{Deal}
-use Rattle.offer.specs.declared.SeenDeal.{SeenDeal}
+use Rattle.offer.specs.Seen.{SeenDeal}
 use Rattle.shelves.specs.declared.Accounts.{Accounts}
 use Rattle.shelves.specs.declared.Invoices.{Invoices}
 use Rattle.shelves.specs.declared.Offers.{Offers}
@@ -58,6 +58,10 @@ module _ {u : Accounts} (s : AccountShelf u) (a b : Named) {p q : Spot} (ep : p 
       ∙ ap (λ z. as_accounts u.ids (set (set u.rows q.at z) p.at (cond p.here x (get_or (set u.rows q.at z) p.at no_account))) u.count) f
       ∙ accounts_put
 
+-- one put after the other
+pub accounts_twice : {u v w : Accounts} → AccountShelf u → (a b : Named) (x y : Account) → v ≡ stored_accounts (put_by (accounts_of u) b y) → w ≡ stored_accounts (put_by (accounts_of v) a x) → w ≡ stored_accounts (put_by (put_by (accounts_of u) b y) a x)
+accounts_twice {u} s a b x y e f = f ∙ ap (λ t. stored_accounts (put_by t a x)) (ap accounts_of e ∙ accounts_keeping.back (fine_by (accounts_keeping.fine u s) b y))
+
 -- ── An invoice ────────────────────────────────────────────────────
 module _ {u : Invoices} (s : InvoiceShelf u) (i : Named) {p : Spot} (e : p ≡ spot_by (take u.count u.ids) i) (x : Invoice) where
   pub invoice_wrote : {n : Invoice} → n ≡ cond p.here x (get_or u.rows p.at no_invoice) → as_invoices u.ids (set u.rows p.at n) u.count ≡ stored_invoices (put_by (invoices_of u) i x)
@@ -71,15 +75,15 @@ module _ {u : Offers} (s : DealShelf u) (o : Offer) (n : Negotiation) (l : Sched
   abbrev deal_at : ℕ → Deal
   deal_at k = deal_of (get_or u.rows k o) (get_or u.negotiations k n) (get_or u.schedules k l)
 
-  found_at : (i : ℕ) (f : Places.Found) → find_in (take u.count u.ids) i ≡ f → find (deals_of u) i ≡ at_spot (spot_of f).here (deal_at (spot_of f).at)
+  found_at : (i : ℕ) (f : Result ℕ ℕ) → find_in (take u.count u.ids) i ≡ f → find (deals_of u) i ≡ at_spot (spot_of f).here (deal_at (spot_of f).at)
   unfolding at_spot
-  found_at i (At k) q = deal_found s i k q o n l
-  found_at i (Absent k) q = absent_found s.shelf i k q
+  found_at i (Ok k) q = deal_found s i k q o n l
+  found_at i (Err k) q = absent_found s.shelf i k q
 
   found_by : (i : Named) → find_by (deals_of u) i ≡ at_spot (spot_by (take u.count u.ids) i).here (deal_at (spot_by (take u.count u.ids) i).at)
   unfolding at_spot
-  found_by Nothing = refl
-  found_by (Id i) = found_at i (find_in (take u.count u.ids) i) refl
+  found_by None = refl
+  found_by (Some i) = found_at i (find_in (take u.count u.ids) i) refl
 
   abbrev wrote : ℕ → Deal → Offers
   wrote k d = offers_of u.ids u.count (set u.rows k d.offer) (set u.negotiations k d.negotiation) (set u.schedules k d.schedule)
@@ -91,13 +95,13 @@ module _ {u : Offers} (s : DealShelf u) (o : Offer) (n : Negotiation) (l : Sched
       ∙ ap (λ z. offers_of u.ids u.count u.rows u.negotiations z) (set-get_or u.schedules 0 l)
 
   module _ (d : Deal) where
-    put_at : (i : ℕ) (f : Places.Found) → find_in (take u.count u.ids) i ≡ f → wrote (spot_of f).at (cond (spot_of f).here d (deal_at (spot_of f).at)) ≡ stored_deals (put_by (deals_of u) (Id i) d)
-    put_at i (At k) q = deal_put s i k d q
-    put_at i (Absent k) q = same ∙ deal_absent s i k d q
+    put_at : (i : ℕ) (f : Result ℕ ℕ) → find_in (take u.count u.ids) i ≡ f → wrote (spot_of f).at (cond (spot_of f).here d (deal_at (spot_of f).at)) ≡ stored_deals (put_by (deals_of u) (Some i) d)
+    put_at i (Ok k) q = deal_put s i k d q
+    put_at i (Err k) q = same ∙ deal_absent s i k d q
 
     put_by_lem : (i : Named) → wrote (spot_by (take u.count u.ids) i).at (cond (spot_by (take u.count u.ids) i).here d (deal_at (spot_by (take u.count u.ids) i).at)) ≡ stored_deals (put_by (deals_of u) i d)
-    put_by_lem Nothing = same ∙ deals_kept s
-    put_by_lem (Id i) = put_at i (find_in (take u.count u.ids) i) refl
+    put_by_lem None = same ∙ deals_kept s
+    put_by_lem (Some i) = put_at i (find_in (take u.count u.ids) i) refl
 
   module _ (i : Named) {p : Spot} (e : p ≡ spot_by (take u.count u.ids) i) where
     pub deal_read_lem : find_by (deals_of u) i ≡ at_spot p.here (deal_at p.at)
@@ -117,13 +121,13 @@ module _ {u : Offers} (s : DealShelf u) (o : Offer) (n : Negotiation) (l : Sched
     pub deal_there : (d : Deal) → p.here ≡ true → wrote p.at d ≡ stored_deals (put_by (deals_of u) i d)
     deal_there d h = deal_wrote d (written_new p.here d (deal_at p.at) h)
 
-    absent_at : (k : ℕ) (f : Places.Found) → find_in (take u.count u.ids) k ≡ f → (spot_of f).here ≡ false → (d : Deal) → u ≡ stored_deals (put_by (deals_of u) (Id k) d)
-    absent_at k (At j) q h d = never h
-    absent_at k (Absent j) q h d = deal_absent s k j d q
+    absent_at : (k : ℕ) (f : Result ℕ ℕ) → find_in (take u.count u.ids) k ≡ f → (spot_of f).here ≡ false → (d : Deal) → u ≡ stored_deals (put_by (deals_of u) (Some k) d)
+    absent_at k (Ok j) q h d = never h
+    absent_at k (Err j) q h d = deal_absent s k j d q
 
     absent_by : (k : Named) → (spot_by (take u.count u.ids) k).here ≡ false → (d : Deal) → u ≡ stored_deals (put_by (deals_of u) k d)
-    absent_by Nothing h d = deals_kept s
-    absent_by (Id k) h d = absent_at k (find_in (take u.count u.ids) k) refl h d
+    absent_by None h d = deals_kept s
+    absent_by (Some k) h d = absent_at k (find_in (take u.count u.ids) k) refl h d
 
     pub deal_gone : (d : Deal) → p.here ≡ false → u ≡ stored_deals (put_by (deals_of u) i d)
     deal_gone d h = absent_by i (ap (λ z. z.here) (sym e) ∙ h) d

@@ -3,16 +3,16 @@ use Rattle.std.specs.Prelude.{◌≡◌}
 use Rattle.table.specs.Tables.{Found, Table, has}
 use Rattle.table.specs.Named.{find_by}
 use Rattle.table.specs.Storing.{Left}
-use Rattle.table.specs.declared.Named.{Named}
+use Rattle.table.specs.Named.{Named}
 use Rattle.account.specs.Seen.{seen_account}
 use Rattle.account.specs.declared.Account.{Account}
-use Rattle.account.specs.declared.SeenAccount.{SeenAccount}
+use Rattle.account.specs.Seen.{SeenAccount}
 use Rattle.invoice.specs.Seen.{seen_invoice}
 use Rattle.invoice.specs.declared.Invoice.{Invoice}
-use Rattle.invoice.specs.declared.SeenInvoice.{SeenInvoice}
+use Rattle.invoice.specs.Seen.{SeenInvoice}
 use Rattle.offer.specs.Seen.{seen_deal}
 use Rattle.offer.specs.declared.Deal.{Deal}
-use Rattle.offer.specs.declared.SeenDeal.{SeenDeal}
+use Rattle.offer.specs.Seen.{SeenDeal}
 use Rattle.shelves.specs.declared.Accounts.{Accounts}
 use Rattle.shelves.specs.declared.Invoices.{Invoices}
 use Rattle.shelves.specs.declared.Offers.{Offers}

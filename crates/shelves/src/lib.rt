@@ -3,7 +3,7 @@
 
 ghost use Rattle.std.specs.Prelude.{◌≡◌, []};
 ghost use Rattle.table.specs.Tables.{insert, Room};
-ghost use Rattle.table.specs.Named.{find_by};
+ghost use Rattle.table.specs.Named.{find_by, put_by};
 ghost use Rattle.account.specs.Seen.{seen_account};
 ghost use Rattle.invoice.specs.Seen.{seen_invoice};
 ghost use Rattle.offer.specs.Seen.{seen_deal};
@@ -17,7 +17,6 @@ use account::{Account, SeenAccount};
 use invoice::{Invoice, SeenInvoice};
 use negotiation::Negotiation;
 use offer::{Deal, Offer, SeenDeal};
-use table::{Found, Named};
 use terms::Schedule;
 
 #[derive(Clone, Copy)]
@@ -32,81 +31,70 @@ impl Accounts {
     pub fn none() -> Accounts
         ensures { result ≡ stored_accounts [] }
     {
-        let row = Account::none();
-        let ids = [0u64; 64];
-        let rows = [row; 64];
         Accounts {
-            ids,
-            rows,
+            ids: [0; 64],
+            rows: [Account::none(); 64],
             count: 0,
         }
     }
 
     // Whether ids ascend, rows are sound, and the places past the count are zero.
-    pub fn sound(self) -> bool
-        ensures tested { result ≡ accounts_test self }
-        ensures sized { Sized self.ids self.rows }
+    pub fn sound(&self) -> bool
+        ensures tested { result ≡ accounts_test self.now }
+        ensures sized { Sized self.now.ids self.now.rows }
     {
-        let count = self.count;
-        let ids = table::ids_sound(&self.ids, count);
         let mut ok = true;
-        let mut i = 0;
-        while i < table::ROOM {
-            let row = self.rows[i];
-            let fits = row.fits(i < count);
-            ok = ok & fits;
-            i += 1;
+        for i in 0..table::ROOM {
+            // `&`: no test is skipped, so a turn is one equation.
+            ok = ok & self.rows[i].fits(i < self.count);
         }
-        ids & ok
+        table::ids_sound(&self.ids, self.count) & ok
     }
 
     // The row that a key names.
-    pub fn see(self, key: Named) -> SeenAccount
-        requires { AccountShelf self }
-        ensures { result ≡ seen_account (find_by (accounts_of self) key) }
+    pub fn see(&self, key: Option<u64>) -> SeenAccount
+        requires { AccountShelf self.now }
+        ensures { result ≡ seen_account (find_by (accounts_of self.now) key) }
     {
-        let count = self.count;
-        let spot = table::spot_by(&self.ids, count, key);
-        let place = spot.at;
-        let account = self.rows[place];
-        SeenAccount::at(spot.here, account)
+        let spot = table::spot_by(&self.ids, self.count, key);
+        SeenAccount::at(spot.here, self.rows[spot.at])
+    }
+
+    // The row put at its key, where there is one.
+    fn put(&mut self, whose: Option<u64>, account: Account)
+        requires { AccountShelf self.old }
+        ensures { self.new ≡ stored_accounts (put_by (accounts_of self.old) whose account) }
+    {
+        let spot = table::spot_by(&self.ids, self.count, whose);
+        if spot.here {
+            self.rows[spot.at] = account;
+        }
     }
 
     // The rows left by a turn, put back at their keys, second before first, or the first let in where it came.
-    pub fn store(mut self, first: Named, second: Named, x: SeenAccount, y: Account) -> Accounts
-        requires { AccountShelf self }
-        ensures { StoresAccounts self first second x y result }
+    pub fn store(&mut self, first: Option<u64>, second: Option<u64>, x: SeenAccount, y: Account)
+        requires { AccountShelf self.old }
+        ensures { StoresAccounts self.old first second x y self.new }
     {
-        let count = self.count;
-        let spot = table::spot_by(&self.ids, count, second);
-        let place = spot.at;
-        let other = self.rows[place];
-        let b = y.over(spot.here, other);
-        self.rows[place] = b;
-        let p = table::spot_by(&self.ids, count, first);
-        let i = p.at;
-        let old = self.rows[i];
-        let account = x.row;
-        let a = account.over(p.here, old);
-        self.rows[i] = a;
-        if !p.here & x.here {
-            return self.let_in(first.id(), account);
+        let was = table::spot_by(&self.ids, self.count, first);
+        self.put(second, y);
+        self.put(first, x.row);
+        if !was.here & x.here {
+            self.let_in(table::id_of(first), x.row);
         }
-        self
     }
 
     // A row let in at its id's place: from there on each row in use moves up by one.
-    pub fn let_in(mut self, id: u64, account: Account) -> Accounts
-        requires { AccountShelf self }
-        ensures { Room 64 (accounts_of self) id → result ≡ stored_accounts (insert (accounts_of self) id account) }
+    pub fn let_in(&mut self, id: u64, account: Account)
+        requires { AccountShelf self.old }
+        ensures { Room 64 (accounts_of self.old) id → self.new ≡ stored_accounts (insert (accounts_of self.old) id account) }
     {
         let count = self.count;
         if table::ROOM <= count {
-            return self;
+            return;
         }
-        let f = table::find(&self.ids, count, id);
-        let Found::Absent(k) = f else {
-            return self;
+        let Err(k) = table::find(&self.ids, count, id) else {
+            return;
         };
         let mut i = count;
         while k < i {
@@ -118,7 +106,6 @@ impl Accounts {
         self.ids[i] = id;
         self.rows[i] = account;
         self.count = count + 1;
-        self
     }
 }
 
@@ -134,76 +121,69 @@ impl Invoices {
     pub fn none() -> Invoices
         ensures { result ≡ stored_invoices [] }
     {
-        let row = Invoice::none();
-        let ids = [0u64; 64];
-        let rows = [row; 64];
         Invoices {
-            ids,
-            rows,
+            ids: [0; 64],
+            rows: [Invoice::none(); 64],
             count: 0,
         }
     }
 
     // Whether ids ascend, rows are sound, and the places past the count are zero.
-    pub fn sound(self) -> bool
-        ensures tested { result ≡ invoices_test self }
-        ensures sized { Sized self.ids self.rows }
+    pub fn sound(&self) -> bool
+        ensures tested { result ≡ invoices_test self.now }
+        ensures sized { Sized self.now.ids self.now.rows }
     {
-        let count = self.count;
-        let ids = table::ids_sound(&self.ids, count);
         let mut ok = true;
-        let mut i = 0;
-        while i < table::ROOM {
-            let row = self.rows[i];
-            let fits = row.fits(i < count);
-            ok = ok & fits;
-            i += 1;
+        for i in 0..table::ROOM {
+            // `&`: no test is skipped, so a turn is one equation.
+            ok = ok & self.rows[i].fits(i < self.count);
         }
-        ids & ok
+        table::ids_sound(&self.ids, self.count) & ok
     }
 
     // The row that a key names.
-    pub fn see(self, key: Named) -> SeenInvoice
-        requires { InvoiceShelf self }
-        ensures { result ≡ seen_invoice (find_by (invoices_of self) key) }
+    pub fn see(&self, key: Option<u64>) -> SeenInvoice
+        requires { InvoiceShelf self.now }
+        ensures { result ≡ seen_invoice (find_by (invoices_of self.now) key) }
     {
-        let count = self.count;
-        let spot = table::spot_by(&self.ids, count, key);
-        let place = spot.at;
-        let paper = self.rows[place];
-        SeenInvoice::at(spot.here, paper)
+        let spot = table::spot_by(&self.ids, self.count, key);
+        SeenInvoice::at(spot.here, self.rows[spot.at])
+    }
+
+    // The row put at its key, where there is one.
+    fn put(&mut self, key: Option<u64>, paper: Invoice)
+        requires { InvoiceShelf self.old }
+        ensures { self.new ≡ stored_invoices (put_by (invoices_of self.old) key paper) }
+    {
+        let found = table::spot_by(&self.ids, self.count, key);
+        if found.here {
+            self.rows[found.at] = paper;
+        }
     }
 
     // The row left by a turn, put back at its key, or let in where it came.
-    pub fn store(mut self, key: Named, x: SeenInvoice) -> Invoices
-        requires { InvoiceShelf self }
-        ensures { StoresInvoices self key x result }
+    pub fn store(&mut self, key: Option<u64>, x: SeenInvoice)
+        requires { InvoiceShelf self.old }
+        ensures { StoresInvoices self.old key x self.new }
     {
-        let count = self.count;
-        let spot = table::spot_by(&self.ids, count, key);
-        let place = spot.at;
-        let old = self.rows[place];
-        let paper = x.row;
-        let kept = paper.over(spot.here, old);
-        self.rows[place] = kept;
-        if !spot.here & x.here {
-            return self.let_in(key.id(), paper);
+        let was = table::spot_by(&self.ids, self.count, key);
+        self.put(key, x.row);
+        if !was.here & x.here {
+            self.let_in(table::id_of(key), x.row);
         }
-        self
     }
 
     // A row let in at its id's place: from there on each row in use moves up by one.
-    pub fn let_in(mut self, id: u64, paper: Invoice) -> Invoices
-        requires { InvoiceShelf self }
-        ensures { Room 64 (invoices_of self) id → result ≡ stored_invoices (insert (invoices_of self) id paper) }
+    pub fn let_in(&mut self, id: u64, paper: Invoice)
+        requires { InvoiceShelf self.old }
+        ensures { Room 64 (invoices_of self.old) id → self.new ≡ stored_invoices (insert (invoices_of self.old) id paper) }
     {
         let count = self.count;
         if table::ROOM <= count {
-            return self;
+            return;
         }
-        let f = table::find(&self.ids, count, id);
-        let Found::Absent(k) = f else {
-            return self;
+        let Err(k) = table::find(&self.ids, count, id) else {
+            return;
         };
         let mut i = count;
         while k < i {
@@ -215,11 +195,11 @@ impl Invoices {
         self.ids[i] = id;
         self.rows[i] = paper;
         self.count = count + 1;
-        self
     }
 }
 
 // An offer, its negotiation and its schedule stand at one place of the three columns.
+// Columns and a count: a book is one block of fixed memory (book_bytes_lem, crates/soundness/specs/Bytes.antt), and ids are looked through alone.
 #[derive(Clone, Copy)]
 pub struct Offers {
     pub ids: [u64; 64],
@@ -235,108 +215,83 @@ impl Offers {
         ensures { result ≡ stored_deals [] }
     {
         let none = Deal::none();
-        let offer = none.offer;
-        let negotiation = none.negotiation;
-        let schedule = none.schedule;
-        let ids = [0u64; 64];
-        let rows = [offer; 64];
-        let negotiations = [negotiation; 64];
-        let schedules = [schedule; 64];
         Offers {
-            ids,
-            rows,
-            negotiations,
-            schedules,
+            ids: [0; 64],
+            rows: [none.offer; 64],
+            negotiations: [none.negotiation; 64],
+            schedules: [none.schedule; 64],
             count: 0,
         }
     }
 
     // Whether ids ascend, rows are sound in the book's edition, and the places past the count are zero.
-    pub fn sound(self, edition: u32) -> bool
-        ensures tested { result ≡ deals_test edition self }
-        ensures whole { WholeDeals self }
+    pub fn sound(&self, edition: u32) -> bool
+        ensures tested { result ≡ deals_test edition self.now }
+        ensures whole { WholeDeals self.now }
     {
-        let count = self.count;
-        let ids = table::ids_sound(&self.ids, count);
         let mut ok = true;
-        let mut i = 0;
-        while i < table::ROOM {
-            let o = self.rows[i];
-            let g = self.negotiations[i];
-            let p = self.schedules[i];
-            let d = Deal {
-                offer: o,
-                negotiation: g,
-                schedule: p,
+        for i in 0..table::ROOM {
+            let deal = Deal {
+                offer: self.rows[i],
+                negotiation: self.negotiations[i],
+                schedule: self.schedules[i],
             };
-            let fits = d.fits(edition, i < count);
-            ok = ok & fits;
-            i += 1;
+            // `&`: no test is skipped, so a turn is one equation.
+            ok = ok & deal.fits(edition, i < self.count);
         }
-        ids & ok
+        table::ids_sound(&self.ids, self.count) & ok
     }
 
     // The row that a key names.
-    pub fn see(self, key: Named) -> SeenDeal
-        requires { DealShelf self }
-        ensures { result ≡ seen_deal (find_by (deals_of self) key) }
+    pub fn see(&self, key: Option<u64>) -> SeenDeal
+        requires { DealShelf self.now }
+        ensures { result ≡ seen_deal (find_by (deals_of self.now) key) }
     {
-        let count = self.count;
-        let spot = table::spot_by(&self.ids, count, key);
-        let place = spot.at;
-        let o = self.rows[place];
-        let g = self.negotiations[place];
-        let q = self.schedules[place];
-        let d = Deal {
-            offer: o,
-            negotiation: g,
-            schedule: q,
+        let spot = table::spot_by(&self.ids, self.count, key);
+        let deal = Deal {
+            offer: self.rows[spot.at],
+            negotiation: self.negotiations[spot.at],
+            schedule: self.schedules[spot.at],
         };
-        SeenDeal::at(spot.here, d)
+        SeenDeal::at(spot.here, deal)
+    }
+
+    // The row put at its key, where there is one.
+    fn put(&mut self, key: Option<u64>, deal: Deal)
+        requires { DealShelf self.old }
+        ensures { self.new ≡ stored_deals (put_by (deals_of self.old) key deal) }
+    {
+        let place = table::spot_by(&self.ids, self.count, key);
+        if place.here {
+            self.rows[place.at] = deal.offer;
+            self.negotiations[place.at] = deal.negotiation;
+            self.schedules[place.at] = deal.schedule;
+        }
     }
 
     // The row left by a turn, put back at its key, or let in where it came.
-    pub fn store(mut self, key: Named, x: SeenDeal) -> Offers
-        requires { DealShelf self }
-        ensures { StoresDeals self key x result }
+    pub fn store(&mut self, key: Option<u64>, x: SeenDeal)
+        requires { DealShelf self.old }
+        ensures { StoresDeals self.old key x self.new }
     {
-        let count = self.count;
-        let spot = table::spot_by(&self.ids, count, key);
-        let place = spot.at;
-        let o = self.rows[place];
-        let g = self.negotiations[place];
-        let q = self.schedules[place];
-        let old = Deal {
-            offer: o,
-            negotiation: g,
-            schedule: q,
-        };
-        let deal = x.row;
-        let d = deal.over(spot.here, old);
-        let e = d.offer;
-        let h = d.negotiation;
-        let l = d.schedule;
-        self.rows[place] = e;
-        self.negotiations[place] = h;
-        self.schedules[place] = l;
-        if !spot.here & x.here {
-            return self.let_in(key.id(), deal);
+        let was = table::spot_by(&self.ids, self.count, key);
+        self.put(key, x.row);
+        if !was.here & x.here {
+            self.let_in(table::id_of(key), x.row);
         }
-        self
     }
 
     // A row let in at its id's place: from there on each row in use moves up by one.
-    pub fn let_in(mut self, id: u64, deal: Deal) -> Offers
-        requires { DealShelf self }
-        ensures { Room 64 (deals_of self) id → result ≡ stored_deals (insert (deals_of self) id deal) }
+    pub fn let_in(&mut self, id: u64, deal: Deal)
+        requires { DealShelf self.old }
+        ensures { Room 64 (deals_of self.old) id → self.new ≡ stored_deals (insert (deals_of self.old) id deal) }
     {
         let count = self.count;
         if table::ROOM <= count {
-            return self;
+            return;
         }
-        let f = table::find(&self.ids, count, id);
-        let Found::Absent(k) = f else {
-            return self;
+        let Err(k) = table::find(&self.ids, count, id) else {
+            return;
         };
         let mut i = count;
         while k < i {
@@ -347,14 +302,10 @@ impl Offers {
             self.schedules[i] = self.schedules[j];
             i = j;
         }
-        let o = deal.offer;
-        let g = deal.negotiation;
-        let p = deal.schedule;
         self.ids[i] = id;
-        self.rows[i] = o;
-        self.negotiations[i] = g;
-        self.schedules[i] = p;
+        self.rows[i] = deal.offer;
+        self.negotiations[i] = deal.negotiation;
+        self.schedules[i] = deal.schedule;
         self.count = count + 1;
-        self
     }
 }

@@ -1,11 +1,10 @@
 -- How the code comes to its answers: from where the cursor or the pen ended to what reading and writing say.
-use Rattle.std.specs.Prelude.{◌≡◌, Bool, true, false, ◌&&◌, ℕ, ◌-◌, ◌^◌, ◌≤◌, ◌<◌, eqb, leb, drop}
+use Rattle.std.specs.Prelude.{◌≡◌, Bool, true, false, ◌&&◌, ℕ, ◌-◌, ◌^◌, ◌≤◌, ◌<◌, leb}
 use Rattle.std.proofs.Math.Path.{refl, sym, ap}
 use Rattle.std.proofs.Common.{◌∙◌, arith}
-use mathlib.Core.List.{List, ◌++◌}
+use mathlib.Core.List.{List}
 use Rattle.std.proofs.Math.ListN.{length}
 use borrow.Author.Tests.{eq-eqb, ne_eqb, le-leb, lt-leb, leb-true, ltb-true, ltb-false}
-use Rattle.refusal.specs.Choice.{pick}
 use Rattle.refusal.specs.ChoiceLaws.{pick_on, pick_off}
 use Rattle.refusal.specs.Refusal.{number, journal_malformed, buffer_short, book_unsound}
 use Rattle.edition.specs.Edition.{first_edition, latest_edition, listed, unnamed_edition}
@@ -25,7 +24,7 @@ use Rattle.shelves.specs.Invoices.{invoices_test}
 use Rattle.rules.specs.Model.{Model}
 use Rattle.book.specs.declared.Book.{Book}
 use Rattle.book.specs.Stored.{model_of, stored, book_test}
-use Rattle.codec.specs.Codec.{Got, got, no, led}
+use Rattle.codec.specs.Codec.{Got, got, led}
 use Rattle.codec.specs.Whole.{loaded, refused, closing}
 use Rattle.codec.specs.Cursor.{cursor}
 use Rattle.codec.specs.Cursors.{shows, Takes, Next, takes_known, led_unknown, stays, from_start}

@@ -1,9 +1,9 @@
 -- Rows that were read, stored at their places. Over any row type and any size.
-use Rattle.std.specs.Prelude.{◌≡◌, length, set}
+use Rattle.std.specs.Prelude.{◌≡◌, length, set, replicate}
 use Rattle.std.proofs.Math.Path.{refl, ap}
 use Rattle.std.proofs.Common.{sym, ◌∙◌, arith}
 use mathlib.Core.List.{List, [], ◌∷◌, ◌++◌, map}
-use Prim.Native.Nat.{ℕ, zero, suc, ◌+◌, ◌≤◌, ◌<◌}
+use Prim.Native.Nat.{ℕ, zero, suc, ◌+◌, ◌<◌}
 use Rattle.table.specs.Tables.{Table, key, held}
 use Rattle.table.specs.Padded.{padded}
 use Rattle.table.specs.Join.{column}
@@ -31,6 +31,12 @@ module _ {E B : Type 0} (d : B) (g : E → B) where
   set_padded zero t x h = absurd (omega arith)
   set_padded (suc n) [] x h = refl
   set_padded (suc n) (y ∷ t) x h = ap (λ l. g y ∷ l) (set_padded n t x (omega arith))
+
+  -- with no row, the places are all alike
+  pub nothing_padded : (n : ℕ) → replicate n d ≡ padded d g n []
+  unfolding padded
+  nothing_padded zero = refl
+  nothing_padded (suc n) = ap (λ l. d ∷ l) (nothing_padded n)
 
 set_map : {A B : Type 0} (f : A → B) (l : List A) (i : ℕ) (x : A) → set (map f l) i (f x) ≡ map f (set l i x)
 set_map f [] i x = refl

@@ -1,5 +1,5 @@
 -- THE TABLE: the fields of a snapshot in their order, by the edition (docs/SNAPSHOT.md). A field more is a line more; its laws come with it.
-use Rattle.std.specs.Prelude.{◌≡◌, refl, Bool, List, ℕ, ◌≤◌, ℤ, pos, length, take}
+use Rattle.std.specs.Prelude.{◌≡◌, refl, Bool, List, ℕ, ℤ, pos, length, take}
 use Rattle.std.proofs.Common.{sym, ap, arith}
 use Rattle.edition.specs.Edition.{listed, round_limit, keeps_terms}
 use Rattle.table.specs.Tables.{Table}

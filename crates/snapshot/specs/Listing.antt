@@ -1,7 +1,7 @@
 -- Rows written one after the other, as the arrays of a table hold them. Over any row type and any size.
 use Rattle.std.specs.Prelude.{◌≡◌, Bool, length, take}
 use Rattle.std.proofs.Math.Path.{refl, ap}
-use Rattle.std.proofs.Common.{sym, ◌∙◌, arith, add-one, take-suc, length-take-le}
+use Rattle.std.proofs.Common.{◌∙◌, arith, add-one, take-suc, length-take-le}
 use Rattle.std.proofs.Math.Bool.{true}
 use mathlib.Core.List.{List, [], ◌∷◌, ◌++◌}
 use Prim.Native.Nat.{ℕ, zero, suc, ◌+◌, ◌≤◌, ◌<◌}
@@ -13,7 +13,6 @@ use Rattle.table.specs.Columns.{level, join_at, length_join}
 use Rattle.table.specs.Join.{Level}
 use Rattle.table.specs.Shelf.{table_of}
 use Rattle.table.proofs.ShelfBack.{length_table}
-use Rattle.table.specs.Tables.{Table}
 use Rattle.table.specs.Test.{ids_test, row_test, rows_test}
 use Rattle.table.proofs.TestLaws.{used}
 use Rattle.sheet.specs.declared.Pen.{Pen}

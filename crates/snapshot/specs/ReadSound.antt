@@ -9,7 +9,7 @@ use Rattle.book.specs.Stored.{stored, book_test}
 use Rattle.soundness.specs.Sound.{fresh_model_lem}
 use Rattle.soundness.specs.Books.{book_sound}
 use Rattle.codec.specs.Codec.{Got, got, no}
-use Rattle.codec.specs.Whole.{Reading, loaded, refused, closing}
+use Rattle.codec.specs.Whole.{loaded, refused, closing}
 use Rattle.snapshot.specs.Snapshot.{sound_in, book_in, model_in, loaded_as, reading}
 
 pub fresh_sound : book_test (stored (fresh_model first_edition)) ≡ true

@@ -1,10 +1,9 @@
 -- How long a snapshot can be: at most what a full book takes.
-use Rattle.std.specs.Prelude.{ℕ, ◌≤◌, length}
+use Rattle.std.specs.Prelude.{ℕ}
 use Rattle.std.proofs.Common.{arith}
 use Rattle.edition.specs.Edition.{round_limit}
 use Rattle.offer.specs.Kept.{limit_in_slots}
-use Rattle.rules.specs.Model.{Model}
-use Rattle.codec.specs.Codec.{◌then◌, rows}
+use Rattle.codec.specs.Codec.{rows}
 use Rattle.codec.specs.Weight.{Weighs, weighs_less, weighs_given, weighs_led, weighs_column, weighs_then, weighs_via, weighs_signed, weighs_flag, weighs_rows}
 use Rattle.snapshot.specs.Snapshot.{snapshot_most}
 use Rattle.snapshot.specs.Layout.{settings, totals, purse, account, invoice, terms, offer, round, negotiation, kept, schedule, deal, fields, layout}

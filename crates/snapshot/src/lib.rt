@@ -2,6 +2,7 @@
 #![tactic(auto)]
 
 mod reading;
+mod rows;
 mod tags;
 mod writing;
 
@@ -38,16 +39,11 @@ pub fn read(s: &[u8]) -> Loaded
     ensures { result ≡ reading s.now }
 {
     let e = reading::read_edition(s);
-    let p = reading::read_settings(s, e.c, e.edition);
+    let p = reading::read_settings(s, e.c, e.row);
     let t = reading::read_totals(s, p.c);
     let a = reading::read_accounts(s, t.c);
     let i = reading::read_invoices(s, a.c);
-    let o = reading::read_offers(s, i.c, e.edition);
-    let settings = p.row;
-    let totals = t.row;
-    let accounts = a.table;
-    let invoices = i.table;
-    let offers = o.table;
+    let o = reading::read_offers(s, i.c, e.row);
     let c = o.c;
     if c.code != 0 {
         return refused(c.code, c.at);
@@ -56,11 +52,11 @@ pub fn read(s: &[u8]) -> Loaded
         return refused(refusal::JOURNAL_MALFORMED, c.at);
     }
     let book = Book {
-        accounts,
-        invoices,
-        offers,
-        totals,
-        settings,
+        accounts: a.row,
+        invoices: i.row,
+        offers: o.row,
+        totals: t.row,
+        settings: p.row,
     };
     let sound = book.sound();
     if !(c.ok & sound) {

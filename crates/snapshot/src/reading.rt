@@ -9,9 +9,10 @@ ghost use Rattle.shelves.specs.Invoices.{stored_invoices};
 ghost use Rattle.shelves.specs.Offers.{stored_deals};
 ghost use Rattle.edition.specs.Edition.{round_limit};
 ghost use Rattle.snapshot.specs.Layout.{settings, totals, purse, account, invoice, terms, offer, round, negotiation, kept, schedule, deal};
-ghost use Rattle.snapshot.specs.Filling.{Reads, laid_rounds};
+ghost use Rattle.snapshot.specs.Filling.{FillingTable, Reads, laid_rounds};
 ghost use Rattle.snapshot.specs.Answers.{Opens};
 
+use crate::rows::Row;
 use crate::tags;
 use account::{Account, Purse};
 use codec::Cursor;
@@ -23,18 +24,18 @@ use shelves::{Accounts, Invoices, Offers};
 use terms::{Schedule, Terms};
 use totals::Totals;
 
-// The edition that the bytes name, and where its fields begin.
+// What was read, and the cursor past it.
 #[derive(Clone, Copy)]
-pub(crate) struct ReadEdition {
-    pub(crate) edition: u32,
+pub(crate) struct Read<T> {
+    pub(crate) row: T,
     pub(crate) c: Cursor,
 }
 
-fn unlisted(ok: bool) -> ReadEdition
+fn unlisted(ok: bool) -> Read<u32>
     ensures { result.c ≡ cursor (number journal_malformed) 0 ok 0 }
 {
-    ReadEdition {
-        edition: edition::FIRST,
+    Read {
+        row: edition::FIRST,
         c: Cursor {
             code: refusal::JOURNAL_MALFORMED,
             at: 0,
@@ -44,13 +45,14 @@ fn unlisted(ok: bool) -> ReadEdition
     }
 }
 
-pub(crate) fn read_edition(s: &[u8]) -> ReadEdition
-    ensures { Opens s.now result.edition result.c }
+// The edition that the bytes name, and where its fields begin.
+pub(crate) fn read_edition(s: &[u8]) -> Read<u32>
+    ensures { Opens s.now result.row result.c }
 {
     let start = Cursor::start();
     if !wire::begins(s, 0, tags::EDITION, 8) {
-        return ReadEdition {
-            edition: edition::UNNAMED,
+        return Read {
+            row: edition::UNNAMED,
             c: start,
         };
     }
@@ -62,16 +64,10 @@ pub(crate) fn read_edition(s: &[u8]) -> ReadEdition
     if !edition::is_listed(edition) {
         return unlisted(c.ok);
     }
-    ReadEdition { edition, c }
+    Read { row: edition, c }
 }
 
-#[derive(Clone, Copy)]
-pub(crate) struct ReadSettings {
-    pub(crate) row: Settings,
-    pub(crate) c: Cursor,
-}
-
-pub(crate) fn read_settings(s: &[u8], c: Cursor, edition: u32) -> ReadSettings
+pub(crate) fn read_settings(s: &[u8], c: Cursor, edition: u32) -> Read<Settings>
     ensures { Takes s.now c (settings edition) result.c result.row }
 {
     let window = codec::next(s, c, tags::WINDOW, codec::WHOLE);
@@ -89,16 +85,10 @@ pub(crate) fn read_settings(s: &[u8], c: Cursor, edition: u32) -> ReadSettings
         appointed: appointed.x == 1,
         paused: paused.x == 1,
     };
-    ReadSettings { row, c: repayer }
+    Read { row, c: repayer }
 }
 
-#[derive(Clone, Copy)]
-pub(crate) struct ReadTotals {
-    pub(crate) row: Totals,
-    pub(crate) c: Cursor,
-}
-
-pub(crate) fn read_totals(s: &[u8], c: Cursor) -> ReadTotals
+pub(crate) fn read_totals(s: &[u8], c: Cursor) -> Read<Totals>
     ensures { Takes s.now c totals result.c result.row }
 {
     let offers = codec::next(s, c, tags::OFFERS_MADE, codec::HALF);
@@ -111,16 +101,10 @@ pub(crate) fn read_totals(s: &[u8], c: Cursor) -> ReadTotals
         fees: money::of_bits(fees.x),
         offers: offers.x as u32,
     };
-    ReadTotals { row, c: fees }
+    Read { row, c: fees }
 }
 
-#[derive(Clone, Copy)]
-struct ReadPurse {
-    row: Purse,
-    c: Cursor,
-}
-
-fn read_purse(s: &[u8], c: Cursor) -> ReadPurse
+fn read_purse(s: &[u8], c: Cursor) -> Read<Purse>
     ensures { Takes s.now c purse result.c result.row }
 {
     let balance = codec::next(s, c, tags::BALANCE, codec::WHOLE);
@@ -133,47 +117,31 @@ fn read_purse(s: &[u8], c: Cursor) -> ReadPurse
         offered: money::of_bits(offered.x),
         accepted: money::of_bits(accepted.x),
     };
-    ReadPurse { row, c: accepted }
+    Read { row, c: accepted }
 }
 
-#[derive(Clone, Copy)]
-struct ReadAccount {
-    id: u64,
-    row: Account,
-    c: Cursor,
-}
-
-fn read_account(s: &[u8], c: Cursor) -> ReadAccount
-    ensures { Takes s.now c account result.c (result.id, result.row) }
+pub(crate) fn read_account(s: &[u8], c: Cursor) -> Read<(u64, Account)>
+    ensures { Takes s.now c account result.c (result.row.0, result.row.1) }
 {
     let id = codec::next(s, c, tags::ID, codec::WHOLE);
     let p = read_purse(s, id);
     let pending = codec::next(s, p.c, tags::OFFERS_PENDING, codec::HALF);
     let repaid = codec::next(s, pending, tags::OFFERS_REPAID, codec::HALF);
     let blacklisted = codec::next(s, repaid, tags::BLACKLISTED, codec::FLAG);
-    let purse = p.row;
     let row = Account {
-        purse,
+        purse: p.row,
         pending: pending.x as u32,
         repaid: repaid.x as u32,
         blacklisted: blacklisted.x == 1,
     };
-    ReadAccount {
-        id: id.x,
-        row,
+    Read {
+        row: (id.x, row),
         c: blacklisted,
     }
 }
 
-#[derive(Clone, Copy)]
-struct ReadInvoice {
-    id: u64,
-    row: Invoice,
-    c: Cursor,
-}
-
-fn read_invoice(s: &[u8], c: Cursor) -> ReadInvoice
-    ensures { Takes s.now c invoice result.c (result.id, result.row) }
+pub(crate) fn read_invoice(s: &[u8], c: Cursor) -> Read<(u64, Invoice)>
+    ensures { Takes s.now c invoice result.c (result.row.0, result.row.1) }
 {
     let id = codec::next(s, c, tags::ID, codec::WHOLE);
     let originator = codec::next(s, id, tags::ORIGINATOR, codec::WHOLE);
@@ -184,20 +152,13 @@ fn read_invoice(s: &[u8], c: Cursor) -> ReadInvoice
         amount: money::of_bits(amount.x),
         status: status.x as u32,
     };
-    ReadInvoice {
-        id: id.x,
-        row,
+    Read {
+        row: (id.x, row),
         c: status,
     }
 }
 
-#[derive(Clone, Copy)]
-struct ReadTerms {
-    row: Terms,
-    c: Cursor,
-}
-
-fn read_terms(s: &[u8], c: Cursor) -> ReadTerms
+fn read_terms(s: &[u8], c: Cursor) -> Read<Terms>
     ensures { Takes s.now c terms result.c result.row }
 {
     let amount = codec::next(s, c, tags::AMOUNT, codec::WHOLE);
@@ -208,16 +169,10 @@ fn read_terms(s: &[u8], c: Cursor) -> ReadTerms
         rate: rate.x as u32,
         duration: duration.x,
     };
-    ReadTerms { row, c: duration }
+    Read { row, c: duration }
 }
 
-#[derive(Clone, Copy)]
-struct ReadOffer {
-    row: Offer,
-    c: Cursor,
-}
-
-fn read_offer(s: &[u8], c: Cursor) -> ReadOffer
+fn read_offer(s: &[u8], c: Cursor) -> Read<Offer>
     ensures { Takes s.now c offer result.c result.row }
 {
     let invoice = codec::next(s, c, tags::INVOICE, codec::WHOLE);
@@ -227,9 +182,8 @@ fn read_offer(s: &[u8], c: Cursor) -> ReadOffer
     let status = codec::next(s, expires, tags::STATUS, codec::HALF);
     let funded = codec::next(s, status, tags::FUNDED, codec::WHOLE);
     let repaid = codec::next(s, funded, tags::REPAID, codec::WHOLE);
-    let terms = t.row;
     let row = Offer {
-        terms,
+        terms: t.row,
         invoice: invoice.x,
         lender: lender.x,
         expires: expires.x,
@@ -237,120 +191,73 @@ fn read_offer(s: &[u8], c: Cursor) -> ReadOffer
         repaid: money::of_bits(repaid.x),
         status: status.x as u32,
     };
-    ReadOffer { row, c: repaid }
+    Read { row, c: repaid }
 }
 
-#[derive(Clone, Copy)]
-struct ReadRound {
-    row: Round,
-    c: Cursor,
-}
-
-fn read_round(s: &[u8], c: Cursor) -> ReadRound
+fn read_round(s: &[u8], c: Cursor) -> Read<Round>
     ensures { Takes s.now c round result.c result.row }
 {
     let party = codec::next(s, c, tags::PARTY, codec::HALF);
     let t = read_terms(s, party);
     let time = codec::next(s, t.c, tags::TIME, codec::WHOLE);
-    let terms = t.row;
-    let row = Round::new(time.x, terms, party.x as u32);
-    ReadRound { row, c: time }
+    let row = Round::new(time.x, t.row, party.x as u32);
+    Read { row, c: time }
 }
 
 // The rounds that were read, and how many they are.
-#[derive(Clone, Copy)]
-struct ReadRounds {
-    rows: [Round; 16],
-    n: u32,
-    c: Cursor,
-}
-
-fn read_rounds(s: &[u8], c: Cursor, edition: u32) -> ReadRounds
-    ensures { Reads laid_rounds (rows 0x97 (round_limit edition) round) s.now c (result.rows, result.n) result.c }
+fn read_rounds(s: &[u8], c: Cursor, edition: u32) -> Read<([Round; 16], u32)>
+    ensures { Reads laid_rounds (rows 0x97 (round_limit edition) round) s.now c (result.row.0, result.row.1) result.c }
 {
     let limit = edition::round_limit(edition);
     let k = codec::count(s, c, tags::ROUNDS, limit as u64);
     let len = k.x as usize;
-    let none = Negotiation::none();
-    let mut rows = none.rounds;
+    let mut rows = Negotiation::none().rounds;
     let mut d = k;
-    let mut i: usize = 0;
-    while i < len {
+    for i in 0..len {
         let g = read_round(s, d);
-        let row = g.row;
-        let e = g.c;
-        rows[i] = row;
-        d = e;
-        i += 1;
+        rows[i] = g.row;
+        d = g.c;
     }
-    ReadRounds {
-        rows,
-        n: k.x as u32,
+    Read {
+        row: (rows, k.x as u32),
         c: d,
     }
 }
 
-#[derive(Clone, Copy)]
-struct ReadNegotiation {
-    row: Negotiation,
-    c: Cursor,
-}
-
-fn read_negotiation(s: &[u8], c: Cursor, edition: u32) -> ReadNegotiation
+fn read_negotiation(s: &[u8], c: Cursor, edition: u32) -> Read<Negotiation>
     ensures { Takes s.now c (negotiation edition) result.c result.row }
 {
     let deadline = codec::next(s, c, tags::DEADLINE, codec::WHOLE);
     let outcome = codec::next(s, deadline, tags::OUTCOME, codec::HALF);
     let t = read_rounds(s, outcome, edition);
-    let rounds = t.rows;
-    let d = t.c;
+    let (rounds, len) = t.row;
     let row = Negotiation {
         rounds,
         deadline: deadline.x,
-        len: t.n,
+        len,
         outcome: outcome.x as u32,
     };
-    ReadNegotiation { row, c: d }
+    Read { row, c: t.c }
 }
 
 // The terms that a schedule keeps and its kind; zeros where the edition has neither.
-#[derive(Clone, Copy)]
-struct ReadKept {
-    amount: i64,
-    rate: u32,
-    kind: u32,
-    c: Cursor,
-}
-
-fn read_kept(s: &[u8], c: Cursor, edition: u32) -> ReadKept
-    ensures { Takes s.now c (kept edition) result.c (result.amount, (result.rate, result.kind)) }
+fn read_kept(s: &[u8], c: Cursor, edition: u32) -> Read<(i64, u32, u32)>
+    ensures { Takes s.now c (kept edition) result.c (result.row.0, (result.row.1, result.row.2)) }
 {
     if !edition::keeps_terms(edition) {
-        return ReadKept {
-            amount: 0,
-            rate: 0,
-            kind: terms::FLAT,
+        return Read {
+            row: (0, 0, terms::FLAT),
             c,
         };
     }
     let amount = codec::next(s, c, tags::KEPT_AMOUNT, codec::WHOLE);
     let rate = codec::next(s, amount, tags::KEPT_RATE, codec::HALF);
     let kind = codec::next(s, rate, tags::KIND, codec::HALF);
-    ReadKept {
-        amount: money::of_bits(amount.x),
-        rate: rate.x as u32,
-        kind: kind.x as u32,
-        c: kind,
-    }
+    let kept = (money::of_bits(amount.x), rate.x as u32, kind.x as u32);
+    Read { row: kept, c: kind }
 }
 
-#[derive(Clone, Copy)]
-struct ReadSchedule {
-    row: Schedule,
-    c: Cursor,
-}
-
-fn read_schedule(s: &[u8], c: Cursor, edition: u32) -> ReadSchedule
+fn read_schedule(s: &[u8], c: Cursor, edition: u32) -> Read<Schedule>
     ensures { Takes s.now c (schedule edition) result.c result.row }
 {
     let count = codec::next(s, c, tags::COUNT, codec::HALF);
@@ -363,148 +270,103 @@ fn read_schedule(s: &[u8], c: Cursor, edition: u32) -> ReadSchedule
         code: code.x as u32,
         installment: money::of_bits(installment.x),
         first: first.x,
-        amount: k.amount,
-        rate: k.rate,
-        kind: k.kind,
+        amount: k.row.0,
+        rate: k.row.1,
+        kind: k.row.2,
     };
-    let d = k.c;
-    ReadSchedule { row, c: d }
+    Read { row, c: k.c }
 }
 
-#[derive(Clone, Copy)]
-struct ReadDeal {
-    id: u64,
-    row: Deal,
-    c: Cursor,
-}
-
-fn read_deal(s: &[u8], c: Cursor, edition: u32) -> ReadDeal
-    ensures { Takes s.now c (deal edition) result.c (result.id, result.row) }
+fn read_deal(s: &[u8], c: Cursor, edition: u32) -> Read<(u64, Deal)>
+    ensures { Takes s.now c (deal edition) result.c (result.row.0, result.row.1) }
 {
     let id = codec::next(s, c, tags::ID, codec::WHOLE);
     let o = read_offer(s, id);
     let n = read_negotiation(s, o.c, edition);
     let p = read_schedule(s, n.c, edition);
-    let offer = o.row;
-    let negotiation = n.row;
-    let schedule = p.row;
     let row = Deal {
-        offer,
-        negotiation,
-        schedule,
+        offer: o.row,
+        negotiation: n.row,
+        schedule: p.row,
     };
-    let d = p.c;
-    ReadDeal {
-        id: id.x,
-        row,
+    Read {
+        row: (id.x, row),
+        c: p.c,
+    }
+}
+
+// As many rows as were counted, at the first places of their arrays.
+fn read_rows<R: Row>(s: &[u8], k: Cursor, none: R) -> Read<([u64; 64], [R; 64])>
+    requires { k.x ≤ 64 }
+    ensures { FillingTable R.fields none 64 s.now k k.x result.row.0 result.row.1 result.c }
+{
+    let mut ids = [0u64; 64];
+    let mut rows = [none; 64];
+    let mut d = k;
+    for i in 0..k.x as usize {
+        let g = R::read(s, d);
+        ids[i] = g.row.0;
+        rows[i] = g.row.1;
+        d = g.c;
+    }
+    Read {
+        row: (ids, rows),
         c: d,
     }
 }
 
-#[derive(Clone, Copy)]
-pub(crate) struct ReadAccounts {
-    pub(crate) table: Accounts,
-    pub(crate) c: Cursor,
-}
-
-pub(crate) fn read_accounts(s: &[u8], c: Cursor) -> ReadAccounts
-    ensures { Reads stored_accounts (rows 0x70 64 account) s.now c result.table result.c }
+pub(crate) fn read_accounts(s: &[u8], c: Cursor) -> Read<Accounts>
+    ensures { Reads stored_accounts (rows 0x70 64 account) s.now c result.row result.c }
 {
     let k = codec::count(s, c, tags::ACCOUNTS, 64);
-    let n = k.x as usize;
-    let none = Accounts::none();
-    let mut ids = none.ids;
-    let mut rows = none.rows;
-    let mut d = k;
-    let mut i: usize = 0;
-    while i < n {
-        let g = read_account(s, d);
-        let row = g.row;
-        let e = g.c;
-        ids[i] = g.id;
-        rows[i] = row;
-        d = e;
-        i += 1;
-    }
+    let g = read_rows(s, k, Account::none());
+    let (ids, rows) = g.row;
     let table = Accounts {
         ids,
         rows,
-        count: n,
+        count: k.x as usize,
     };
-    ReadAccounts { table, c: d }
+    Read { row: table, c: g.c }
 }
 
-#[derive(Clone, Copy)]
-pub(crate) struct ReadInvoices {
-    pub(crate) table: Invoices,
-    pub(crate) c: Cursor,
-}
-
-pub(crate) fn read_invoices(s: &[u8], c: Cursor) -> ReadInvoices
-    ensures { Reads stored_invoices (rows 0x80 64 invoice) s.now c result.table result.c }
+pub(crate) fn read_invoices(s: &[u8], c: Cursor) -> Read<Invoices>
+    ensures { Reads stored_invoices (rows 0x80 64 invoice) s.now c result.row result.c }
 {
     let k = codec::count(s, c, tags::INVOICES, 64);
-    let n = k.x as usize;
-    let none = Invoices::none();
-    let mut ids = none.ids;
-    let mut rows = none.rows;
-    let mut d = k;
-    let mut i: usize = 0;
-    while i < n {
-        let g = read_invoice(s, d);
-        let row = g.row;
-        let e = g.c;
-        ids[i] = g.id;
-        rows[i] = row;
-        d = e;
-        i += 1;
-    }
+    let g = read_rows(s, k, Invoice::none());
+    let (ids, rows) = g.row;
     let table = Invoices {
         ids,
         rows,
-        count: n,
+        count: k.x as usize,
     };
-    ReadInvoices { table, c: d }
+    Read { row: table, c: g.c }
 }
 
-#[derive(Clone, Copy)]
-pub(crate) struct ReadOffers {
-    pub(crate) table: Offers,
-    pub(crate) c: Cursor,
-}
-
-pub(crate) fn read_offers(s: &[u8], c: Cursor, edition: u32) -> ReadOffers
-    ensures { Reads stored_deals (rows 0x90 64 (deal edition)) s.now c result.table result.c }
+pub(crate) fn read_offers(s: &[u8], c: Cursor, edition: u32) -> Read<Offers>
+    ensures { Reads stored_deals (rows 0x90 64 (deal edition)) s.now c result.row result.c }
 {
     let k = codec::count(s, c, tags::OFFERS, 64);
-    let n = k.x as usize;
     let none = Offers::none();
     let mut ids = none.ids;
     let mut rows = none.rows;
     let mut negotiations = none.negotiations;
     let mut schedules = none.schedules;
     let mut d = k;
-    let mut i: usize = 0;
-    while i < n {
+    for i in 0..k.x as usize {
         let g = read_deal(s, d, edition);
-        let row = g.row;
-        let e = g.c;
-        let o = row.offer;
-        let t = row.negotiation;
-        let p = row.schedule;
-        ids[i] = g.id;
-        rows[i] = o;
-        negotiations[i] = t;
-        schedules[i] = p;
-        d = e;
-        i += 1;
+        ids[i] = g.row.0;
+        rows[i] = g.row.1.offer;
+        negotiations[i] = g.row.1.negotiation;
+        schedules[i] = g.row.1.schedule;
+        d = g.c;
     }
     let table = Offers {
         ids,
         rows,
         negotiations,
         schedules,
-        count: n,
+        count: k.x as usize,
     };
-    ReadOffers { table, c: d }
+    Read { row: table, c: d }
 }

@@ -6,7 +6,6 @@ ghost use Rattle.refusal.specs.Choice.{pick};
 ghost use Rattle.replay.specs.Replay.{replay_of, outcome_of, replayed_from};
 
 use book::Book;
-use journal::Opened;
 use loading::Given;
 use replay::Outcome;
 use std::env::Env;
@@ -36,21 +35,12 @@ the status is 1 and OUT stays as it was. docs/SNAPSHOT.md says what a snapshot h
     );
 }
 
-// How many records were answered, and the number and the offset of what stopped a replay.
-#[derive(Clone, Copy)]
-struct Stop {
-    count: usize,
-    number: u64,
-    at: usize,
-}
-
 // What a journal leaves: of the given book, or of a fresh one of its edition where none is given.
 fn replayed(start: Given, s: &[u8]) -> Outcome
     ensures { result ≡ pick start.here (replayed_from start.book s.now) (outcome_of 0 (replay_of s.now)) }
 {
-    let book = start.book;
     if start.here {
-        return replay::replay_from(book, s);
+        return replay::replay_from(start.book, s);
     }
     replay::replay(s)
 }
@@ -79,28 +69,19 @@ fn malformed(path: &[u8], record: u64, at: usize) {
 
 // The number of the record after so many; the largest stays.
 fn next(count: usize) -> u64 {
-    let n = count as u64;
-    if n < u64::MAX {
-        return n + 1;
-    }
-    n
+    (count as u64).saturating_add(1)
 }
 
 // What is wrong at the start of a journal: its header, or the edition that it names.
 fn bad_start(path: &[u8], s: &[u8], own: u32) {
-    let h = journal::header(s);
-    match h {
-        Opened::Records(named, _) => {
-            other_edition(path, named, own);
-        }
-        Opened::Malformed(at) => {
-            malformed(path, 0, at);
-        }
+    match journal::header(s) {
+        Ok(header) => other_edition(path, header.edition, own),
+        Err(at) => malformed(path, 0, at),
     }
 }
 
 // Why a journal was not replayed to its end.
-fn stopped(path: &[u8], s: &[u8], own: u32, r: Stop) {
+fn stopped(path: &[u8], s: &[u8], own: u32, r: &Outcome) {
     if r.number == refusal::BOOK_UNSOUND {
         files::say(path);
         files::say(b": the book before it is not sound (15); nothing was written\n");
@@ -125,29 +106,21 @@ fn unwritten(path: &[u8], number: u64) {
 fn save(rt: &impl Files, path: &[u8], book: Book) -> bool {
     let mut out: [u8; 81920] = [0; 81920];
     let w = snapshot::write(book, &mut out);
-    let n = w.size;
     if w.number != 0 {
         unwritten(path, w.number);
         return false;
     }
-    files::replace(rt, path, &out[..n])
+    files::replace(rt, path, &out[..w.size])
 }
 
 // Writes the snapshot of what a journal leaves, or says why there is none.
 fn keep(rt: &impl Files, start: Given, journal: &[u8], s: &[u8], out: &[u8]) -> bool {
-    let before = start.book.settings;
     let r = replayed(start, s);
     if r.number != 0 {
-        let stop = Stop {
-            count: r.count,
-            number: r.number,
-            at: r.at,
-        };
-        stopped(journal, s, before.edition, stop);
+        stopped(journal, s, start.book.settings.edition, &r);
         return false;
     }
-    let book = r.book;
-    save(rt, out, book)
+    save(rt, out, r.book)
 }
 
 // The journal of a file, up to its limit.
@@ -173,7 +146,7 @@ fn run(rt: &(impl Env + Files), start: Given, first: usize, second: usize) -> bo
     let n = files::word(rt, first, &mut journal);
     let mut out = io::buffer();
     let k = files::word(rt, second, &mut out);
-    if (n == 0) | (k == 0) {
+    if n == 0 || k == 0 {
         return usage();
     }
     if check::same(&journal[..n], &out[..k]) {
@@ -203,10 +176,10 @@ fn obey(rt: &(impl Env + Files)) -> bool {
         return true;
     }
     let from = check::same(&word[..size], b"--from");
-    if from & (count == 5) {
+    if from && count == 5 {
         return run_from(rt);
     }
-    if from | (count != 3) {
+    if from || count != 3 {
         return usage();
     }
     run(rt, loading::none(), 1, 2)

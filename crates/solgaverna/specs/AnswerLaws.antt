@@ -1,14 +1,16 @@
 -- Where each answer of the library comes from. Assumes nothing.
-use Rattle.std.specs.Prelude.{◌≡◌, refl, Bool, List, [], ◌∷◌, ℕ, zero, suc, ◌-◌, leb, ltb, length, get_or, set}
+use Rattle.std.specs.Prelude.{◌≡◌, refl, Bool, not, Result, Err, List, [], ℕ, zero, suc, ◌-◌, leb, length, get_or}
 use Rattle.std.proofs.Math.Path.{sym, ap}
-use Rattle.std.proofs.Common.{◌∙◌, arith, ltb-false}
+use Rattle.std.proofs.Common.{◌∙◌, arith, eq-eqb, ne_eqb}
 use Rattle.std.proofs.Math.Bool.{true, false}
 use Rattle.std.proofs.Math.Dec.{eqb}
 use Rattle.sheet.specs.Shown.{listed_in}
 use Rattle.refusal.specs.Choice.{pick}
-use Rattle.refusal.specs.ChoiceLaws.{on, off}
+use Rattle.refusal.specs.ChoiceLaws.{on, off, pick_on, pick_off}
+use Rattle.refusal.specs.declared.Refusal.{Refusal}
 use Rattle.refusal.specs.Refusal.{number, journal_malformed, buffer_short}
-use Rattle.lists.specs.Listing.{Reply}
+use Rattle.refusal.specs.RefusalLaws.{refusal_not-0}
+use Rattle.lists.specs.Listing.{Reply, listed_says}
 use Rattle.book.specs.declared.Book.{Book}
 use Rattle.replay.specs.declared.Outcome.{Outcome}
 use Rattle.rules.specs.Model.{Model}
@@ -16,8 +18,7 @@ use Rattle.text.specs.Answers as Text
 use Rattle.text.specs.Journal.{fault_line}
 use Rattle.asking.specs.Questions.{questions_in, answers_of}
 use Rattle.asking.specs.QuestionLaws.{answers_faulty, answers_whole}
-use Rattle.solgaverna.specs.declared.Four.{Four}
-use Rattle.solgaverna.specs.Answers.{minus, coded, of_outcome, told, four_says, four_over, fault_of, line_of}
+use Rattle.solgaverna.specs.Answers.{minus, coded, code, left, of_outcome, of_book, told, four_over, fault_of, line_of}
 
 pub turned : (n : ℕ) → (n ≡ 0 → ⊥) → 18446744073709551615 - (n - 1) ≡ 18446744073709551616 - n
 turned zero h = absurd (h refl)
@@ -33,40 +34,41 @@ module _ (l : List ℕ) (f : Book → ℕ × List ℕ) {o q : Outcome} (e : o �
   unfolding of_outcome
   whole h k = on _ (ap (λ (x : Outcome). eqb x.number 0) (sym e) ∙ h) (k ∙ ap (λ (x : Outcome). f x.book) e)
 
+-- a refusal's code
+pub code_err : (r : Refusal) → code (Err r) ≡ minus (number r)
+code_err r = pick_off 0 (minus (number r)) (refusal_not-0 r)
+
+-- an answer of the book that a journal leaves
+module _ (s l : List ℕ) (f : Book → ℕ × List ℕ) where
+  pub book_bad : {e : Refusal} → ((left s).number ≡ 0 → ⊥) → e ≡ journal_malformed → ◌≡◌ {A = ℕ × List ℕ} (minus (number e), l) (of_book s l f)
+  unfolding of_outcome
+  book_bad {e} h q = rw q (sym (pick_off (f (left s).book) (minus (number journal_malformed), l) (ne_eqb _ _ h)))
+
+  pub code_bad : {e : Refusal} (r : Result ℕ Refusal) → ((left s).number ≡ 0 → ⊥) → e ≡ journal_malformed → r ≡ Err e → ◌≡◌ {A = ℕ × List ℕ} (code r, l) (of_book s l f)
+  code_bad {e} r h q k = rw k (ap (λ (n : ℕ). (n, l)) (code_err e) ∙ book_bad h q)
+
+  pub book_good : {b : Book} {x : ℕ × List ℕ} → (left s).number ≡ 0 → b ≡ (left s).book → x ≡ f b → x ≡ of_book s l f
+  unfolding of_outcome
+  book_good h q e = e ∙ ap f q ∙ sym (pick_on (f (left s).book) (minus (number journal_malformed), l) (eq-eqb _ _ h))
+
 -- a list's answer
-pub counts : {r : Reply} {x : ℕ} {m : List ℕ} {a : Reply × List ℕ} → x ≡ coded r.0 (get_or r.1 0 0) → (r, m) ≡ a → (x, m) ≡ told a
-counts {m = m} e h = ap (λ (n : ℕ). (n, m)) e ∙ ap told h
+pub counts_by : {r : Reply} {x : ℕ} {m : List ℕ} {a : Reply × List ℕ} → x ≡ coded r.0 (get_or r.1 0 0) → (r, m) ≡ a → (x, m) ≡ told a
+counts_by {m = m} e h = ap (λ (n : ℕ). (n, m)) e ∙ ap told h
+
+pub counts : (r : Result ℕ Refusal) {m : List ℕ} {a : Reply × List ℕ} → (listed_says r, m) ≡ a → ◌≡◌ {A = ℕ × List ℕ} (code r, m) (told a)
+counts r h = ap told h
 
 -- the answers to questions
 pub sizes : {a b : ℕ × ℕ} {x : ℕ} {m l : List ℕ} → x ≡ coded a.0 a.1 → (a ≡ b) × (m ≡ l) → ◌≡◌ {A = ℕ × List ℕ} (x, m) (coded b.0 b.1, l)
 sizes {b = b} {m = m} e h = ap (λ (n : ℕ). (n, m)) (e ∙ ap (λ (z : ℕ × ℕ). coded z.0 z.1) h.0) ∙ ap (λ (z : List ℕ). (coded b.0 b.1, z)) h.1
 
 -- four numbers
-says_by : (x : Four) (t : Bool) → eqb x.number 0 ≡ t → four_says x ≡ pick t (0, x.a ∷ x.b ∷ x.c ∷ x.d ∷ []) (x.number, [])
-unfolding four_says
-says_by x t e = ap (λ (b : Bool). pick b (0, x.a ∷ x.b ∷ x.c ∷ x.d ∷ []) (x.number, [])) e
+four_err : (r : Refusal) (l : List ℕ) → ◌≡◌ {A = ℕ × List ℕ} (code (Err r), l) (four_over (number r, []) l)
+unfolding four_over
+four_err r l = ap (λ (n : ℕ). (n, l)) (code_err r) ∙ sym (pick_on _ _ (ap not (refusal_not-0 r)))
 
-four_set : (l : List ℕ) (a b c d : ℕ) → ltb (length l) 4 ≡ false → ◌≡◌ {A = ℕ × List ℕ} (4, set (set (set (set l 0 a) 1 b) 2 c) 3 d) (four_over (0, a ∷ b ∷ c ∷ d ∷ []) l)
-unfolding four_over pick
-four_set [] a b c d h = let z = ltb-false 0 4 h in absurd (omega arith)
-four_set (x ∷ []) a b c d h = let z = ltb-false 1 4 h in absurd (omega arith)
-four_set (x ∷ y ∷ []) a b c d h = let z = ltb-false 2 4 h in absurd (omega arith)
-four_set (x ∷ y ∷ z ∷ []) a b c d h = let w = ltb-false 3 4 h in absurd (omega arith)
-four_set (x ∷ y ∷ z ∷ w ∷ l) a b c d h = off _ h refl
-
-module _ (x : Four) (l : List ℕ) where
-  pub four_refused : {r : ℕ} → r ≡ minus x.number → eqb x.number 0 ≡ false → ◌≡◌ {A = ℕ × List ℕ} (r, l) (four_over (four_says x) l)
-  unfolding four_over pick
-  four_refused k e = ap (λ (n : ℕ). (n, l)) k ∙ sym (ap (λ (r : Reply). four_over r l) (says_by x false e) ∙ rw e refl)
-
-  pub four_short : {r : ℕ} → r ≡ minus (number buffer_short) → eqb x.number 0 ≡ true → ltb (length l) 4 ≡ true → ◌≡◌ {A = ℕ × List ℕ} (r, l) (four_over (four_says x) l)
-  unfolding four_over pick
-  four_short k e h = ap (λ (n : ℕ). (n, l)) k ∙ sym (ap (λ (r : Reply). four_over r l) (says_by x true e) ∙ rw h refl)
-
-  pub four_fits : eqb x.number 0 ≡ true → ltb (length l) 4 ≡ false
-      → ◌≡◌ {A = ℕ × List ℕ} (4, set (set (set (set l 0 x.a) 1 x.b) 2 x.c) 3 x.d) (four_over (four_says x) l)
-  unfolding pick
-  four_fits e h = four_set l x.a x.b x.c x.d h ∙ sym (ap (λ (r : Reply). four_over r l) (says_by x true e))
+pub four_fails : {e : Refusal} {a : Reply} (r : Result ℕ Refusal) (l : List ℕ) → (number e, []) ≡ a → r ≡ Err e → ◌≡◌ {A = ℕ × List ℕ} (code r, l) (four_over a l)
+four_fails {e} r l h k = rw k (four_err e l ∙ ap (λ (z : Reply). four_over z l) h)
 
 -- a faulty line
 line_by_lem : (t : Bool) (n : ℕ) → line_of (pick t (0, n) (number buffer_short, 0)) ≡ 0

@@ -1,10 +1,10 @@
 -- What the functions for C and Rust answer: a count, or minus the number of a refusal in two's complement. A journal goes in; one that is malformed gives 13.
-use Rattle.std.specs.Prelude.{not, List, [], ◌∷◌, ◌++◌, ℕ, ◌-◌, eqb, ltb, length, get_or, drop}
+use Rattle.std.specs.Prelude.{not, Option, Some, None, Result, List, ◌++◌, ℕ, ◌-◌, eqb, ltb, length, get_or, drop}
 use Rattle.refusal.specs.Choice.{pick}
-use Rattle.refusal.specs.Refusal.{number, invalid_input, journal_malformed, buffer_short, book_unsound}
-use Rattle.lists.specs.Listing.{Reply}
-use Rattle.lists.specs.declared.Asked.{Asked}
-use Rattle.lists.specs.declared.Asked.TheVariants.{For, Unlisted}
+use Rattle.refusal.specs.Refusal.{number, invalid_input, journal_malformed, buffer_short}
+use Rattle.refusal.specs.declared.Refusal.{Refusal}
+use Rattle.lists.specs.Listing.{Reply, listed_says}
+use Rattle.lists.specs.declared.Wanted.{Wanted}
 use Rattle.book.specs.declared.Book.{Book}
 use Rattle.book.specs.Stored.{model_of}
 use Rattle.query.specs.Reads.{list_read}
@@ -13,7 +13,6 @@ use Rattle.asking.specs.Questions.{answers_of}
 use Rattle.replay.specs.declared.Outcome.{Outcome}
 use Rattle.replay.specs.Replay.{replay_of, outcome_of}
 use Rattle.text.specs.Answers as Text
-use Rattle.solgaverna.specs.declared.Four.{Four}
 
 -- −n in two's complement
 unfoldable pub minus : ℕ → ℕ
@@ -21,6 +20,10 @@ minus n = pick (eqb n 0) 0 (18446744073709551616 - n)
 
 abbrev pub coded : ℕ → ℕ → ℕ
 coded n count = pick (eqb n 0) count (minus n)
+
+-- the code of a count or a refusal that is returned
+abbrev pub code : Result ℕ Refusal → ℕ
+code r = coded (listed_says r).0 (get_or (listed_says r).1 0 0)
 
 -- what replay leaves of a journal
 abbrev pub left : List ℕ → Outcome
@@ -37,17 +40,11 @@ of_book s l answer = of_outcome (left s) l answer
 abbrev pub told : Reply × List ℕ → ℕ × List ℕ
 told r = (coded r.0.0 (get_or r.0.1 0 0), r.1)
 
-unfoldable pub offers_for : Asked → List ℕ → Book → ℕ × List ℕ
-offers_for (For w) l b = told (list_read b w l)
-offers_for Unlisted l b = (minus (number invalid_input), l)
+unfoldable pub offers_for : Option Wanted → List ℕ → Book → ℕ × List ℕ
+offers_for (Some w) l b = told (list_read b w l)
+offers_for None l b = (minus (number invalid_input), l)
 
 -- ── A read of four numbers over the start of a buffer; too short gives 14 ──
-abbrev pub no_four : Four
-no_four = record { number = number book_unsound; a = 0; b = 0; c = 0; d = 0 }
-
-unfoldable pub four_says : Four → Reply
-four_says x = pick (eqb x.number 0) (0, x.a ∷ x.b ∷ x.c ∷ x.d ∷ []) (x.number, [])
-
 unfoldable pub four_over : Reply → List ℕ → ℕ × List ℕ
 four_over r l =
     pick (not (eqb r.0 0)) (minus r.0, l)

@@ -6,7 +6,6 @@ use Rattle.refusal.specs.Refusal.{number, journal_malformed}
 use Rattle.sheet.specs.Shown.{listed_in, shown_in}
 use Rattle.book.specs.declared.Book.{Book}
 use Rattle.book.specs.Stored.{model_of}
-use Rattle.replay.specs.declared.Outcome.{Outcome}
 use Rattle.replay.specs.Replay.{replay_on, outcome_of}
 use Rattle.replay.specs.Text.{listing_on}
 use Rattle.snapshot.specs.declared.Loaded.{Loaded}

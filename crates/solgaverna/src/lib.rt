@@ -5,20 +5,21 @@
 mod questions;
 mod snapshots;
 
-ghost use Rattle.std.specs.Prelude.{◌≡◌, get_or};
-ghost use Rattle.lists.specs.Listing.{listed_says};
+ghost use Rattle.std.specs.Prelude.{◌≡◌, true, IfOk, MatchResult};
+ghost use Rattle.book.specs.Stored.{book_test, Shelved};
+ghost use Rattle.refusal.specs.Refusal.{journal_malformed};
 ghost use Rattle.lists.specs.Wanted.{wanted_of};
 ghost use Rattle.query.specs.Reads.{asked, lender_read, totals_read};
 ghost use Rattle.replay.specs.Text.{listing_of, listing_says};
 ghost use Rattle.sheet.specs.Shown.{listed_in, shown_in};
-ghost use Rattle.solgaverna.specs.Answers.{minus, coded, of_book, offers_for, no_four, four_says, four_over, written, line_of, fault_of};
+ghost use Rattle.solgaverna.specs.Answers.{minus, coded, code, left, of_book, offers_for, four_over, written, line_of, fault_of};
 ghost use Rattle.text.specs.Answers.{answered, left_for};
 ghost use Rattle.text.specs.Text.{text_of};
 ghost use Rattle.text.specs.Journal.{journal_of};
 
 use book::Book;
-use lists::{Asked, Listed as Offers};
-use query::{LenderAnswer, TotalsAnswer};
+use lists::Wanted;
+use refusal::Refusal;
 use replay::Listed;
 use text::Answer;
 
@@ -30,6 +31,30 @@ fn refused(n: u64) -> u64
         return 0;
     }
     18446744073709551615 - (n - 1)
+}
+
+// A count, or the number of a refusal.
+fn code(r: Result<usize, Refusal>) -> u64
+    ensures { result ≡ code r }
+{
+    match r {
+        Ok(n) => n as u64,
+        Err(e) => refused(e.number()),
+    }
+}
+
+// The book that a journal leaves; 13 where the journal is malformed.
+fn book_of(journal: &[u8]) -> Result<Book, Refusal>
+    ensures left { MatchResult result (λ b. ((left journal.now).number ≡ 0) × (b ≡ (left journal.now).book)) (λ e. ((left journal.now).number ≡ 0 → ⊥) × (e ≡ journal_malformed)) }
+    ensures shelved { IfOk result (λ b. Shelved b) }
+    ensures tested { IfOk result (λ b. book_test b ≡ true) }
+{
+    let left = replay::replay(journal);
+    if left.number == 0 {
+        Ok(left.book)
+    } else {
+        Err(Refusal::JournalMalformed)
+    }
 }
 
 fn listed(r: Listed) -> u64
@@ -99,15 +124,14 @@ pub extern "C" fn solgaverna_faulty_line(lines: &[u8]) -> u64
     line(r)
 }
 
-fn counted(r: Offers) -> u64
-    ensures { result ≡ coded (listed_says r).0 (get_or (listed_says r).1 0 0) }
+fn offers(journal: &[u8], kind: u64, a: u64, b: u64, out: &mut [u64]) -> Result<usize, Refusal>
+    ensures { (code result, out.new) ≡ of_book journal.now out.old (offers_for (wanted_of kind a b) out.old) }
 {
-    match r {
-        Offers::Offers(n) => { n as u64 }
-        Offers::Unlisted => { refused(refusal::INVALID_INPUT) }
-        Offers::Short => { refused(refusal::BUFFER_SHORT) }
-        Offers::Unsound => { refused(refusal::BOOK_UNSOUND) }
-    }
+    let book = book_of(journal)?;
+    let Some(w) = Wanted::asked(kind, a, b) else {
+        return Err(Refusal::InvalidInput);
+    };
+    query::list(book, w, out)
 }
 
 // Offers of a journal's book, ten numbers each: how many they are.
@@ -121,93 +145,35 @@ pub extern "C" fn solgaverna_offers(
 ) -> u64
     ensures { (result, out.new) ≡ of_book journal.now out.old (offers_for (wanted_of kind a b) out.old) }
 {
-    let replayed = replay::replay(journal);
-    let number = replayed.number;
-    if !(number == 0) {
-        return refused(refusal::JOURNAL_MALFORMED);
-    }
-    let k = Asked::of(kind, a, b);
-    let Asked::For(w) = k else {
-        return refused(refusal::INVALID_INPUT);
-    };
-    let book = replayed.book;
-    let r = query::list(book, w, out);
-    counted(r)
+    code(offers(journal, kind, a, b, out))
 }
 
-// Four numbers of a read, or the number of its refusal.
-#[derive(Clone, Copy)]
-struct Four {
-    pub number: u64,
-    pub a: u64,
-    pub b: u64,
-    pub c: u64,
-    pub d: u64,
-}
-
-fn unsound() -> Four
-    ensures { result ≡ no_four }
+// Four numbers over the start of a buffer.
+#[tactic(auto, unfolding(crate::specs::Answers::four_over, refusal::specs::Choice::pick))]
+fn put_four(out: &mut [u64], values: [u64; 4]) -> Result<usize, Refusal>
+    ensures { (code result, out.new) ≡ four_over (0, values) out.old }
 {
-    Four {
-        number: refusal::BOOK_UNSOUND,
-        a: 0,
-        b: 0,
-        c: 0,
-        d: 0,
-    }
-}
-
-fn lender_of(book: Book, lender: u64) -> Four
-    ensures { four_says result ≡ asked book (lender_read lender) }
-{
-    let r = query::get_lender_stats(book, lender);
-    match r {
-        LenderAnswer::Lender(x) => {
-            Four {
-                number: 0,
-                a: x.offered,
-                b: x.accepted,
-                c: x.pending,
-                d: x.repaid,
-            }
-        }
-        LenderAnswer::Unsound => { unsound() }
-    }
-}
-
-fn totals_of(book: Book) -> Four
-    ensures { four_says result ≡ asked book totals_read }
-{
-    let r = query::get_stats(book);
-    match r {
-        TotalsAnswer::Totals(x) => {
-            Four {
-                number: 0,
-                a: x.offers,
-                b: x.financed,
-                c: x.repaid,
-                d: x.fees,
-            }
-        }
-        TotalsAnswer::Unsound => { unsound() }
-    }
-}
-
-fn put_four(out: &mut [u64], x: Four) -> u64
-    ensures { (result, out.new) ≡ four_over (four_says x) out.old }
-{
-    let number = x.number;
-    if !(number == 0) {
-        return refused(number);
-    }
     if out.len() < 4 {
-        return refused(refusal::BUFFER_SHORT);
+        return Err(Refusal::BufferShort);
     }
-    out[0] = x.a;
-    out[1] = x.b;
-    out[2] = x.c;
-    out[3] = x.d;
-    4
+    out[..4].copy_from_slice(&values);
+    Ok(4)
+}
+
+fn lender_over(journal: &[u8], lender: u64, out: &mut [u64]) -> Result<usize, Refusal>
+    ensures { (code result, out.new) ≡ of_book journal.now out.old (λ b. four_over (asked b (lender_read lender)) out.old) }
+{
+    let book = book_of(journal)?;
+    let x = query::get_lender_stats(book, lender)?;
+    put_four(out, [x.offered, x.accepted, x.pending, x.repaid])
+}
+
+fn totals_over(journal: &[u8], out: &mut [u64]) -> Result<usize, Refusal>
+    ensures { (code result, out.new) ≡ of_book journal.now out.old (λ b. four_over (asked b totals_read) out.old) }
+{
+    let book = book_of(journal)?;
+    let x = query::get_stats(book)?;
+    put_four(out, [x.offers, x.financed, x.repaid, x.fees])
 }
 
 // A lender's offered and accepted totals, offers pending and offers repaid: four numbers.
@@ -215,13 +181,7 @@ fn put_four(out: &mut [u64], x: Four) -> u64
 pub extern "C" fn solgaverna_lender(journal: &[u8], lender: u64, out: &mut [u64]) -> u64
     ensures { (result, out.new) ≡ of_book journal.now out.old (λ b. four_over (asked b (lender_read lender)) out.old) }
 {
-    let replayed = replay::replay(journal);
-    let number = replayed.number;
-    if !(number == 0) {
-        return refused(refusal::JOURNAL_MALFORMED);
-    }
-    let book = replayed.book;
-    put_four(out, lender_of(book, lender))
+    code(lender_over(journal, lender, out))
 }
 
 // The book's totals: offers, financed, repaid, fees.
@@ -229,11 +189,5 @@ pub extern "C" fn solgaverna_lender(journal: &[u8], lender: u64, out: &mut [u64]
 pub extern "C" fn solgaverna_totals(journal: &[u8], out: &mut [u64]) -> u64
     ensures { (result, out.new) ≡ of_book journal.now out.old (λ b. four_over (asked b totals_read) out.old) }
 {
-    let replayed = replay::replay(journal);
-    let number = replayed.number;
-    if !(number == 0) {
-        return refused(refusal::JOURNAL_MALFORMED);
-    }
-    let book = replayed.book;
-    put_four(out, totals_of(book))
+    code(totals_over(journal, out))
 }

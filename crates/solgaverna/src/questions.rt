@@ -1,25 +1,21 @@
 // Questions about the book of a journal: in text, one a line, or lookups in words.
-ghost use Rattle.std.specs.Prelude.{◌≡◌, get_or};
+ghost use Rattle.std.specs.Prelude.{◌≡◌};
 ghost use Rattle.asking.specs.Questions.{questions_in};
-ghost use Rattle.query.specs.Questions.{answered_says};
 ghost use Rattle.text.specs.Journal.{fault_line};
-ghost use Rattle.solgaverna.specs.Answers.{coded, of_book, text_for, words_for};
+ghost use Rattle.solgaverna.specs.Answers.{code, of_book, text_for, words_for};
 
-use crate::{line, refused, sized};
+use crate::{book_of, code, line, refused, sized};
 use book::Book;
-use query::Answered;
+use refusal::Refusal;
 
 // The answers to questions, one a line: how many bytes they are.
 #[unsafe(no_mangle)]
 pub extern "C" fn solgaverna_ask(journal: &[u8], questions: &[u8], out: &mut [u8]) -> u64
     ensures { (result, out.new) ≡ of_book journal.now out.old (text_for questions.now out.old) }
 {
-    let replayed = replay::replay(journal);
-    let number = replayed.number;
-    if !(number == 0) {
+    let Ok(book) = book_of(journal) else {
         return refused(refusal::JOURNAL_MALFORMED);
-    }
-    let book = replayed.book;
+    };
     let r = asking::answers_sound(book, questions, out);
     sized(r)
 }
@@ -35,14 +31,11 @@ pub extern "C" fn solgaverna_faulty_question(questions: &[u8]) -> u64
     line(r)
 }
 
-fn looked_up(r: Answered) -> u64
-    ensures { result ≡ coded (answered_says r).0 (get_or (answered_says r).1 0 0) }
+fn looked_up(journal: &[u8], questions: &[u64], out: &mut [u64]) -> Result<usize, Refusal>
+    ensures { (code result, out.new) ≡ of_book journal.now out.old (words_for questions.now out.old) }
 {
-    match r {
-        Answered::Answers(n) => { n as u64 }
-        Answered::Short => { refused(refusal::BUFFER_SHORT) }
-        Answered::Unsound => { refused(refusal::BOOK_UNSOUND) }
-    }
+    let book = book_of(journal)?;
+    query::answers(book, questions, out)
 }
 
 // Lookups, three words each, and twelve words for each answer: how many were answered.
@@ -50,12 +43,5 @@ fn looked_up(r: Answered) -> u64
 pub extern "C" fn solgaverna_answers(journal: &[u8], questions: &[u64], out: &mut [u64]) -> u64
     ensures { (result, out.new) ≡ of_book journal.now out.old (words_for questions.now out.old) }
 {
-    let replayed = replay::replay(journal);
-    let number = replayed.number;
-    if !(number == 0) {
-        return refused(refusal::JOURNAL_MALFORMED);
-    }
-    let book = replayed.book;
-    let r = query::answers(book, questions, out);
-    looked_up(r)
+    code(looked_up(journal, questions, out))
 }

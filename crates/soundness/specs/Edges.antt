@@ -1,7 +1,7 @@
 -- Document 01, "Edges on both sides", the deadline of module 3, stopped at 2^64−1, and document 02, i and j: one table that is computed.
 use Rattle.std.specs.Prelude.{ℕ, ◌≡◌, refl, Bool, true, false, ◌&&◌, List, [], ◌∷◌, replicate, pos, eqb}
 use Rattle.refusal.specs.Choice.{pick}
-use Rattle.money.specs.Range.{same_amount}
+use Rattle.money.specs.Range.{same_amount, movable}
 use Rattle.terms.specs.declared.Terms.{Terms}
 use Rattle.terms.specs.declared.Schedule.{Schedule}
 use Rattle.terms.specs.Terms.{terms_ok}
@@ -134,5 +134,5 @@ edges =
     ∷ []
 
 pub edges_hold : all edges ≡ true
-unfolding all edges holds same_list answers_of pick first after find adjust insert shape_of account_names offer_names settings_names names_for account_rule offer_rule settings_rule ruled terms_ok installment_amount installment_of none_to_pay kind_listed first_of seconds_of keeps_terms keeps_ok keeps_none schedule_in schedule_ok kept_installments installments_of even flat part_of total_of listed outstanding principal interest falling_member falling Sums.sum_to Sums.paid_of Sums.number_due Sums.owed_on Sums.due_of elapsed_of owed_at due_arguments due_of deadline_of status_of
+unfolding all edges holds same_list answers_of pick first after find adjust insert shape_of account_names offer_names settings_names names_for account_rule offer_rule settings_rule ruled terms_ok installment_amount installment_of none_to_pay kind_listed first_of seconds_of keeps_terms keeps_ok keeps_none schedule_in schedule_ok kept_installments installments_of even flat part_of total_of listed outstanding principal interest falling_member falling Sums.sum_to Sums.paid_of Sums.number_due Sums.owed_on Sums.due_of elapsed_of owed_at due_arguments due_of deadline_of status_of movable
 edges_hold = refl

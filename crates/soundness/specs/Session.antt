@@ -1,4 +1,5 @@
 -- Document 01's session of ten commands, computed on the definitions: its answers and the figures it played
+use Rattle.money.specs.Range.{movable}
 use Rattle.std.specs.Prelude.{ℕ, ◌≡◌, refl, List, [], ◌∷◌, ℤ, pos}
 use Rattle.refusal.specs.Choice.{pick}
 use Rattle.refusal.specs.Refusal.{first}
@@ -36,7 +37,7 @@ session =
     ∷ []
 
 pub session_answers : answers_of (fresh_model 1) session ≡ 0 ∷ 0 ∷ 0 ∷ 0 ∷ 0 ∷ 0 ∷ 0 ∷ 3 ∷ 0 ∷ 7 ∷ []
-unfolding answers_of session pick first after find adjust insert terms_ok same_terms holds_amount fresh_window round_limit deadline_of status_of added_of accepted_of latest_below matches agrees_of expired settled_deal amended_deal countered_deal settling concluding agreeing shape_of account_names offer_names settings_names names_for account_rule offer_rule settings_rule ruled
+unfolding answers_of session pick first after find adjust insert terms_ok same_terms holds_amount fresh_window round_limit deadline_of status_of added_of accepted_of latest_below matches agrees_of expired settled_deal amended_deal countered_deal settling concluding agreeing shape_of account_names offer_names settings_names names_for account_rule offer_rule settings_rule ruled movable
 session_answers = refl
 
 -- balance, allowance, offered, accepted
@@ -44,13 +45,13 @@ abbrev figures : Model → ℕ → List ℤ
 figures m a = (account_in m a).row.purse.balance ∷ (account_in m a).row.purse.allowance ∷ (account_in m a).row.purse.offered ∷ (account_in m a).row.purse.accepted ∷ []
 
 pub session_lender : figures (played (fresh_model 1) session) 1 ≡ pos 4100 ∷ pos 4100 ∷ pos 900 ∷ pos 900 ∷ []
-unfolding played session pick first after find adjust insert terms_ok same_terms holds_amount fresh_window round_limit deadline_of status_of added_of accepted_of latest_below matches agrees_of expired settled_deal amended_deal countered_deal settling concluding agreeing shape_of account_names offer_names settings_names names_for account_rule offer_rule settings_rule ruled
+unfolding played session pick first after find adjust insert terms_ok same_terms holds_amount fresh_window round_limit deadline_of status_of added_of accepted_of latest_below matches agrees_of expired settled_deal amended_deal countered_deal settling concluding agreeing shape_of account_names offer_names settings_names names_for account_rule offer_rule settings_rule ruled movable
 session_lender = refl
 
 pub session_originator : figures (played (fresh_model 1) session) 2 ≡ pos 900 ∷ pos 0 ∷ pos 0 ∷ pos 0 ∷ []
-unfolding played session pick first after find adjust insert terms_ok same_terms holds_amount fresh_window round_limit deadline_of status_of added_of accepted_of latest_below matches agrees_of expired settled_deal amended_deal countered_deal settling concluding agreeing shape_of account_names offer_names settings_names names_for account_rule offer_rule settings_rule ruled
+unfolding played session pick first after find adjust insert terms_ok same_terms holds_amount fresh_window round_limit deadline_of status_of added_of accepted_of latest_below matches agrees_of expired settled_deal amended_deal countered_deal settling concluding agreeing shape_of account_names offer_names settings_names names_for account_rule offer_rule settings_rule ruled movable
 session_originator = refl
 
 pub session_totals : (played (fresh_model 1) session).totals ≡ record { financed = pos 900; repaid = pos 0; fees = pos 0; offers = 1 }
-unfolding played session pick first after find adjust insert terms_ok same_terms holds_amount fresh_window round_limit deadline_of status_of added_of accepted_of latest_below matches agrees_of expired settled_deal amended_deal countered_deal settling concluding agreeing shape_of account_names offer_names settings_names names_for account_rule offer_rule settings_rule ruled
+unfolding played session pick first after find adjust insert terms_ok same_terms holds_amount fresh_window round_limit deadline_of status_of added_of accepted_of latest_below matches agrees_of expired settled_deal amended_deal countered_deal settling concluding agreeing shape_of account_names offer_names settings_names names_for account_rule offer_rule settings_rule ruled movable
 session_totals = refl

@@ -12,7 +12,7 @@ use Rattle.table.specs.Rising.{Above, Rises}
 use Rattle.table.specs.RisingLaws.{above_rises}
 use Rattle.table.specs.Named.{is_id, find_by, put_by}
 use Rattle.table.proofs.NamedLaws.{is_named_lem, find_by_lem, rises_by}
-use Rattle.table.specs.declared.Named.{Named}
+use Rattle.table.specs.Named.{Named}
 
 module _ {A : Type 0} where
   above_none : (p : ℕ) (t : Table A) (i : ℕ) → i ≤ p → Above p (keys t) → find t i ≡ absent

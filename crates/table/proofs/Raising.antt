@@ -1,7 +1,7 @@
 -- A row let into a shelf in place: its arrays are moved up from the count down to the row's place, and the row is put there. Over any row type and any size.
 use Rattle.std.specs.Prelude.{◌≡◌, List, ℕ, suc, ◌+◌, ◌≤◌, ◌<◌, length, get_or, set, take}
 use Rattle.std.proofs.Common.{sym, ap, ◌∙◌, arith}
-use Rattle.table.specs.declared.Found.TheVariants.{Absent}
+use Rattle.std.specs.Prelude.{Err}
 use Rattle.table.specs.Find.{find_in}
 use Rattle.table.specs.Padded.{pad_rest, length-padded}
 use Rattle.table.specs.Shelf.{table_of, Shelf, shelve}
@@ -35,7 +35,7 @@ module _ {A : Type 0} {n c : ℕ} {ids : List ℕ} {rows : List A} where
     pub raised_on : {j : ℕ} (x : ℕ) (r : A) → i ≡ suc j → k < i → Raised n c ids rows k (set is i (get_or is j x)) (set rs i (get_or rs j r)) j
     raised_on x r e h = record { ids = lifts_on x m.ids e; rows = lifts_on r m.rows e; place = record { above = omega arith; within = omega (arith, m.place.within) } }
 
-    pub let_in_lem : {S : Type 0} (mk : List ℕ → List A → ℕ → S) {d : A} → Shelf d n ids rows c → (x : ℕ) (r : A) → c < n → find_in (take c ids) x ≡ Absent k → i ≤ k
+    pub let_in_lem : {S : Type 0} (mk : List ℕ → List A → ℕ → S) {d : A} → Shelf d n ids rows c → (x : ℕ) (r : A) → c < n → find_in (take c ids) x ≡ Err k → i ≤ k
         → mk (set is i x) (set rs i r) (c + 1) ≡ shelve mk d n (insert (table_of ids rows c) x r)
     let_in_lem mk s x r h e l =
         ap (λ z. mk z (set rs i r) (c + 1)) (m.ids.put x)

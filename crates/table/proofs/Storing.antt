@@ -8,8 +8,8 @@ use Rattle.table.specs.Named.{id_of, find_by, put_by}
 use Rattle.table.proofs.NamedLaws.{fine_by, put_again}
 use Rattle.table.specs.Touching.{Touched}
 use Rattle.table.proofs.Touching.{put_back, grown}
-use Rattle.table.specs.declared.Named.{Named}
-use Rattle.table.specs.declared.Named.TheVariants.{Id}
+use Rattle.table.specs.Named.{Named}
+use Rattle.std.specs.Prelude.{Some}
 use Rattle.table.specs.Storing.{Left}
 
 module _ {A S : Type 0} {n : ℕ} {of : S → Table A} {stored : Table A → S} {Good : S → Type 0} (K : Keeping n of stored Good) (g : Found A → A) (h : (r : A) → g (here r) ≡ r)
@@ -38,7 +38,7 @@ module _ {A S : Type 0} {n : ℕ} {of : S → Table A} {stored : Table A → S} 
   pub stays : not was && is ≡ false → v ≡ stored u
   stays q = e ∙ ap stored (as_seen ∙ sym (put_back g h t a b l.fine.rises l.touched (came_is q)))
 
-  pub named : not was && is ≡ true → a ≡ Id (id_of a)
+  pub named : not was && is ≡ true → a ≡ Some (id_of a)
   named q = (grown g h t a b l.touched (came_is q)).named
 
   pub room : not was && is ≡ true → Room n (of v) (id_of a)

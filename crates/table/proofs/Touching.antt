@@ -11,13 +11,13 @@ use Rattle.table.proofs.SameId.{find_in_lem}
 use Rattle.table.specs.Named.{id_of, is_id, find_by, put_by}
 use Rattle.table.proofs.NamedLaws.{never, same_swap, find_by_lem, rises_by, put_back_by}
 use Rattle.table.proofs.Alike as Alike
-use Rattle.table.specs.declared.Named.{Named}
-use Rattle.table.specs.declared.Named.TheVariants.{Nothing, Id}
+use Rattle.table.specs.Named.{Named}
+use Rattle.std.specs.Prelude.{None, Some}
 use Rattle.table.specs.Touching.{Puts, Touched, put, let_in_lem}
 
 -- a row that was let in at the key a of w
 pub record Grown {A : Type 0} (n : ℕ) (w u : Table A) (a : Named) (r : A) : Type 0 where
-  pub named : a ≡ Id (id_of a)
+  pub named : a ≡ Some (id_of a)
   pub room : Room n w (id_of a)
   pub is : u ≡ insert w (id_of a) r
 
@@ -81,8 +81,8 @@ module _ {A : Type 0} where
     unmoved false = refl
 
     same_by : {u : Table A} → Puts t u a b → (k : Named) → has (find_by u k) ≡ has (find_by t k)
-    same_by p Nothing = refl
-    same_by p (Id i) = p.same i
+    same_by p None = refl
+    same_by p (Some i) = p.same i
 
     not_came : {u : Table A} → Puts t u a b → came u ≡ false
     not_came p = ap (λ z. not (has (find_by t a)) && z) (same_by p a) ∙ unmoved (has (find_by t a))
@@ -97,18 +97,18 @@ module _ {A : Type 0} where
   -- a row let in: what is put back before it changes nothing
   module _ (g : Found A → A) (h : (r : A) → g (here r) ≡ r) (t : Table A) (i : ℕ) (b : Named) (d : A) (new : find t i ≡ absent) where
     second_still : (k : Named) → Is (is_id k i) → put_by t k (g (find_by (insert t i d) k)) ≡ t
-    second_still Nothing e = refl
-    second_still (Id j) (is_true q) = adjust_absent t j _ (ap (find t) (eqb-true j i q) ∙ new)
-    second_still (Id j) (is_false q) = ap (λ z. adjust t j (λ old. g z)) (find_insert t i j d new ∙ ap (λ z. cond z (here d) (find t j)) (same_swap (Id i) (Id j) ∙ q)) ∙ put_back_by g h t (Id j)
+    second_still None e = refl
+    second_still (Some j) (is_true q) = adjust_absent t j _ (ap (find t) (eqb-true j i q) ∙ new)
+    second_still (Some j) (is_false q) = ap (λ z. adjust t j (λ old. g z)) (find_insert t i j d new ∙ ap (λ z. cond z (here d) (find t j)) (same_swap (Some i) (Some j) ∙ q)) ∙ put_back_by g h t (Some j)
 
-    still : put_by (put_by t b (g (find_by (insert t i d) b))) (Id i) (g (find (insert t i d) i)) ≡ t
-    still = ap (λ z. put_by z (Id i) (g (find (insert t i d) i))) (second_still b (decide (is_id b i))) ∙ adjust_absent t i _ new
+    still : put_by (put_by t b (g (find_by (insert t i d) b))) (Some i) (g (find (insert t i d) i)) ≡ t
+    still = ap (λ z. put_by z (Some i) (g (find (insert t i d) i))) (second_still b (decide (is_id b i))) ∙ adjust_absent t i _ new
 
-    pub grown_at : {n : ℕ} {u : Table A} → Room n t i → u ≡ insert t i d → Grown n (put_back_in g h t (Id i) b u) u (Id i) (g (find u i))
+    pub grown_at : {n : ℕ} {u : Table A} → Room n t i → u ≡ insert t i d → Grown n (put_back_in g h t (Some i) b u) u (Some i) (g (find u i))
     grown_at {n} {u} m e =
-        let z : put_back_in g h t (Id i) b u ≡ t = ap (λ w. put_back_in g h t (Id i) b w) e ∙ still in
+        let z : put_back_in g h t (Some i) b u ≡ t = ap (λ w. put_back_in g h t (Some i) b w) e ∙ still in
         let x : g (find u i) ≡ d = ap g (ap (λ w. find w i) e ∙ find_in_lem t i d new) ∙ h d in
-        record { named = refl; room = rw z m; is = e ∙ ap (λ w. insert w i d) (sym z) ∙ ap (insert (put_back_in g h t (Id i) b u) i) (sym x) }
+        record { named = refl; room = rw z m; is = e ∙ ap (λ w. insert w i d) (sym z) ∙ ap (insert (put_back_in g h t (Some i) b u) i) (sym x) }
 
   module _ (g : Found A → A) (h : (r : A) → g (here r) ≡ r) (t : Table A) (a b : Named) where
     pub grown : {n : ℕ} {u : Table A} → Touched n t u a b → came g h t a b u ≡ true → Grown n (put_back_in g h t a b u) u a (g (find_by u a))

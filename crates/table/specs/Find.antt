@@ -1,7 +1,7 @@
 -- Where an id stands among ids that rise: the range is halved, by a look at the id in its middle, until it is empty.
 use Rattle.std.specs.Prelude.{ℕ, zero, suc, ◌+◌, ◌-◌, ◌/◌, cond, ◌&&◌, List, length, get_or, ltb, eqb}
-use Rattle.table.specs.declared.Found.{Found}
-use Rattle.table.specs.declared.Found.TheVariants.{At, Absent}
+use Rattle.std.specs.Prelude.{Result}
+use Rattle.std.specs.Prelude.{Ok, Err}
 
 -- how often n can be halved before nothing is left: the least k with n < 2^k (`least_halvings`); at most b times
 unfoldable pub halvings_by : ℕ → ℕ → ℕ
@@ -23,6 +23,6 @@ place_by (suc k) xs id lo hi =
 unfoldable pub place_in : List ℕ → ℕ → ℕ
 place_in xs id = place_by (halvings (length xs)) xs id 0 (length xs)
 
--- At that place where `id` stands there, else Absent: there it would be let in
-unfoldable pub find_in : List ℕ → ℕ → Found
-find_in xs id = cond (ltb (place_in xs id) (length xs) && eqb (get_or xs (place_in xs id) 0) id) (At (place_in xs id)) (Absent (place_in xs id))
+-- Ok that place where `id` stands there, else Err: there it would be let in
+unfoldable pub find_in : List ℕ → ℕ → Result ℕ ℕ
+find_in xs id = cond (ltb (place_in xs id) (length xs) && eqb (get_or xs (place_in xs id) 0) id) (Ok (place_in xs id)) (Err (place_in xs id))

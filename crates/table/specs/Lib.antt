@@ -24,3 +24,4 @@ pub mod Sound
 pub mod Keeping
 pub mod Touching
 pub mod Storing
+pub mod Seen

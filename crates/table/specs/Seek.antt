@@ -7,8 +7,8 @@ use Rattle.std.proofs.Math.ListN.{length, get_or}
 use Rattle.std.proofs.Math.Dec.{ltb, eqb}
 use borrow.Author.Tests.{lt-ltb, le-ltb, eq-eqb, ne_eqb, ltb-true, ltb-false, eqb-true, eqb-false}
 use Rattle.table.specs.Rising.{Rises}
-use Rattle.table.specs.declared.Found.{Found}
-use Rattle.table.specs.declared.Found.TheVariants.{At, Absent}
+use Rattle.std.specs.Prelude.{Result}
+use Rattle.std.specs.Prelude.{Ok, Err}
 use Rattle.table.specs.Find.{place_in, find_in}
 use Rattle.table.specs.Halves.{Split, split_at, place_most}
 
@@ -32,19 +32,19 @@ place-tail p = record { within = omega (arith, p.within); below = λ m l. p.belo
 
 -- ── The answer at the place where the search ends ─────────────────
 module _ (xs : List ℕ) (id : ℕ) where
-  abbrev answer : ℕ → Found
-  answer p = cond (ltb p (length xs) && eqb (get_or xs p 0) id) (At p) (Absent p)
+  abbrev answer : ℕ → Result ℕ ℕ
+  answer p = cond (ltb p (length xs) && eqb (get_or xs p 0) id) (Ok p) (Err p)
 
   module _ {k : ℕ} (e : place_in xs id ≡ k) where
-    pub found_over : length xs ≤ k → Absent k ≡ find_in xs id
+    pub found_over : length xs ≤ k → Err k ≡ find_in xs id
     unfolding find_in
     found_over h = sym (ap answer e ∙ simp (le-ltb k (length xs) h))
 
-    pub found_at : k < length xs → get_or xs k 0 ≡ id → At k ≡ find_in xs id
+    pub found_at : k < length xs → get_or xs k 0 ≡ id → Ok k ≡ find_in xs id
     unfolding find_in
     found_at h q = sym (ap answer e ∙ simp (lt-ltb k (length xs) h, eq-eqb (get_or xs k 0) id q))
 
-    pub found_not : k < length xs → (get_or xs k 0 ≡ id → ⊥) → Absent k ≡ find_in xs id
+    pub found_not : k < length xs → (get_or xs k 0 ≡ id → ⊥) → Err k ≡ find_in xs id
     unfolding find_in
     found_not h q = sym (ap answer e ∙ simp (lt-ltb k (length xs) h, ne_eqb (get_or xs k 0) id q))
 
@@ -53,28 +53,28 @@ module _ (xs : List ℕ) (id k : ℕ) where
   end = place_in xs id
 
   -- what an answer says of the place where the search ended
-  ended_at : (s t : Bool) → cond (s && t) (At end) (Absent end) ≡ At k → (end ≡ k) × ((s ≡ true) × (t ≡ true))
+  ended_at : (s t : Bool) → cond (s && t) (Ok end) (Err end) ≡ Ok k → (end ≡ k) × ((s ≡ true) × (t ≡ true))
   ended_at true true e = let z : end ≡ k = cc in (z, (refl, refl))
   ended_at true false e = let z : ◌≡◌ {A = ℕ} 0 1 = cc in absurd (omega arith)
   ended_at false t e = let z : ◌≡◌ {A = ℕ} 0 1 = cc in absurd (omega arith)
 
-  ended_absent : (s t : Bool) → cond (s && t) (At end) (Absent end) ≡ Absent k → (end ≡ k) × (s && t ≡ false)
+  ended_absent : (s t : Bool) → cond (s && t) (Ok end) (Err end) ≡ Err k → (end ≡ k) × (s && t ≡ false)
   ended_absent true true e = let z : ◌≡◌ {A = ℕ} 0 1 = cc in absurd (omega arith)
   ended_absent true false e = let z : end ≡ k = cc in (z, refl)
   ended_absent false t e = let z : end ≡ k = cc in (z, refl)
 
-  pub found_stands : Rises xs → find_in xs id ≡ At k → Stands xs id k
+  pub found_stands : Rises xs → find_in xs id ≡ Ok k → Stands xs id k
   unfolding find_in
   found_stands r e =
       let p = ended_at (ltb end (length xs)) (eqb (get_or xs end 0) id) e in
       let s : Stands xs id end = record { within = ltb-true end (length xs) p.1.0; same = eqb-true (get_or xs end 0) id p.1.1; below = (split_at xs id r).below } in
       rw p.0 at s
 
-  pub absent_inside : find_in xs id ≡ Absent k → k ≤ length xs
+  pub absent_inside : find_in xs id ≡ Err k → k ≤ length xs
   unfolding find_in
   absent_inside e = rw (ended_absent (ltb end (length xs)) (eqb (get_or xs end 0) id) e).0 at (place_most xs id)
 
-  pub absent_place : Rises xs → find_in xs id ≡ Absent k → Place xs id k
+  pub absent_place : Rises xs → find_in xs id ≡ Err k → Place xs id k
   unfolding find_in
   absent_place r e =
       let p = ended_absent (ltb end (length xs)) (eqb (get_or xs end 0) id) e in

@@ -1,15 +1,10 @@
 -- What an answer says leaves one answer, and the same terms are equal ones. Assumes nothing.
-use Rattle.std.specs.Prelude.{ℕ, ◌≡◌, refl, true, ◌&&◌, ℤ, eqb}
+use Rattle.std.specs.Prelude.{ℕ, ◌≡◌, refl, true, ◌&&◌, ℤ, eqb, Option, Some, None}
 use Rattle.std.proofs.Common.{arith, sym, ap, eqb-true, eq-eqb}
 use Rattle.money.specs.Range.{same_amount}
 use Rattle.money.specs.Facts.{both, same_is, is_same}
+use Rattle.installments.specs.declared.Due.{Due}
 use Rattle.terms.specs.declared.Terms.{Terms}
-use Rattle.terms.specs.declared.InstallmentAnswer.{InstallmentAnswer}
-use Rattle.terms.specs.declared.InstallmentAnswer.TheVariants as installment
-use Rattle.terms.specs.declared.PeriodAnswer.{PeriodAnswer}
-use Rattle.terms.specs.declared.PeriodAnswer.TheVariants as period
-use Rattle.terms.specs.declared.DueAnswer.{DueAnswer}
-use Rattle.terms.specs.declared.DueAnswer.TheVariants as due
 use Rattle.terms.specs.Terms.{same_terms}
 use Rattle.terms.specs.Installment.{installment_says}
 use Rattle.terms.specs.Schedule.{period_says}
@@ -22,26 +17,26 @@ apart {A} p = absurd (no (ap (λ (q : ℕ × A). q.0) p))
     no : ◌≡◌ {A = ℕ} 0 3 → ⊥
     no e = omega arith
 
-pub installment_one : (a b : InstallmentAnswer) → installment_says a ≡ installment_says b → a ≡ b
-installment_one (installment.Of x) (installment.Of y) p = ap installment.Of (ap (λ (q : ℕ × ℤ). q.1) p)
-installment_one (installment.Of x) installment.Invalid p = apart p
-installment_one installment.Invalid (installment.Of y) p = apart (sym p)
-installment_one installment.Invalid installment.Invalid p = refl
+pub installment_one : (a b : Option ℤ) → installment_says a ≡ installment_says b → a ≡ b
+installment_one (Some x) (Some y) p = ap (λ (z : ℤ). Some z) (ap (λ (q : ℕ × ℤ). q.1) p)
+installment_one (Some x) None p = apart p
+installment_one None (Some y) p = apart (sym p)
+installment_one None None p = refl
 
-pub period_one : (a b : PeriodAnswer) → period_says a ≡ period_says b → a ≡ b
-period_one (period.Seconds x) (period.Seconds y) p = ap period.Seconds (ap (λ (q : ℕ × ℕ). q.1) p)
-period_one (period.Seconds x) period.Unlisted p = apart p
-period_one period.Unlisted (period.Seconds y) p = apart (sym p)
-period_one period.Unlisted period.Unlisted p = refl
+pub period_one : (a b : Option ℕ) → period_says a ≡ period_says b → a ≡ b
+period_one (Some x) (Some y) p = ap (λ (n : ℕ). Some n) (ap (λ (q : ℕ × ℕ). q.1) p)
+period_one (Some x) None p = apart p
+period_one None (Some y) p = apart (sym p)
+period_one None None p = refl
 
-pub due_one : (a b : DueAnswer) → due_says a ≡ due_says b → a ≡ b
-due_one (due.Number x u) (due.Number y v) p = both_same (ap (λ (q : ℕ × (ℕ × ℕ)). q.1.0) p) (ap (λ (q : ℕ × (ℕ × ℕ)). q.1.1) p)
+pub due_one : (a b : Option Due) → due_says a ≡ due_says b → a ≡ b
+due_one (Some x) (Some y) p = ap (λ (d : Due). Some d) (both_same x y (ap (λ (q : ℕ × (ℕ × ℕ)). q.1.0) p) (ap (λ (q : ℕ × (ℕ × ℕ)). q.1.1) p))
   where
-    both_same : {a b c d : ℕ} → a ≡ b → c ≡ d → due.Number a c ≡ due.Number b d
-    both_same e f = rw (e, f)
-due_one (due.Number x u) due.Invalid p = apart p
-due_one due.Invalid (due.Number y v) p = apart (sym p)
-due_one due.Invalid due.Invalid p = refl
+    both_same : (c d : Due) → c.number ≡ d.number → c.owed ≡ d.owed → c ≡ d
+    both_same c d e f i = record { number = e i; owed = f i }
+due_one (Some x) None p = apart p
+due_one None (Some y) p = apart (sym p)
+due_one None None p = refl
 
 -- terms with the same three parts
 terms_of_lem : (a b : Terms) → a.amount ≡ b.amount → a.rate ≡ b.rate → a.duration ≡ b.duration → a ≡ b

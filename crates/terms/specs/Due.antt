@@ -1,12 +1,11 @@
 -- Document 01, module 1, `get_installment_due`, and document 02, i: the number of the installment that is due, and the sum still owed on it.
-use Rattle.std.specs.Prelude.{ℕ, ◌+◌, ◌-◌, ◌/◌, min, Bool, ◌&&◌, ℤ, leb, ltb, eqb}
+use Rattle.std.specs.Prelude.{ℕ, ◌+◌, ◌-◌, ◌/◌, min, Bool, ◌&&◌, ℤ, ltb, eqb, Option, Some, None}
 use Rattle.refusal.specs.Choice.{pick}
 use Rattle.refusal.specs.Refusal.{number, invalid_input}
 use Rattle.money.specs.Range.{in_total, magnitude_of}
+use Rattle.installments.specs.declared.Due.{Due}
 use Rattle.installments.specs.Sums as Sums
 use Rattle.terms.specs.declared.Schedule.{Schedule}
-use Rattle.terms.specs.declared.DueAnswer.{DueAnswer}
-use Rattle.terms.specs.declared.DueAnswer.TheVariants.{Number, Invalid}
 use Rattle.terms.specs.Status.{status_repaid, status_defaulted, status_listed}
 use Rattle.terms.specs.Schedule.{seconds_of, schedule_ok, installments_of}
 
@@ -29,6 +28,6 @@ due_arguments kept s status repaid = (schedule_ok kept s && status_listed status
 unfoldable pub due_of : Bool → Schedule → ℕ → ℤ → ℕ → ℕ × (ℕ × ℕ)
 due_of kept s status repaid now = pick (due_arguments kept s status repaid) (0, owed_at kept s status repaid now) (number invalid_input, (0, 0))
 
-abbrev pub due_says : DueAnswer → ℕ × (ℕ × ℕ)
-due_says (Number n x) = (0, (n, x))
-due_says Invalid = (number invalid_input, (0, 0))
+abbrev pub due_says : Option Due → ℕ × (ℕ × ℕ)
+due_says (Some d) = (0, (d.number, d.owed))
+due_says None = (number invalid_input, (0, 0))

@@ -1,11 +1,9 @@
 -- Document 01, module 1, and document 02, j: the installment of an offer's terms over a number of installments.
-use Rattle.std.specs.Prelude.{ℕ, ◌/◌, Bool, true, ◌&&◌, ◌||◌, eqb, ℤ, pos}
+use Rattle.std.specs.Prelude.{ℕ, ◌/◌, Bool, true, ◌&&◌, ◌||◌, eqb, ℤ, pos, Option, Some, None}
 use Rattle.refusal.specs.Choice.{pick}
 use Rattle.refusal.specs.Refusal.{number, invalid_input}
 use Rattle.money.specs.Range.{is_zero, magnitude_of}
 use Rattle.terms.specs.declared.Terms.{Terms}
-use Rattle.terms.specs.declared.InstallmentAnswer.{InstallmentAnswer}
-use Rattle.terms.specs.declared.InstallmentAnswer.TheVariants.{Of, Invalid}
 use Rattle.terms.specs.Terms.{terms_ok, count_ok}
 use Rattle.terms.specs.Kind.{falling_kind, kind_listed, first_of}
 
@@ -22,6 +20,6 @@ unfoldable pub none_to_pay : Terms → ℕ → ℕ → Bool
 none_to_pay t kind count = is_zero (installment_of t kind count).1 || (eqb kind falling_kind && eqb (magnitude_of t.amount / count) 0)
 
 -- what an answer says in those terms
-abbrev pub installment_says : InstallmentAnswer → ℕ × ℤ
-installment_says (Of x) = (0, x)
-installment_says Invalid = (number invalid_input, pos 0)
+abbrev pub installment_says : Option ℤ → ℕ × ℤ
+installment_says (Some x) = (0, x)
+installment_says None = (number invalid_input, pos 0)

@@ -1,5 +1,5 @@
 -- What follows from arguments in range: the parts of the tests, and that an installment stays in its range. Assumes nothing.
-use Rattle.std.specs.Prelude.{ℕ, ◌+◌, ◌*◌, ◌/◌, ◌≤◌, ◌<◌, min, ◌≡◌, refl, List, Bool, true, false, ◌&&◌, ◌||◌, cond, ℤ, pos, leb, eqb, get_or}
+use Rattle.std.specs.Prelude.{ℕ, ◌+◌, ◌*◌, ◌/◌, ◌≤◌, ◌<◌, ◌≡◌, refl, List, Bool, true, false, ◌&&◌, ◌||◌, cond, ℤ, pos, leb, eqb, get_or}
 use Rattle.std.proofs.Math.Nat.{min-le_right, div-le_of_le-mul}
 use Rattle.std.proofs.Common.{le_trans, div-le_self, mul-le-mul, mul-le-mul_left, mul_comm, le_of_eq, arith, sym, ◌∙◌}
 use Rattle.std.proofs.Math.Decide.{dec_le}
@@ -7,13 +7,13 @@ use Rattle.std.proofs.Math.Path.{ap}
 use Rattle.std.proofs.Math.Dec.{leb-zero}
 use borrow.Author.Tests.{leb-true, leb-false, le-leb, eqb-true, eqb-false, eq-eqb}
 use Rattle.refusal.specs.Choice.{pick}
-use Rattle.refusal.specs.ChoiceLaws.{on, off, pick_on, pick_off, either}
+use Rattle.refusal.specs.ChoiceLaws.{pick_on, pick_off, either}
 use Rattle.money.specs.Range.{in_amount, in_total, in_installment, is_zero, magnitude_of}
 use Rattle.money.specs.Facts.{both, never, between, magnitude_is, same_is, is_same, zero_is}
 use Rattle.installments.specs.Sums.{number_due}
 use Rattle.installments.specs.Even.{by_quotient}
 use Rattle.installments.specs.EvenLaws.{even_number}
-use Rattle.installments.specs.Flat.{flat, part_of, total_of}
+use Rattle.installments.specs.Flat.{part_of, total_of}
 use Rattle.installments.specs.FlatLaws.{parts_first}
 use Rattle.installments.specs.Falling.{falling}
 use Rattle.installments.specs.FallingLaws.{falling_member_lem, member_le, first_share}

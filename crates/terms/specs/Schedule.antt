@@ -1,5 +1,5 @@
 -- Document 01, "Numbers": the periods by their codes, the numbers of a schedule; document 02, i and j: what it keeps, its kind, and its installments.
-use Rattle.std.specs.Prelude.{ℕ, Bool, true, ◌&&◌, cond, List, leb, eqb, ℤ, pos}
+use Rattle.std.specs.Prelude.{ℕ, Bool, true, ◌&&◌, cond, List, leb, eqb, ℤ, pos, Option, Some, None}
 use Rattle.refusal.specs.Choice.{pick}
 use Rattle.refusal.specs.Refusal.{number, invalid_input}
 use Rattle.money.specs.Range.{in_installment, is_zero, same_amount, magnitude_of}
@@ -8,8 +8,6 @@ use Rattle.installments.specs.Flat.{flat, total_of}
 use Rattle.installments.specs.Falling.{falling}
 use Rattle.terms.specs.declared.Terms.{Terms}
 use Rattle.terms.specs.declared.Schedule.{Schedule}
-use Rattle.terms.specs.declared.PeriodAnswer.{PeriodAnswer}
-use Rattle.terms.specs.declared.PeriodAnswer.TheVariants.{Seconds, Unlisted}
 use Rattle.terms.specs.Terms.{price_ok, count_ok}
 use Rattle.terms.specs.Kind.{flat_kind, falling_kind, kind_listed, first_of}
 
@@ -24,9 +22,9 @@ seconds_of code = pick (eqb code 1) 604800 (pick (eqb code 2) 1209600 (pick (eqb
 unfoldable pub period_of : ℕ → ℕ × ℕ
 period_of code = pick (period_listed code) (0, seconds_of code) (number invalid_input, 0)
 
-abbrev pub period_says : PeriodAnswer → ℕ × ℕ
-period_says (Seconds n) = (0, n)
-period_says Unlisted = (number invalid_input, 0)
+abbrev pub period_says : Option ℕ → ℕ × ℕ
+period_says (Some n) = (0, n)
+period_says None = (number invalid_input, 0)
 
 -- ── A schedule that was made, and none ────────────────────────────
 -- from edition 5 on it keeps the amount and the rate of the terms that it was made of, has one of the kinds, and stores their first installment (02 i, j)

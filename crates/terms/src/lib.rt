@@ -2,10 +2,10 @@
 #![tactic(auto)]
 
 ghost use Rattle.std.specs.Prelude.{◌≡◌, true, ◌<◌, ◌≤◌};
-ghost use Rattle.terms.specs.Terms.{terms_ok, same_terms, count_ok};
+ghost use Rattle.terms.specs.Terms.{price_ok, terms_ok, same_terms, count_ok};
 ghost use Rattle.terms.specs.Kind.{kind_listed, first_of};
 ghost use Rattle.terms.specs.Installment.{installment_of, installment_says};
-ghost use Rattle.terms.specs.Schedule.{period_listed, seconds_of, period_of, period_says, keeps_ok, keeps_none, made_of, schedule_in, schedule_ok, schedule_none, schedule_zero, installments_of};
+ghost use Rattle.terms.specs.Schedule.{period_listed, seconds_of, period_of, period_says, keeps_ok, keeps_none, made_of, schedule_in, schedule_ok, schedule_zero, installments_of};
 ghost use Rattle.installments.specs.Sums as Sums;
 ghost use Rattle.installments.specs.Flat.{part_of};
 ghost use Rattle.installments.specs.Arguments.{falling_ok, due_as};
@@ -14,7 +14,7 @@ ghost use Rattle.terms.specs.Due.{elapsed_of, due_of, due_says, due_arguments};
 use installments::Due;
 
 // An amount in minor units, a rate in basis points and a duration in seconds.
-#[derive(Clone, Copy)]
+#[derive(Clone, Copy, PartialEq, Eq)]
 pub struct Terms {
     pub amount: i64,
     pub rate: u32,
@@ -23,7 +23,7 @@ pub struct Terms {
 
 // How many installments, the code of their period, the first one's amount, and when it is due; the amount and the rate of the terms
 // that it was made of, where the edition keeps them, and its kind.
-#[derive(Clone, Copy)]
+#[derive(Clone, Copy, PartialEq, Eq)]
 pub struct Schedule {
     pub count: u32,
     pub code: u32,
@@ -36,12 +36,14 @@ pub struct Schedule {
 
 // The kinds of schedule: installments that are alike but for the last, which carries what is left where the terms are kept; and
 // such with interest on outstanding principal.
+// Numbers, since a book's rows hold them so, and one that is not listed is refused as unsound.
 pub const FLAT: u32 = 0;
 
 pub const FALLING: u32 = 1;
 
 impl Schedule {
     // The schedule of an offer's terms, which it keeps or not.
+    // Seven values one by one, as its definition made_of names them: a struct of them would be the schedule itself.
     pub fn made(
         kept: bool,
         t: Terms,
@@ -53,133 +55,118 @@ impl Schedule {
     ) -> Schedule
         ensures { result ≡ made_of kept t kind count code first installment }
     {
-        let mut s = Schedule {
+        let (amount, rate) = if kept { (t.amount, t.rate) } else { (0, 0) };
+        Schedule {
             count,
             code,
             installment,
             first,
-            amount: 0,
-            rate: 0,
+            amount,
+            rate,
             kind,
-        };
-        if kept {
-            s.amount = t.amount;
-            s.rate = t.rate;
         }
-        s
     }
 }
 
+fn price_valid(amount: i64, rate: u32) -> bool
+    ensures { result ≡ price_ok amount rate }
+{
+    money::in_amount_range(amount) & (1..=10_000).contains(&rate)
+}
+
 // Amount, rate and duration in range.
+#[tactic(auto, unfolding(crate::specs::Terms::terms_ok))]
 pub fn terms_valid(t: Terms) -> bool
     ensures { result ≡ terms_ok t }
 {
-    let amount = money::in_amount_range(t.amount);
-    let rate = t.rate;
-    let duration = t.duration;
-    amount & (1 <= rate) & (rate <= 10000) & (86400 <= duration) & (duration <= 31536000)
+    price_valid(t.amount, t.rate) & (86_400..=31_536_000).contains(&t.duration)
 }
 
 // Whether all three are the same.
+#[tactic(auto, unfolding(crate::specs::Terms::same_terms))]
 pub fn same_terms(a: Terms, b: Terms) -> bool
     ensures { result ≡ same_terms a b }
 {
-    let amount = money::same_amount(a.amount, b.amount);
-    let rate = a.rate;
-    let duration = a.duration;
-    let other = b.rate;
-    let span = b.duration;
-    amount & (rate == other) & (duration == span)
+    a == b
 }
 
 // From 1 to 1,200 installments.
 pub fn count_valid(count: u32) -> bool
     ensures { result ≡ count_ok count }
 {
-    (1 <= count) & (count <= 1200)
+    (1..=1_200).contains(&count)
 }
 
-// Weekly, fortnightly or every thirty days.
+// Weekly, fortnightly or every thirty days. A number, since a book's rows hold it so.
 pub fn code_listed(code: u32) -> bool
     ensures { result ≡ period_listed code }
 {
-    (1 <= code) & (code <= 3)
+    (1..=3).contains(&code)
 }
 
 // Whether there is such a kind: the flat one, and the falling one where the edition keeps a schedule's terms.
+#[tactic(auto, unfolding(crate::specs::Kind::kind_listed))]
 pub fn kind_listed(kept: bool, kind: u64) -> bool
     ensures { result ≡ kind_listed kept kind }
 {
-    (kind == FLAT as u64) | (kept & (kind == FALLING as u64))
+    kind == FLAT as u64 || kept && kind == FALLING as u64
 }
 
+#[tactic(auto, unfolding(crate::specs::Schedule::schedule_in))]
 fn schedule_in(s: Schedule) -> bool
     ensures { result ≡ schedule_in s }
 {
-    let installment = money::in_installment_range(s.installment);
-    let count = s.count;
-    let code = s.code;
-    count_valid(count) & code_listed(code) & installment
+    count_valid(s.count) & code_listed(s.code) & money::in_installment_range(s.installment)
 }
 
 // The kept terms are in range, there is such a kind, and the installment is the first of both.
+#[tactic(auto, unfolding(crate::specs::Schedule::keeps_ok))]
 fn keeps_ok(s: Schedule) -> bool
     requires { count_ok s.count ≡ true }
     ensures { result ≡ keeps_ok s }
 {
-    let amount = money::in_amount_range(s.amount);
-    let rate = s.rate;
-    let kind = s.kind;
-    let ranged = amount & (1 <= rate) & (rate <= 10000) & kind_listed(true, kind as u64);
-    if !ranged {
+    if !(price_valid(s.amount, s.rate) & kind_listed(true, s.kind as u64)) {
         return false;
     }
-    let first = first_of(s.kind, money::magnitude(s.amount), s.rate, s.count);
-    money::same_amount(s.installment, first as i64)
+    s.installment == first_of(s.kind, money::magnitude(s.amount), s.rate, s.count) as i64
 }
 
+#[tactic(auto, unfolding(crate::specs::Schedule::keeps_none))]
 fn keeps_none(s: Schedule) -> bool
     ensures { result ≡ keeps_none s }
 {
-    let amount = money::is_zero(s.amount);
-    let rate = s.rate;
-    let kind = s.kind;
-    amount & (rate == 0) & (kind == FLAT)
+    (s.amount == 0) & (s.rate == 0) & (s.kind == FLAT)
 }
 
 // A schedule that was made, with the terms that it keeps or with none.
+#[tactic(auto, unfolding(crate::specs::Schedule::schedule_ok))]
 pub fn schedule_ok(kept: bool, s: Schedule) -> bool
     ensures { result ≡ schedule_ok kept s }
 {
-    if !schedule_in(s) {
-        return false;
-    }
-    if kept {
-        return keeps_ok(s);
-    }
-    keeps_none(s)
+    schedule_in(s) && if kept { keeps_ok(s) } else { keeps_none(s) }
 }
 
-fn schedule_none(s: Schedule) -> bool
-    ensures { result ≡ schedule_none s }
-{
-    let installment = money::is_zero(s.installment);
-    let count = s.count;
-    let code = s.code;
-    let first = s.first;
-    (count == 0) & (code == 0) & installment & (first == 0)
-}
+// What a row without a schedule holds.
+const NONE: Schedule = Schedule {
+    count: 0,
+    code: 0,
+    installment: 0,
+    first: 0,
+    amount: 0,
+    rate: 0,
+    kind: FLAT,
+};
 
 // No schedule.
+#[tactic(auto, unfolding(crate::specs::Schedule::schedule_zero, crate::specs::Schedule::schedule_none, crate::specs::Schedule::keeps_none))]
 pub fn schedule_zero(s: Schedule) -> bool
     ensures { result ≡ schedule_zero s }
 {
-    let none = schedule_none(s);
-    let unkept = keeps_none(s);
-    none & unkept
+    s == NONE
 }
 
 // A part of the amount with its part of the yield.
+#[tactic(auto, unfolding(installments::specs::Flat::part_of))]
 fn part_of(amount: u64, rate: u32, count: u32) -> u64
     requires amount_bound { amount ≤ 1000000000000 }
     requires rate_bound { rate ≤ 10000 }
@@ -187,81 +174,64 @@ fn part_of(amount: u64, rate: u32, count: u32) -> u64
     ensures { result ≡ part_of amount rate count }
 {
     let part = amount / count as u64;
-    part + part * rate as u64 / 10000
+    part + part * rate as u64 / 10_000
 }
 
 // The first installment of a kind.
+#[tactic(auto, unfolding(crate::specs::Kind::first_of, installments::specs::Arguments::first_if, refusal::specs::Choice::pick))]
 fn first_of(kind: u32, amount: u64, rate: u32, count: u32) -> u64
     requires { falling_ok amount rate count 0 0 ≡ true }
     ensures { result ≡ first_of kind amount rate count }
 {
     if kind == FALLING {
-        return installments::falling_first(amount, rate as u64, count as u64);
+        installments::falling_first(amount, rate as u64, count as u64)
+    } else {
+        part_of(amount, rate, count)
     }
-    part_of(amount, rate, count)
-}
-
-#[derive(Clone, Copy)]
-pub enum InstallmentAnswer {
-    Of(i64),
-    Invalid,
 }
 
 // What the first installment of a kind is: of a flat one its part of the amount and of the yield.
-pub fn installment(t: Terms, kind: u32, count: u32) -> InstallmentAnswer
+#[tactic(auto, unfolding(crate::specs::Installment::installment_of, crate::specs::Installment::installment_amount, refusal::specs::Choice::pick))]
+pub fn installment(t: Terms, kind: u32, count: u32) -> Option<i64>
     ensures { installment_says result ≡ installment_of t kind count }
 {
     if !(terms_valid(t) & count_valid(count) & kind_listed(true, kind as u64)) {
-        return InstallmentAnswer::Invalid;
+        return None;
     }
-    let first = first_of(kind, money::magnitude(t.amount), t.rate, count);
-    InstallmentAnswer::Of(first as i64)
+    Some(first_of(kind, money::magnitude(t.amount), t.rate, count) as i64)
 }
 
 // 0 for a code that is not listed.
+#[tactic(auto, unfolding(crate::specs::Schedule::seconds_of, refusal::specs::Choice::pick))]
 fn seconds(code: u32) -> u64
     ensures { result ≡ seconds_of code }
 {
-    if code == 1 {
-        return 604800;
+    match code {
+        1 => 604_800,
+        2 => 1_209_600,
+        3 => 2_592_000,
+        _ => 0,
     }
-    if code == 2 {
-        return 1209600;
-    }
-    if code == 3 {
-        return 2592000;
-    }
-    0
-}
-
-#[derive(Clone, Copy)]
-pub enum PeriodAnswer {
-    Seconds(u64),
-    Unlisted,
 }
 
 // The seconds of a period's code.
-pub fn period(code: u32) -> PeriodAnswer
+#[tactic(auto, unfolding(crate::specs::Schedule::period_of, refusal::specs::Choice::pick))]
+pub fn period(code: u32) -> Option<u64>
     ensures { period_says result ≡ period_of code }
 {
-    if !code_listed(code) {
-        return PeriodAnswer::Unlisted;
-    }
-    PeriodAnswer::Seconds(seconds(code))
+    code_listed(code).then(|| seconds(code))
 }
 
 // How many installments have fallen due since the first.
+#[tactic(auto, unfolding(crate::specs::Due::elapsed_of))]
 fn elapsed(since: u64, period: u64, count: u64) -> u64
     requires { 0 < period }
     ensures { result ≡ elapsed_of since period count }
 {
-    let passed = since / period;
-    if passed < count {
-        return passed + 1;
-    }
-    count
+    (since / period).saturating_add(1).min(count)
 }
 
+#[tactic(auto, unfolding(crate::specs::Due::due_arguments))]
 fn due_arguments(kept: bool, s: Schedule, status: u32, repaid: i64) -> bool
     ensures { result ≡ due_arguments kept s status repaid }
 {
@@ -276,21 +246,26 @@ fn due_of(kept: bool, s: Schedule, elapsed: u64, repaid: u64) -> Due
     ensures { result ≡ due_as (Sums.due_of (installments_of kept s) elapsed repaid) }
 {
     let installment = money::magnitude(s.installment);
-    let count = s.count;
+    let count = s.count as u64;
     if !kept {
-        return installments::even_due(count as u64, installment, elapsed, repaid);
+        return installments::even_due(count, installment, elapsed, repaid);
     }
     let amount = money::magnitude(s.amount);
-    let rate = s.rate;
-    let kind = s.kind;
-    if kind == FALLING {
-        return installments::falling_due(amount, rate as u64, count as u64, elapsed, repaid);
+    let rate = s.rate as u64;
+    if s.kind == FALLING {
+        installments::falling_due(amount, rate, count, elapsed, repaid)
+    } else {
+        installments::flat_due(
+            count,
+            installment,
+            installments::total(amount, rate),
+            elapsed,
+            repaid,
+        )
     }
-    let total = installments::total(amount, rate as u64);
-    installments::flat_due(count as u64, installment, total, elapsed, repaid)
 }
 
-// Where an offer stands.
+// Where an offer stands: numbers, since a book's rows hold them so, and one that is not listed is refused as unsound.
 pub const PENDING: u32 = 0;
 
 pub const ACCEPTED: u32 = 1;
@@ -303,33 +278,17 @@ pub const REPAID: u32 = 4;
 
 pub const DEFAULTED: u32 = 5;
 
-// The number of the installment and the sum still owed on it.
-#[derive(Clone, Copy)]
-pub enum DueAnswer {
-    Number(u64, u64),
-    Invalid,
-}
-
 // The installment that is due at a time and what is owed on it, 0 and 0 where none is; with the terms that the schedule keeps or none.
-pub fn due(kept: bool, s: Schedule, status: u32, repaid: i64, now: u64) -> DueAnswer
+#[tactic(auto, unfolding(crate::specs::Due::due_of, crate::specs::Due::owed_at, installments::specs::Arguments::due_as, refusal::specs::Choice::pick))]
+pub fn due(kept: bool, s: Schedule, status: u32, repaid: i64, now: u64) -> Option<Due>
     ensures { due_says result ≡ due_of kept s status repaid now }
 {
     if !due_arguments(kept, s, status, repaid) {
-        return DueAnswer::Invalid;
+        return None;
     }
-    let first = s.first;
-    let count = s.count;
-    let code = s.code;
-    if status == REPAID {
-        return DueAnswer::Number(0, 0);
+    if status == REPAID || status == DEFAULTED || now < s.first {
+        return Some(Due { number: 0, owed: 0 });
     }
-    if status == DEFAULTED {
-        return DueAnswer::Number(0, 0);
-    }
-    if now < first {
-        return DueAnswer::Number(0, 0);
-    }
-    let n = elapsed(now - first, seconds(code), count as u64);
-    let d = due_of(kept, s, n, money::magnitude(repaid));
-    DueAnswer::Number(d.number, d.owed)
+    let n = elapsed(now - s.first, seconds(s.code), s.count as u64);
+    Some(due_of(kept, s, n, money::magnitude(repaid)))
 }

@@ -1,11 +1,11 @@
 -- How a line is written, number by number. Assumes nothing.
-use Rattle.std.specs.Prelude.{◌≡◌, refl, Bool, true, false, ◌&&◌, ℕ, zero, suc, ◌+◌, ◌-◌, ◌≤◌, ◌<◌, length, take, drop, replicate, eqb, leb}
-use Rattle.std.proofs.Common.{sym, ◌∙◌, arith, add-zero, length-append, drop-cons, leb-true}
+use Rattle.std.specs.Prelude.{◌≡◌, refl, Bool, true, false, ◌&&◌, ℕ, zero, suc, ◌+◌, ◌-◌, ◌≤◌, ◌<◌, length, drop, replicate, eqb, leb}
+use Rattle.std.proofs.Common.{sym, ◌∙◌, arith, add-zero, drop-cons, leb-true}
 use Rattle.std.proofs.Math.Path.{ap}
 use mathlib.Core.List.{List, [], ◌∷◌, ◌++◌}
 use Rattle.std.proofs.Math.Numerals.{add-one}
 use Rattle.std.proofs.Math.ListN.{get_or}
-use Rattle.std.proofs.Math.Seq.{drop-drop, drop-length, get_or-drop, take-append_seam}
+use Rattle.std.proofs.Math.Seq.{drop-drop, drop-length, get_or-drop}
 use Rattle.refusal.specs.Choice.{pick}
 use Rattle.wire.specs.FieldLaws.{and_left, and_right}
 use Rattle.sheet.specs.declared.Pen.{Pen}
@@ -13,11 +13,9 @@ use Rattle.sheet.specs.Sheet.{Wrote}
 use Rattle.sheet.specs.SheetLaws.{next, retext, none, kept}
 use Rattle.sheet.specs.Decimal.{space, newline}
 use Rattle.journal.specs.Table.{padded, sent}
-use Rattle.journal.specs.declared.writing.Parts.{Parts}
-use Rattle.text.specs.Names.{Name, commands, others, word_in, word_of, is_command, spelt}
+use Rattle.text.specs.Names.{Name, commands, others, word_in, word_of, is_command}
 use Rattle.text.specs.Fields.{fields_for}
 use Rattle.text.specs.Line.{numeral_of, numerals_of, line_of}
-use Rattle.text.specs.declared.names.Spelling.{Spelling}
 
 -- the first i numbers are written; the others complete them
 pub record Numbering (ink : Bool) (fs xs from : List ℕ) (start : Pen) (i : ℕ) (out : List ℕ) (pen : Pen) : Type 0 where
@@ -63,13 +61,6 @@ pub word_short : (t : ℕ) → length (word_of t) ≤ 18
 unfolding word_of
 word_short t = short_pick (is_command t) (word_in commands t) (word_in others t) (short_in commands t refl) (short_in others t refl)
 
--- the name in its array
-pub word_in_lem : {r : Spelling} (w : List ℕ) → r ≡ spelt w → take r.0 r.1 ≡ w
-word_in_lem w e = ap (λ (r : Spelling). take r.0 r.1) e ∙ take-append_seam w (replicate (18 - length w) 32)
-
-pub word_fits : {r : Spelling} (w : List ℕ) → r ≡ spelt w → r.0 ≤ length r.1
-word_fits w e = rw e (omega (arith, length-append w (replicate (18 - length w) 32)))
-
 -- numbers in an array
 numerals_zeros : (fs xs : List ℕ) (n : ℕ) → numerals_of fs (xs ++ replicate n 0) ≡ numerals_of fs xs
 unfolding numerals_of
@@ -78,6 +69,6 @@ numerals_zeros (f ∷ fs) [] zero = refl
 numerals_zeros (f ∷ fs) [] (suc n) = ap (λ (l : List ℕ). (space ++ numeral_of f 0) ++ l) (numerals_zeros fs [] n)
 numerals_zeros (f ∷ fs) (x ∷ xs) n = ap (λ (l : List ℕ). (space ++ numeral_of f x) ++ l) (numerals_zeros fs xs n)
 
-pub line_sent : (e : ℕ) {p : Parts} (x : ℕ × List ℕ) → p ≡ sent x → line_of e (p.0, p.1) ≡ line_of e x
+pub line_sent : (e : ℕ) {p : ℕ × List ℕ} (x : ℕ × List ℕ) → p ≡ sent x → line_of e (p.0, p.1) ≡ line_of e x
 unfolding line_of padded
-line_sent e x q = ap (λ (p : Parts). line_of e (p.0, p.1)) q ∙ ap (λ (l : List ℕ). word_of x.0 ++ (l ++ newline)) (numerals_zeros (fields_for e x.0) x.1 (9 - length x.1))
+line_sent e x q = ap (λ (p : ℕ × List ℕ). line_of e (p.0, p.1)) q ∙ ap (λ (l : List ℕ). word_of x.0 ++ (l ++ newline)) (numerals_zeros (fields_for e x.0) x.1 (9 - length x.1))

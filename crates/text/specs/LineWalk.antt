@@ -7,7 +7,6 @@ use Rattle.refusal.specs.Choice.{pick}
 use Rattle.refusal.specs.ChoiceLaws.{either, pick_on, pick_off}
 use Rattle.wire.specs.FieldLaws.{and_right}
 use Rattle.journal.specs.Table.{sent}
-use Rattle.journal.specs.declared.writing.Parts.{Parts}
 use Rattle.text.specs.Names.{word_of}
 use Rattle.text.specs.Fields.{fields_for}
 use Rattle.text.specs.Walk.{Item, item, fault, end}
@@ -65,7 +64,7 @@ module _ (e from past : ℕ) (t : List ℕ) (at : ℕ) where
 pub record Had (d : Item) (r : Line) : Type 0 where
   pub parts : ℕ × List ℕ
   pub is : d ≡ item parts r.next
-  pub sends : ◌≡◌ {A = Parts} (r.tag, r.values) (sent parts)
+  pub sends : ◌≡◌ {A = ℕ × List ℕ} (r.tag, r.values) (sent parts)
 
 had_by : (d : Item) → (line_for d).ok ≡ true → Had d (line_for d)
 had_by (item x next) e = record { parts = x; is = refl; sends = refl }

@@ -5,11 +5,11 @@ use Rattle.std.proofs.lemmas.Bool.{not-true}
 use Rattle.refusal.specs.Choice.{pick}
 use Rattle.refusal.specs.ChoiceLaws.{pick_on, pick_off}
 use Rattle.wire.specs.FieldLaws.{and_left, and_right}
-use Rattle.text.specs.Names.{Name, commands, questions, others, word_in, word_of, is_command, spelt}
+use Rattle.text.specs.Names.{Name, commands, questions, others, word_in, word_of, is_command}
 
 -- in the arm of a tag
-pub in_arm : (ns : List Name) (k : ℕ) {t : ℕ} → t ≡ k → spelt (word_in ns k) ≡ spelt (word_in ns t)
-in_arm ns k e = ap (λ (t : ℕ). spelt (word_in ns t)) (sym e)
+pub in_arm : (ns : List Name) (k : ℕ) {t : ℕ} → t ≡ k → word_in ns k ≡ word_in ns t
+in_arm ns k e = ap (λ (t : ℕ). word_in ns t) (sym e)
 
 -- what the last arm of a `match` with an arm for each name knows of the tag
 abbrev pub Other : Type 0 → List Name → ℕ → Type 0

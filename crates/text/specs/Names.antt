@@ -1,7 +1,6 @@
 -- The commands by the names that document 01 gives them, and the questions by names of the same kind.
-use Rattle.std.specs.Prelude.{Bool, ◌&&◌, List, [], ◌∷◌, ◌++◌, ℕ, ◌-◌, length, replicate, eqb, leb, ltb}
+use Rattle.std.specs.Prelude.{Bool, ◌&&◌, List, [], ◌∷◌, ℕ, eqb, leb, ltb}
 use Rattle.refusal.specs.Choice.{pick}
-use Rattle.text.specs.declared.names.Spelling.{Spelling}
 
 -- the tag of a command or of a question, and its name as bytes
 pub record Name : Type 0 where
@@ -79,7 +78,3 @@ is_command t = leb 0x20 t && ltb t 0x60
 
 unfoldable pub word_of : ℕ → List ℕ
 word_of t = pick (is_command t) (word_in commands t) (word_in others t)
-
--- in an array of eighteen, with spaces after it
-abbrev pub spelt : List ℕ → Spelling
-spelt w = (length w, w ++ replicate (18 - length w) 32)

@@ -1,5 +1,6 @@
 -- What reading a line goes by, byte for byte. Assumes nothing.
 use Rattle.std.specs.Prelude.{◌≡◌, refl, Bool, true, false, ◌&&◌, List, [], ◌∷◌, length, get_or, drop, eqb, leb, ltb}
+use Rattle.std.specs.List.{starts_with}
 use Rattle.std.proofs.Common.{sym, ap, ◌∙◌, add-zero, add-one, length-drop, get_or-drop}
 use Prim.Native.Nat.{ℕ, zero, suc, ◌+◌, ◌-◌, ◌*◌, ◌≤◌, ◌<◌}
 use native.Mathlib.Omega.{arith}
@@ -31,6 +32,24 @@ pub there : (l : List ℕ) (p : ℕ) {b : ℕ} → get_or l p 0 ≡ b → 0 < b 
 there [] p e h = absurd (omega arith)
 there (x ∷ l) zero e h = omega arith
 there (x ∷ l) (suc p) e h = omega (arith, there l p e h)
+
+-- ---- a name: std's test is ours
+
+pub eqb_no : (x y : ℕ) → eqb x y ≡ false → x ≡ y → ⊥
+eqb_no x y e h = let z : true ≡ false = sym (eq-eqb x y h) ∙ e in cc
+
+eqb_flip : (x y : ℕ) → eqb x y ≡ eqb y x
+eqb_flip x y = go (eqb x y) refl
+  where
+    go : (t : Bool) → eqb x y ≡ t → eqb x y ≡ eqb y x
+    go true e = e ∙ sym (eq-eqb y x (sym (eqb-true x y e)))
+    go false e = e ∙ sym (ne_eqb y x (λ h. eqb_no x y e (sym h)))
+
+pub leads_starts : (w t : List ℕ) → starts_with eqb t w ≡ leads w t
+unfolding leads
+leads_starts [] t = refl
+leads_starts (x ∷ w) [] = refl
+leads_starts (x ∷ w) (y ∷ t) = rw (eqb_flip x y) (ap (λ (b : Bool). eqb y x && b) (leads_starts w t))
 
 -- ---- a name: the first i bytes are the same
 

@@ -1,5 +1,5 @@
 -- A record or the header in an array that has room for it. Assumes nothing.
-use Rattle.std.specs.Prelude.{◌≡◌, refl, ℕ, ◌+◌, ◌≤◌, drop, replicate}
+use Rattle.std.specs.Prelude.{◌≡◌, refl, ℕ, ◌+◌, ◌≤◌, drop, replicate, false, eqb, Result, Ok, Err}
 use Rattle.std.proofs.Common.{sym, ◌∙◌, arith, le-leb}
 use Rattle.std.proofs.Math.Path.{ap}
 use mathlib.Core.List.{List}
@@ -14,8 +14,9 @@ use Rattle.journal.specs.Answers.{written}
 use Rattle.journal.specs.TableLaws.{few}
 use Rattle.journal.specs.Format.{header_of, record_of, writing}
 use Rattle.journal.specs.WriteLaws.{length_record}
-use Rattle.journal.specs.declared.Encoded.{Encoded}
-use Rattle.journal.specs.declared.Encoded.TheVariants.{Bytes, Short}
+use Rattle.refusal.specs.declared.Refusal.{Refusal}
+use Rattle.refusal.specs.Refusal.{number}
+use Rattle.refusal.specs.RefusalLaws.{refusal_not-0}
 
 pub header_laid : (e : ℕ) → laid 0 (header_of e) (replicate 5 0) ≡ header_of e
 unfolding laid placed header_of field_of head_of bytes_of pick
@@ -29,10 +30,12 @@ module _ (w l : List ℕ) (h : length w ≤ length l) where
   unfolding writing
   has_room = pick_on _ _ (le-leb (0 + length w) (length l) (omega arith))
 
-  pub not_short : {e : Encoded} → written e ≡ writing 0 w l → e ≡ Short → ⊥
-  not_short k d = let z = ap (λ (p : ℕ × ℕ). p.0) (ap written (sym d) ∙ k ∙ has_room) in omega arith
+  pub not_short : {e : Result ℕ Refusal} {r : Refusal} → written e ≡ writing 0 w l → e ≡ Err r → ⊥
+  not_short {r = r} k d =
+      let z : number r ≡ 0 = ap (λ (p : ℕ × ℕ). p.0) (ap written (sym d) ∙ k ∙ has_room) in
+      let f : eqb 0 0 ≡ false = rw z at (refusal_not-0 r) in cc
 
-  pub count-is : {e : Encoded} {n : ℕ} → written e ≡ writing 0 w l → e ≡ Bytes n → n ≡ length w
+  pub count-is : {e : Result ℕ Refusal} {n : ℕ} → written e ≡ writing 0 w l → e ≡ Ok n → n ≡ length w
   count-is k d = ap (λ (p : ℕ × ℕ). p.1) (ap written (sym d) ∙ k ∙ has_room)
 
   pub taken : {m : List ℕ} {n : ℕ} → m ≡ laid 0 w l → n ≡ length w → (n ≤ length m) × (take n m ≡ w)

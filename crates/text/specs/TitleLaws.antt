@@ -14,7 +14,6 @@ use Rattle.journal.specs.Table.{top_of, padded}
 use Rattle.journal.specs.HeldLaws.{Tops}
 use Rattle.journal.specs.FieldLaws.{and_off}
 use Rattle.journal.specs.RoundTrip.{listed_fits, listed_from_lem}
-use Rattle.journal.specs.declared.writing.Parts.{Parts}
 use Rattle.text.specs.Fields.{asked_of, fields_for}
 use Rattle.text.specs.Line.{numerals_of, line_of}
 use Rattle.text.specs.Walk.{Item, item, fault, end, all_of}
@@ -63,7 +62,7 @@ pub some_title : (t : List ℕ) {r : Line} → Had (line_in first_edition 0x10 0
 unfolding title_in
 some_title t {r} h =
     let l : line_at first_edition 0x10 0x11 t 0 ≡ item h.parts r.next = at_line first_edition 0x10 0x11 t 0 (line_there first_edition 0x10 0x11 t 0 h.is) ∙ h.is in
-    let v : get_or r.values 0 0 ≡ get_or h.parts.1 0 0 = ap (λ (p : Parts). get_or p.1 0 0) h.sends ∙ padded_first h.parts.1 in
+    let v : get_or r.values 0 0 ≡ get_or h.parts.1 0 0 = ap (λ (p : ℕ × List ℕ). get_or p.1 0 0) h.sends ∙ padded_first h.parts.1 in
     ap (λ (n : ℕ). titled n r.next) v ∙ ap title_by (sym l)
 
 -- ---- what stands in it

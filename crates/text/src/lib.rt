@@ -14,7 +14,7 @@ ghost use Rattle.text.specs.Text.{records_of, lines_of, text_of};
 ghost use Rattle.text.specs.Journal.{lines_in, bytes_from, fault_line, journal_of};
 ghost use Rattle.journal.specs.Format.{header_of, opening_of, record_of};
 
-use journal::{Decoded, Encoded, Opened};
+use journal::Decoded;
 use sheet::Pen;
 
 // How many bytes were written; the offset of a malformed record or the number of a line that is none; or that the buffer is too short.
@@ -34,6 +34,7 @@ pub(crate) struct Told {
 }
 
 // One walk over a journal, which writes the lines as it goes. Without ink it only measures.
+// The step is the length of the record that was read, so that a `for` has nothing to go over.
 fn tell(s: &[u8], out: &mut [u8], ink: bool) -> Told
     ensures { Wrote ink (lines_of (opening_of s.now).edition (records_of s.now)) out.old (pen_at 0 false) out.new result.pen × ((result.bad ≡ (records_of s.now).bad) × (result.at ≡ (records_of s.now).at)) }
 {
@@ -41,23 +42,21 @@ fn tell(s: &[u8], out: &mut [u8], ink: bool) -> Told
         at: 0,
         short: false,
     };
-    let h = journal::header(s);
-    let Opened::Records(edition, first) = h else {
+    let Ok(header) = journal::header(s) else {
         return Told {
             pen: start,
             bad: true,
             at: 0,
         };
     };
+    let edition = header.edition;
     let mut pen = writing::put_title(out, start, ink, edition);
-    let mut at = first;
+    let mut at = header.first;
     loop {
-        let d = journal::decode(edition, s, at);
-        match d {
+        match journal::decode(edition, s, at) {
             Decoded::Command(c, next) => {
-                let parts = journal::writing::split(edition, c);
-                let numbers = parts.1;
-                pen = writing::put_line(out, pen, ink, edition, parts.0, numbers);
+                let (tag, numbers) = journal::writing::split(edition, c);
+                pen = writing::put_line(out, pen, ink, edition, tag, numbers);
                 at = next;
             }
             Decoded::Malformed(_) => {
@@ -82,20 +81,17 @@ pub fn to_text(journal: &[u8], out: &mut [u8]) -> Answer
     if dry.bad {
         return Answer::Malformed(dry.at);
     }
-    let pen = dry.pen;
-    if pen.short {
+    if dry.pen.short {
         return Answer::Short;
     }
-    let wet = tell(journal, out, true);
-    let q = wet.pen;
-    Answer::Done(q.at)
+    Answer::Done(tell(journal, out, true).pen.at)
 }
 
 fn put_header(out: &mut [u8], pen: Pen, ink: bool, edition: u32) -> Pen
     ensures { Wrote ink (header_of edition) out.old pen out.new result }
 {
     let mut header = [0u8; 5];
-    journal::write_header(&mut header, edition);
+    let _ = journal::write_header(&mut header, edition);
     sheet::put(out, pen, ink, &header)
 }
 
@@ -104,14 +100,14 @@ fn put_record(out: &mut [u8], pen: Pen, ink: bool, edition: u32, tag: u8, number
 {
     // Room for the longest record: no case is short.
     let mut bytes = [0u8; 102];
-    let e = journal::encode_parts(edition, tag, numbers, &mut bytes, 0);
-    let Encoded::Bytes(size) = e else {
+    let Ok(size) = journal::encode_parts(edition, tag, numbers, &mut bytes, 0) else {
         return pen;
     };
     sheet::put(out, pen, ink, &bytes[..size])
 }
 
 // One walk over a text, which writes the header and the records as it goes. A fault is told by its line's number, from 1.
+// The step is the length of the line that was read, so that a `for` has nothing to go over.
 fn tell_lines(s: &[u8], out: &mut [u8], ink: bool) -> Told
     ensures { Wrote ink (bytes_from (title_in s.now).edition (lines_in s.now)) out.old (pen_at 0 false) out.new result.pen × ((result.bad ≡ (lines_in s.now).bad) × (result.at ≡ fault_line (title_in s.now).lines (lines_in s.now))) }
 {
@@ -133,8 +129,7 @@ fn tell_lines(s: &[u8], out: &mut [u8], ink: bool) -> Told
                 at: k + 1,
             };
         }
-        let values = x.values;
-        pen = put_record(out, pen, ink, edition, x.tag, values);
+        pen = put_record(out, pen, ink, edition, x.tag, x.values);
         at = x.next;
         k += 1;
     }
@@ -153,11 +148,8 @@ pub fn to_journal(text: &[u8], out: &mut [u8]) -> Answer
     if dry.bad {
         return Answer::Malformed(dry.at);
     }
-    let pen = dry.pen;
-    if pen.short {
+    if dry.pen.short {
         return Answer::Short;
     }
-    let wet = tell_lines(text, out, true);
-    let q = wet.pen;
-    Answer::Done(q.at)
+    Answer::Done(tell_lines(text, out, true).pen.at)
 }

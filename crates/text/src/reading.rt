@@ -1,8 +1,8 @@
 // From a line to its tag and numbers.
-ghost use Rattle.std.specs.Prelude.{◌≡◌, ◌+◌, ◌≤◌, ◌<◌, length, get_or, take, drop};
+ghost use Rattle.std.specs.Prelude.{◌≡◌, ◌+◌, ◌≤◌, ◌<◌, length, get_or, drop};
 ghost use Rattle.text.specs.Walk.{fault};
 ghost use Rattle.text.specs.Title.{is_later, untitled, title_in};
-ghost use Rattle.text.specs.Reading.{leads, is_named, tag_in, is_digit, no_numeral, checked, natural_in, numeral_in, spaced_in, read_in, line_in, numbers_for, line_for};
+ghost use Rattle.text.specs.Reading.{is_named, tag_in, is_digit, no_numeral, checked, natural_in, numeral_in, spaced_in, read_in, line_in, numbers_for, line_for};
 
 use crate::{fields, names, writing};
 
@@ -23,6 +23,7 @@ pub(crate) struct Numbers {
 }
 
 // The tag of a line, its numbers, and the place past it; or that none stands there.
+// `values`: an array of nine, the longest record, with zeros behind: no heap.
 #[derive(Clone, Copy)]
 pub struct Line {
     pub ok: bool,
@@ -51,34 +52,15 @@ fn byte(s: &[u8], p: usize) -> u8
     0
 }
 
-fn starts(s: &[u8], at: usize, n: usize, name: [u8; 18]) -> bool
-    requires { (at ≤ length s.now) × (n ≤ 18) }
-    ensures { result ≡ leads (take n name) (drop at s.now) }
-{
-    let mut i: usize = 0;
-    while i < n {
-        if s.len() - at <= i {
-            return false;
-        }
-        if s[at + i] != name[i] {
-            return false;
-        }
-        i += 1;
-    }
-    true
-}
-
 fn named(s: &[u8], at: usize, k: u8) -> bool
     requires { at ≤ length s.now }
     ensures { result ≡ is_named k (drop at s.now) }
 {
     let word = names::word(k);
-    let size = word.0;
-    let name = word.1;
-    if size == 0 {
+    if word.is_empty() {
         return false;
     }
-    starts(s, at, size, name)
+    s[at..].starts_with(word)
 }
 
 // The first tag from one to below another whose name stands there, or 0.
@@ -86,12 +68,10 @@ fn tag_at(s: &[u8], at: usize, first: u8, past: u8) -> u8
     requires { at ≤ length s.now }
     ensures { result ≡ tag_in first past (drop at s.now) }
 {
-    let mut k = first;
-    while k < past {
+    for k in first..past {
         if named(s, at, k) {
             return k;
         }
-        k += 1;
     }
     0
 }
@@ -117,6 +97,7 @@ fn check(top: u64, n: usize, b: u8, v: u64) -> Numeral
     none()
 }
 
+// The digits end where a byte is none: the loop's end is what it looks for, and its bound is tested at each digit.
 fn natural(s: &[u8], at: usize, top: u64) -> Numeral
     requires { at ≤ length s.now }
     ensures { result ≡ natural_in top (drop at s.now) }
@@ -169,30 +150,28 @@ fn spaced(s: &[u8], at: usize, f: u8) -> Numeral
     numeral_at(s, at + 1, f)
 }
 
-fn numbers_at(s: &[u8], at: usize, n: usize, tags: [u8; 9]) -> Numbers
-    requires { (at ≤ length s.now) × (n ≤ 9) }
-    ensures { result ≡ numbers_for at (read_in (take n tags) (drop at s.now)) }
+fn numbers_at(s: &[u8], at: usize, tags: &[u8]) -> Numbers
+    requires { (at ≤ length s.now) × (length tags.now ≤ 9) }
+    ensures { result ≡ numbers_for at (read_in tags.now (drop at s.now)) }
 {
-    let mut values = [0u64; 9];
-    let mut i: usize = 0;
-    let mut q = at;
-    while i < n {
-        let x = spaced(s, q, tags[i]);
+    let mut values = [0; 9];
+    let mut next = at;
+    for (i, tag) in tags.iter().enumerate() {
+        let x = spaced(s, next, *tag);
         if !x.ok {
             return Numbers {
                 ok: false,
-                values: [0u64; 9],
+                values: [0; 9],
                 next: at,
             };
         }
         values[i] = x.value;
-        q = q + (x.size + 1);
-        i += 1;
+        next += x.size + 1;
     }
     Numbers {
         ok: true,
         values,
-        next: q,
+        next,
     }
 }
 
@@ -217,9 +196,8 @@ pub fn line_at(edition: u32, s: &[u8], at: usize, first: u8, past: u8) -> Line
         return no_line();
     }
     let word = names::word(tag);
-    let row = fields::listed(edition, tag);
-    let tags = row.1;
-    let x = numbers_at(s, at + word.0, row.0, tags);
+    let tags = fields::listed(edition, tag);
+    let x = numbers_at(s, at + word.len(), tags);
     if !x.ok {
         return no_line();
     }

@@ -1,5 +1,5 @@
 // From a command's tag and numbers to its line.
-ghost use Rattle.std.specs.Prelude.{◌≡◌, ◌++◌, ◌≤◌, take};
+ghost use Rattle.std.specs.Prelude.{◌≡◌, ◌++◌, ◌≤◌, length};
 ghost use Rattle.sheet.specs.Sheet.{Wrote};
 ghost use Rattle.sheet.specs.Decimal.{space};
 ghost use Rattle.text.specs.Line.{is_signed, signed_of, numeral_of, numerals_of, line_of};
@@ -41,22 +41,13 @@ fn put_spaced(out: &mut [u8], pen: Pen, ink: bool, f: u8, x: u64) -> Pen
     put_numeral(out, put, ink, f, x)
 }
 
-fn put_numerals(
-    out: &mut [u8],
-    pen: Pen,
-    ink: bool,
-    n: usize,
-    tags: [u8; 9],
-    numbers: [u64; 9],
-) -> Pen
-    requires { n ≤ 9 }
-    ensures { Wrote ink (numerals_of (take n tags) numbers) out.old pen out.new result }
+fn put_numerals(out: &mut [u8], pen: Pen, ink: bool, tags: &[u8], numbers: [u64; 9]) -> Pen
+    requires { length tags.now ≤ 9 }
+    ensures { Wrote ink (numerals_of tags.now numbers) out.old pen out.new result }
 {
     let mut p = pen;
-    let mut i: usize = 0;
-    while i < n {
-        p = put_spaced(out, p, ink, tags[i], numbers[i]);
-        i += 1;
+    for (i, tag) in tags.iter().enumerate() {
+        p = put_spaced(out, p, ink, *tag, numbers[i]);
     }
     p
 }
@@ -71,13 +62,8 @@ pub(crate) fn put_line(
 ) -> Pen
     ensures { Wrote ink (line_of edition (tag, numbers)) out.old pen out.new result }
 {
-    let word = names::word(tag);
-    let size = word.0;
-    let name = word.1;
-    let put = sheet::put(out, pen, ink, &name[..size]);
-    let row = fields::listed(edition, tag);
-    let tags = row.1;
-    let q = put_numerals(out, put, ink, row.0, tags, numbers);
+    let put = sheet::put(out, pen, ink, names::word(tag));
+    let q = put_numerals(out, put, ink, fields::listed(edition, tag), numbers);
     sheet::put(out, q, ink, b"\n")
 }
 

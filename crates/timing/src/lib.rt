@@ -1,7 +1,7 @@
 // What the benchmark runs: one call repeated on the book of a journal. What comes back only keeps the calls from being left out.
 #![tactic(auto)]
 
-use query::{Answered, LenderAnswer, OfferAnswer};
+use refusal::Refusal;
 
 // Replays a journal again and again.
 #[unsafe(no_mangle)]
@@ -17,15 +17,10 @@ pub extern "C" fn timing_lender(journal: &[u8], account: u64, times: u64) -> u64
     let book = o.book;
     let mut mixed: u64 = 0;
     for i in 0..times {
-        let r = query::get_lender_stats(book, account ^ (i & 1));
-        match r {
-            LenderAnswer::Lender(x) => {
-                mixed = mixed ^ x.offered;
-            }
-            LenderAnswer::Unsound => {
-                mixed = mixed ^ 1;
-            }
-        }
+        mixed ^= match query::get_lender_stats(book, account ^ (i & 1)) {
+            Ok(x) => x.offered,
+            Err(_) => 1,
+        };
     }
     mixed
 }
@@ -37,18 +32,11 @@ pub extern "C" fn timing_offer(journal: &[u8], id: u64, times: u64) -> u64 {
     let book = o.book;
     let mut mixed: u64 = 0;
     for i in 0..times {
-        let r = query::get_offer(book, id ^ (i & 1));
-        match r {
-            OfferAnswer::Offer(x) => {
-                mixed = mixed ^ x.amount;
-            }
-            OfferAnswer::Absent => {
-                mixed = mixed ^ 4;
-            }
-            OfferAnswer::Unsound => {
-                mixed = mixed ^ 1;
-            }
-        }
+        mixed ^= match query::get_offer(book, id ^ (i & 1)) {
+            Ok(x) => x.amount,
+            Err(Refusal::NotFound) => 4,
+            Err(_) => 1,
+        };
     }
     mixed
 }
@@ -79,18 +67,11 @@ pub extern "C" fn timing_answers(
     let book = o.book;
     let mut mixed: u64 = 0;
     for i in 0..times {
-        let r = query::answers(book, questions, &mut *out);
-        match r {
-            Answered::Answers(n) => {
-                mixed = mixed ^ i ^ (n as u64);
-            }
-            Answered::Short => {
-                mixed = mixed ^ 14;
-            }
-            Answered::Unsound => {
-                mixed = mixed ^ 1;
-            }
-        }
+        mixed ^= match query::answers(book, questions, &mut *out) {
+            Ok(n) => i ^ (n as u64),
+            Err(Refusal::BufferShort) => 14,
+            Err(_) => 1,
+        };
     }
     mixed
 }

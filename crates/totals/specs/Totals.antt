@@ -5,16 +5,12 @@ use Rattle.refusal.specs.Refusal.{◌gives◌, unauthorized, out_of_range}
 use Rattle.refusal.specs.Rule.{Rule}
 use Rattle.terms.specs.declared.Terms.{Terms}
 use Rattle.totals.specs.declared.Totals.{Totals}
-use Rattle.totals.specs.declared.TotalsPosted.{TotalsPosted}
 
 abbrev pub no_totals : Totals
 no_totals = record { financed = pos 0; repaid = pos 0; fees = pos 0; offers = 0 }
 
 unfoldable pub totals_sound : Totals → Bool
 totals_sound t = ((in_total t.financed && in_total t.repaid) && in_total t.fees) && leb t.offers count_limit
-
-abbrev pub counted : ℕ → Totals → TotalsPosted
-counted n t = record { answer = n; row = t }
 
 -- create: the book's total_offers grows by 1, else 11
 abbrev pub count_of : Totals → Rule Totals

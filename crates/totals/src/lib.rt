@@ -2,9 +2,10 @@
 #![tactic(auto)]
 
 ghost use Rattle.std.specs.Prelude.{◌≡◌};
-ghost use Rattle.refusal.specs.Rule.{answered};
-ghost use Rattle.totals.specs.Totals.{no_totals, totals_sound, counted, count_of, finance_of, repay_of};
+ghost use Rattle.refusal.specs.Rule.{outcome};
+ghost use Rattle.totals.specs.Totals.{no_totals, totals_sound, count_of, finance_of, repay_of};
 
+use refusal::Refusal;
 use terms::Terms;
 
 #[derive(Clone, Copy)]
@@ -17,67 +18,45 @@ pub struct Totals {
 
 impl Totals {
     // One offer more.
-    pub fn count(mut self) -> TotalsPosted
-        ensures { result ≡ answered counted self (count_of self) }
+    pub fn count(mut self) -> Result<Totals, Refusal>
+        ensures { result ≡ outcome (count_of self) }
     {
-        let count = self.offers;
-        if money::COUNT_LIMIT <= count {
-            return refused(self, refusal::OUT_OF_RANGE);
+        if money::COUNT_LIMIT <= self.offers {
+            return Err(Refusal::OutOfRange);
         }
-        self.offers = count + 1;
-        TotalsPosted {
-            answer: 0,
-            row: self,
-        }
+        self.offers += 1;
+        Ok(self)
     }
 
     // A settled amount is financed.
-    pub fn finance(mut self, t: Terms) -> TotalsPosted
-        ensures { result ≡ answered counted self (finance_of self t) }
+    pub fn finance(mut self, t: Terms) -> Result<Totals, Refusal>
+        ensures { result ≡ outcome (finance_of self t) }
     {
-        let moved = money::shift(self.financed, t.amount);
-        if !moved.ok {
-            return refused(self, refusal::OUT_OF_RANGE);
-        }
-        self.financed = moved.total;
-        TotalsPosted {
-            answer: 0,
-            row: self,
-        }
+        self.financed = money::shift(self.financed, t.amount).ok_or(Refusal::OutOfRange)?;
+        Ok(self)
     }
 
     // Repayment adds both amounts, which may be below 0, to the repaid and fee totals.
-    pub fn repay(mut self, allowed: bool, amount: i64, fee: i64) -> TotalsPosted
-        ensures { result ≡ answered counted self (repay_of self allowed amount fee) }
+    pub fn repay(mut self, allowed: bool, amount: i64, fee: i64) -> Result<Totals, Refusal>
+        ensures { result ≡ outcome (repay_of self allowed amount fee) }
     {
         if !allowed {
-            return refused(self, refusal::UNAUTHORIZED);
+            return Err(Refusal::Unauthorized);
         }
-        let repaid = money::shift(self.repaid, amount);
-        if !repaid.ok {
-            return refused(self, refusal::OUT_OF_RANGE);
-        }
-        let fees = money::shift(self.fees, fee);
-        if !fees.ok {
-            return refused(self, refusal::OUT_OF_RANGE);
-        }
-        self.repaid = repaid.total;
-        self.fees = fees.total;
-        TotalsPosted {
-            answer: 0,
-            row: self,
-        }
+        self.repaid = money::shift(self.repaid, amount).ok_or(Refusal::OutOfRange)?;
+        self.fees = money::shift(self.fees, fee).ok_or(Refusal::OutOfRange)?;
+        Ok(self)
     }
 
     // Whether each total and the count are in range.
+    #[tactic(auto, unfolding(crate::specs::Totals::totals_sound))]
     pub fn sound(self) -> bool
         ensures { result ≡ totals_sound self }
     {
-        let financed = money::in_total_range(self.financed);
-        let repaid = money::in_total_range(self.repaid);
-        let fees = money::in_total_range(self.fees);
-        let count = self.offers;
-        financed & repaid & fees & (count <= money::COUNT_LIMIT)
+        money::in_total_range(self.financed)
+            & money::in_total_range(self.repaid)
+            & money::in_total_range(self.fees)
+            & (self.offers <= money::COUNT_LIMIT)
     }
 
     // The totals of a fresh book.
@@ -91,17 +70,4 @@ impl Totals {
             offers: 0,
         }
     }
-}
-
-fn refused(row: Totals, answer: u64) -> TotalsPosted
-    ensures { result ≡ counted answer row }
-{
-    TotalsPosted { answer, row }
-}
-
-// An answer's number, 0 where the totals were changed, and the totals.
-#[derive(Clone, Copy)]
-pub struct TotalsPosted {
-    pub answer: u64,
-    pub row: Totals,
 }

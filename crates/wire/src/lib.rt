@@ -1,7 +1,7 @@
 // Tagged fields: a one-byte tag, a two-byte big-endian length and the field's bytes.
 #![tactic(auto)]
 
-ghost use Rattle.std.specs.Prelude.{◌≡◌, ◌+◌, ◌≤◌, ◌<◌, ◌%◌, length, drop};
+ghost use Rattle.std.specs.Prelude.{◌≡◌, ◌+◌, ◌≤◌, ◌<◌, length, drop};
 ghost use Rattle.wire.specs.Field.{number_in, bytes_of, field_of, head_of, begins, number_at};
 ghost use Rattle.refusal.specs.Placed.{laid};
 ghost use Rattle.wire.specs.Room.{Room};
@@ -10,16 +10,7 @@ ghost use Rattle.wire.specs.Room.{Room};
 fn room(len: usize, p: usize, n: usize) -> bool
     ensures { Room p n len result }
 {
-    if len < p {
-        return false;
-    }
-    n <= len - p
-}
-
-fn wide(x: u8) -> u64
-    ensures { (result ≡ x) × (result < 256) }
-{
-    x as u64
+    p <= len && n <= len - p
 }
 
 // The number that the n bytes from p are.
@@ -27,11 +18,9 @@ fn digits(s: &[u8], p: usize, n: usize) -> u64
     requires { (p + n ≤ length s.now) × (n ≤ 8) }
     ensures { result ≡ number_in (drop p s.now) n }
 {
-    let mut v: u64 = 0;
-    let mut i: usize = 0;
-    while i < n {
-        v = v * 256 + wide(s[p + i]);
-        i += 1;
+    let mut v = 0;
+    for i in 0..n {
+        v = v * 256 + u64::from(s[p + i]);
     }
     v
 }
@@ -46,17 +35,18 @@ pub fn begins(s: &[u8], p: usize, tag: u8, size: usize) -> bool
     if !room(s.len(), p + 3, size) {
         return false;
     }
-    (s[p] == tag) & (digits(s, p + 1, 2) == size as u64)
+    s[p] == tag && digits(s, p + 1, 2) == size as u64
 }
 
 fn whole(s: &[u8], p: usize, n: usize) -> u64
     requires { (0 < n) × (n ≤ 8) }
     ensures { result ≡ number_at n (drop p s.now) }
 {
-    if !room(s.len(), p, n) {
-        return 0;
+    if room(s.len(), p, n) {
+        digits(s, p, n)
+    } else {
+        0
     }
-    digits(s, p, n)
 }
 
 // The eight-byte number at p; 0 where not all its bytes are there.
@@ -73,36 +63,12 @@ pub fn pair(s: &[u8], p: usize) -> u64
     whole(s, p, 2)
 }
 
-fn byte(x: u64) -> u8
-    ensures { result ≡ x % 256 }
-{
-    (x % 256) as u8
-}
-
 // A field of eight bytes, by itself.
 pub fn field(tag: u8, v: u64) -> [u8; 11]
     ensures { result ≡ field_of tag (bytes_of 8 v) }
 {
-    let a = v / 256;
-    let b = a / 256;
-    let c = b / 256;
-    let d = c / 256;
-    let e = d / 256;
-    let f = e / 256;
-    let g = f / 256;
-    [
-        tag,
-        0,
-        8,
-        byte(g),
-        byte(f),
-        byte(e),
-        byte(d),
-        byte(c),
-        byte(b),
-        byte(a),
-        byte(v),
-    ]
+    let [a, b, c, d, e, f, g, h] = v.to_be_bytes();
+    [tag, 0, 8, a, b, c, d, e, f, g, h]
 }
 
 // Writes an eight-byte field at p; without room for it the buffer stays as it is.
@@ -110,8 +76,7 @@ pub fn put_field(out: &mut [u8], p: usize, tag: u8, v: u64)
     ensures { out.new ≡ laid p (field_of tag (bytes_of 8 v)) out.old }
 {
     if room(out.len(), p, 11) {
-        let w = field(tag, v);
-        copying::copy(&w, &mut out[p..]);
+        copying::copy(&field(tag, v), &mut out[p..]);
     }
 }
 
@@ -120,8 +85,7 @@ pub fn put_head(out: &mut [u8], p: usize, tag: u8, size: u64)
     ensures { out.new ≡ laid p (head_of tag size) out.old }
 {
     if room(out.len(), p, 3) {
-        out[p] = tag;
-        out[p + 1] = byte(size / 256);
-        out[p + 2] = byte(size);
+        let [.., high, low] = size.to_be_bytes();
+        copying::copy(&[tag, high, low], &mut out[p..]);
     }
 }

@@ -1,9 +1,0 @@
-use borrow.Author.Rules.{rules}
-use Rattle.offer.proofs.Deal.none.Statement.{statement}
-use Rattle.offer.proofs.Deal.none.Tie as tie
-
-returns : tie.Need-returns
-returns c = rw (c.none-none.ensures, c.none-n.ensures)
-
-pub none_spec : {M : Type 1} → statement M
-none_spec = tie.close (tie.spec (λ c κs. search rules) (λ c κs. search rules) returns)

@@ -1,9 +1,0 @@
-use borrow.Author.Rules.{rules}
-use Rattle.query.proofs.get_negotiation_window.Statement.{statement}
-use Rattle.query.proofs.get_negotiation_window.Tie as tie
-
-returns : tie.Need-returns
-returns c = rw (← c.sound.ensures.0) c.told.ensures
-
-pub get_negotiation_window_spec : {M : Type 1} → statement M
-get_negotiation_window_spec = tie.close (tie.spec (λ c κs. search rules) (λ c κs. search rules) returns)
