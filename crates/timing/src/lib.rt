@@ -45,10 +45,11 @@ pub extern "C" fn timing_offer(journal: &[u8], id: u64, times: u64) -> u64 {
 #[unsafe(no_mangle)]
 pub extern "C" fn timing_sound(journal: &[u8], times: u64) -> u64 {
     let o = replay::replay(journal);
-    let book = o.book;
+    // Two copies in turn: of one book the test would be made once, before the loop.
+    let books = [o.book, o.book];
     let mut mixed: u64 = 0;
     for i in 0..times {
-        if book.sound() {
+        if books[(i & 1) as usize].sound() {
             mixed = mixed ^ i;
         }
     }
