@@ -96,16 +96,20 @@ impl Book {
         ensures book { self.new ≡ stored (after (model_of self.old) (commanded (model_of self.old) c)) }
     {
         let names = c.names();
-        let deal = self.offers.see(names.offer);
+        let place = table::spot_by(&self.offers.ids, self.offers.count, names.offer);
+        let deal = self.offers.see_at(names.offer, place);
         let key = names.paper.key(deal.row.offer.invoice);
-        let paper = self.invoices.see(key);
+        let found = table::spot_by(&self.invoices.ids, self.invoices.count, key);
+        let paper = self.invoices.see_at(key, found);
         let other = names
             .second
             .key(deal.row.offer.lender, paper.row.originator);
+        let one = table::spot_by(&self.accounts.ids, self.accounts.count, names.first);
+        let two = table::spot_by(&self.accounts.ids, self.accounts.count, other);
         let near = Near {
             parties: Parties {
-                first: self.accounts.see(names.first),
-                second: self.accounts.see(other),
+                first: self.accounts.see_at(names.first, one),
+                second: self.accounts.see_at(other, two),
                 one: table::same(names.first, other),
             },
             paper,
@@ -119,14 +123,16 @@ impl Book {
             offers: self.offers.count,
         };
         let after = near.turn(c, rows)?;
-        self.accounts.store(
+        self.accounts.store_at(
             names.first,
+            one,
             other,
+            two,
             after.parties.first,
             after.parties.second.row,
         );
-        self.invoices.store(key, after.paper);
-        self.offers.store(names.offer, after.deal);
+        self.invoices.store_at(key, found, after.paper);
+        self.offers.store_at(names.offer, place, after.deal);
         self.totals = after.totals;
         self.settings = after.settings;
         Ok(())

@@ -17,10 +17,12 @@ pub(crate) fn gather(s: &[u8], p: usize, tags: &[u8]) -> Option<[u64; 32]>
     let mut v = [0; 32];
     for (i, tag) in tags.iter().enumerate() {
         let q = p + 11 * i;
-        if !wire::begins(s, q, *tag, 8) {
+        // Of a field's own bytes, no test looks how many there are.
+        let field = &s[q..q + 11];
+        if !wire::begins(field, 0, *tag, 8) {
             return None;
         }
-        let x = wire::number(s, q + 3);
+        let x = wire::number(field, 3);
         if tables::top(*tag) < x {
             return None;
         }

@@ -1,9 +1,10 @@
 // The three tables of the book, each in arrays: rows are seen and stored by their keys.
 #![tactic(auto)]
 
-ghost use Rattle.std.specs.Prelude.{◌≡◌, []};
+ghost use Rattle.std.specs.Prelude.{◌≡◌, [], take};
 ghost use Rattle.table.specs.Tables.{insert, Room};
 ghost use Rattle.table.specs.Named.{find_by, put_by};
+ghost use Rattle.table.specs.Spots.{spot_by};
 ghost use Rattle.account.specs.Seen.{seen_account};
 ghost use Rattle.invoice.specs.Seen.{seen_invoice};
 ghost use Rattle.offer.specs.Seen.{seen_deal};
@@ -17,6 +18,7 @@ use account::{Account, SeenAccount};
 use invoice::{Invoice, SeenInvoice};
 use negotiation::Negotiation;
 use offer::{Deal, Offer, SeenDeal};
+use table::Spot;
 use terms::Schedule;
 
 #[derive(Clone, Copy)]
@@ -56,16 +58,25 @@ impl Accounts {
         requires { AccountShelf self.now }
         ensures { result ≡ seen_account (find_by (accounts_of self.now) key) }
     {
-        let spot = table::spot_by(&self.ids, self.count, key);
+        self.see_at(key, table::spot_by(&self.ids, self.count, key))
+    }
+
+    // The same where the key's spot was looked up.
+    pub fn see_at(&self, key: Option<u64>, spot: Spot) -> SeenAccount
+        requires shelf { AccountShelf self.now }
+        requires found { spot ≡ spot_by (take self.now.count self.now.ids) key }
+        ensures { result ≡ seen_account (find_by (accounts_of self.now) key) }
+    {
         SeenAccount::at(spot.here, self.rows[spot.at])
     }
 
-    // The row put at its key, where there is one.
-    fn put(&mut self, whose: Option<u64>, account: Account)
-        requires { AccountShelf self.old }
-        ensures { self.new ≡ stored_accounts (put_by (accounts_of self.old) whose account) }
+    // The row put at its key's spot, where there is one.
+    fn put(&mut self, whose: Option<u64>, spot: Spot, account: Account)
+        requires shelf { AccountShelf self.old }
+        requires found { spot ≡ spot_by (take self.old.count self.old.ids) whose }
+        ensures stored { self.new ≡ stored_accounts (put_by (accounts_of self.old) whose account) }
+        ensures ids { (self.new.ids ≡ self.old.ids) × (self.new.count ≡ self.old.count) }
     {
-        let spot = table::spot_by(&self.ids, self.count, whose);
         if spot.here {
             self.rows[spot.at] = account;
         }
@@ -77,8 +88,27 @@ impl Accounts {
         ensures { StoresAccounts self.old first second x y self.new }
     {
         let was = table::spot_by(&self.ids, self.count, first);
-        self.put(second, y);
-        self.put(first, x.row);
+        let other = table::spot_by(&self.ids, self.count, second);
+        self.store_at(first, was, second, other, x, y);
+    }
+
+    // The same where the spots of both keys were looked up.
+    pub fn store_at(
+        &mut self,
+        first: Option<u64>,
+        was: Spot,
+        second: Option<u64>,
+        other: Spot,
+        x: SeenAccount,
+        y: Account,
+    )
+        requires shelf { AccountShelf self.old }
+        requires found { was ≡ spot_by (take self.old.count self.old.ids) first }
+        requires second { other ≡ spot_by (take self.old.count self.old.ids) second }
+        ensures { StoresAccounts self.old first second x y self.new }
+    {
+        self.put(second, other, y);
+        self.put(first, was, x.row);
         if !was.here & x.here {
             self.let_in(table::id_of(first), x.row);
         }
@@ -146,16 +176,24 @@ impl Invoices {
         requires { InvoiceShelf self.now }
         ensures { result ≡ seen_invoice (find_by (invoices_of self.now) key) }
     {
-        let spot = table::spot_by(&self.ids, self.count, key);
+        self.see_at(key, table::spot_by(&self.ids, self.count, key))
+    }
+
+    // The same where the key's spot was looked up.
+    pub fn see_at(&self, key: Option<u64>, spot: Spot) -> SeenInvoice
+        requires shelf { InvoiceShelf self.now }
+        requires found { spot ≡ spot_by (take self.now.count self.now.ids) key }
+        ensures { result ≡ seen_invoice (find_by (invoices_of self.now) key) }
+    {
         SeenInvoice::at(spot.here, self.rows[spot.at])
     }
 
-    // The row put at its key, where there is one.
-    fn put(&mut self, key: Option<u64>, paper: Invoice)
-        requires { InvoiceShelf self.old }
+    // The row put at its key's spot, where there is one.
+    fn put(&mut self, key: Option<u64>, found: Spot, paper: Invoice)
+        requires shelf { InvoiceShelf self.old }
+        requires found { found ≡ spot_by (take self.old.count self.old.ids) key }
         ensures { self.new ≡ stored_invoices (put_by (invoices_of self.old) key paper) }
     {
-        let found = table::spot_by(&self.ids, self.count, key);
         if found.here {
             self.rows[found.at] = paper;
         }
@@ -167,9 +205,18 @@ impl Invoices {
         ensures { StoresInvoices self.old key x self.new }
     {
         let was = table::spot_by(&self.ids, self.count, key);
-        self.put(key, x.row);
-        if !was.here & x.here {
-            self.let_in(table::id_of(key), x.row);
+        self.store_at(key, was, x);
+    }
+
+    // The same where the key's spot was looked up.
+    pub fn store_at(&mut self, key: Option<u64>, was: Spot, paper: SeenInvoice)
+        requires shelf { InvoiceShelf self.old }
+        requires found { was ≡ spot_by (take self.old.count self.old.ids) key }
+        ensures { StoresInvoices self.old key paper self.new }
+    {
+        self.put(key, was, paper.row);
+        if !was.here & paper.here {
+            self.let_in(table::id_of(key), paper.row);
         }
     }
 
@@ -247,7 +294,15 @@ impl Offers {
         requires { DealShelf self.now }
         ensures { result ≡ seen_deal (find_by (deals_of self.now) key) }
     {
-        let spot = table::spot_by(&self.ids, self.count, key);
+        self.see_at(key, table::spot_by(&self.ids, self.count, key))
+    }
+
+    // The same where the key's spot was looked up.
+    pub fn see_at(&self, key: Option<u64>, spot: Spot) -> SeenDeal
+        requires deals { DealShelf self.now }
+        requires found { spot ≡ spot_by (take self.now.count self.now.ids) key }
+        ensures { result ≡ seen_deal (find_by (deals_of self.now) key) }
+    {
         let deal = Deal {
             offer: self.rows[spot.at],
             negotiation: self.negotiations[spot.at],
@@ -256,12 +311,12 @@ impl Offers {
         SeenDeal::at(spot.here, deal)
     }
 
-    // The row put at its key, where there is one.
-    fn put(&mut self, key: Option<u64>, deal: Deal)
-        requires { DealShelf self.old }
+    // The row put at its key's spot, where there is one.
+    fn put(&mut self, key: Option<u64>, place: Spot, deal: Deal)
+        requires deals { DealShelf self.old }
+        requires found { place ≡ spot_by (take self.old.count self.old.ids) key }
         ensures { self.new ≡ stored_deals (put_by (deals_of self.old) key deal) }
     {
-        let place = table::spot_by(&self.ids, self.count, key);
         if place.here {
             self.rows[place.at] = deal.offer;
             self.negotiations[place.at] = deal.negotiation;
@@ -275,9 +330,18 @@ impl Offers {
         ensures { StoresDeals self.old key x self.new }
     {
         let was = table::spot_by(&self.ids, self.count, key);
-        self.put(key, x.row);
-        if !was.here & x.here {
-            self.let_in(table::id_of(key), x.row);
+        self.store_at(key, was, x);
+    }
+
+    // The same where the key's spot was looked up.
+    pub fn store_at(&mut self, key: Option<u64>, was: Spot, deal: SeenDeal)
+        requires deals { DealShelf self.old }
+        requires found { was ≡ spot_by (take self.old.count self.old.ids) key }
+        ensures { StoresDeals self.old key deal self.new }
+    {
+        self.put(key, was, deal.row);
+        if !was.here & deal.here {
+            self.let_in(table::id_of(key), deal.row);
         }
     }
 

@@ -9,7 +9,7 @@ pub returns-in_err-after : goal.returns-in_err-after
 returns-in_err-after c =
     let k = keys_by c.names-names.result.first c.key-other.result c.key-key.result c.names-names.result.offer in
     let s = c.requires in
-    let f = fetched c.names-names.ensures c.see-deal.ensures c.key-key.ensures c.see-paper.ensures c.key-other.ensures c.see.ensures c.see-2.ensures c.same.ensures in
+    let f = fetched c.names-names.ensures c.see_at-deal.ensures c.key-key.ensures c.see_at-paper.ensures c.key-other.ensures c.see_at.ensures c.see_at-2.ensures c.same.ensures in
     let t = turns s f (counts_by_lem s) c.turn.ensures in
     let p = err_from_is_err_and c.from_residual.result c.from_residual.ensures.1 in
     let h = sym c.in_err-after.was ∙ t in
@@ -19,9 +19,9 @@ pub returns : goal.returns
 returns c =
     let k = keys_by c.names-names.result.first c.key-other.result c.key-key.result c.names-names.result.offer in
     let s = c.requires in
-    let f = fetched c.names-names.ensures c.see-deal.ensures c.key-key.ensures c.see-paper.ensures c.key-other.ensures c.see.ensures c.see-2.ensures c.same.ensures in
+    let f = fetched c.names-names.ensures c.see_at-deal.ensures c.key-key.ensures c.see_at-paper.ensures c.key-other.ensures c.see_at.ensures c.see_at-2.ensures c.same.ensures in
     let x : Turned c.args.self.now c.args.c k c.in_ok-after.after = record { shelved = s; keys = f.keys; is = sym c.in_ok-after.was ∙ turns s f (counts_by_lem s) c.turn.ensures } in
     record {
       answer = answer_ok x;
-      book = steps x (c.store.ensures _ (accounts_left x refl)) (c.store-2.ensures _ (invoices_left x refl)) (c.store-3.ensures _ (offers_left x refl));
+      book = steps x (c.store_at.ensures _ (accounts_left x refl)) (c.store_at-2.ensures _ (invoices_left x refl)) (c.store_at-3.ensures _ (offers_left x refl));
     }
