@@ -3,6 +3,8 @@ use Rattle.std.specs.Prelude.{ℕ, ◌+◌, ◌≤◌, ◌<◌, ◌≡◌, refl,
 use Rattle.std.proofs.Common.{arith, add-one, sym, ◌∙◌, ltb-true, ltb-false, take-suc, take_all}
 use Rattle.std.proofs.Math.Path.{ap}
 use mathlib.Core.List.{List, [], ◌∷◌, ◌++◌, append-nil}
+use Rattle.refusal.specs.Choice.{pick}
+use Rattle.refusal.specs.ChoiceLaws.{either}
 use Rattle.lists.specs.Taking.{pick_from, spread}
 use Rattle.lists.specs.Pick.{pick_on, pick_off}
 use Rattle.lists.specs.Written.{spread_append}
@@ -26,6 +28,9 @@ module _ {A : Type 0} (f : A → List ℕ) where
 -- as many as there are, or fewer
 pub take_most : {A : Type 0} (l : List A) (i n : ℕ) → length l ≤ i → length l ≤ n → take i l ≡ take n l
 take_most l i n h k = take_all i l h ∙ sym (take_all n l k)
+
+pub told_few : (n : ℕ) → pick (ltb n 10) n 10 ≤ 10
+told_few n = either (λ (k : ℕ). k ≤ 10) (ltb n 10) n 10 (λ e. omega (arith, ltb-true n 10 e)) (λ e. omega arith)
 
 pub take_least : {A : Type 0} (l : List A) (n k : ℕ) → length l ≤ k → take (min n k) l ≡ take n l
 take_least {A} l n k h = go (ltb n k) refl

@@ -39,10 +39,10 @@ length_all (x ∷ ids) (r ∷ rows) (suc n) e h = ap suc (length_all ids rows n 
 
 -- ── How many rows are in use ──────────────────────────────────────
 module _ (t : OfferRows) (a : length t.ids ≡ 64) (b : length t.rows ≡ 64) where
-  use_some : t.count < 64 → InUse t t.count
+  pub use_some : t.count < 64 → InUse t t.count
   use_some h = record { ids_long = a; rows_long = b; counted = sym (length_table t.ids t.rows t.count (omega arith) (omega arith)); few = omega arith; most = omega arith }
 
-  use_all : 64 ≤ t.count → InUse t 64
+  pub use_all : 64 ≤ t.count → InUse t 64
   use_all h = record { ids_long = a; rows_long = b; counted = sym (length_all t.ids t.rows t.count (omega arith) (omega arith) ∙ b); few = omega arith; most = omega arith }
 
   pub use_least : {n : ℕ} → n ≡ min t.count 64 → InUse t n
